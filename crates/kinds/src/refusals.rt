@@ -1,0 +1,43 @@
+// The refusals and their numbers (document 01, "Who can be turned back").
+ghost use mathlib.Core.Path.{_≡_};
+ghost use Rattle.kinds.specs.Refusals.{numberOf};
+
+pub enum Refusal {
+    TextTooLong,
+    Form,
+    Name,
+    DeclaredTwice,
+    Undeclared,
+    TwiceInList,
+    Limit,
+    FilledNot,
+    Output,
+    RuleStore,
+    TooManyAtoms,
+    SetNumber,
+    Budget,
+    NameStore,
+}
+
+impl Refusal {
+    pub fn number(self) -> u64
+        ensures { λ r. ⌜ r ≡ numberOf self ⌝ }
+    {
+        match self {
+            Refusal::TextTooLong => 1,
+            Refusal::Form => 2,
+            Refusal::Name => 3,
+            Refusal::DeclaredTwice => 4,
+            Refusal::Undeclared => 5,
+            Refusal::TwiceInList => 6,
+            Refusal::Limit => 7,
+            Refusal::FilledNot => 8,
+            Refusal::Output => 9,
+            Refusal::RuleStore => 10,
+            Refusal::TooManyAtoms => 11,
+            Refusal::SetNumber => 12,
+            Refusal::Budget => 13,
+            Refusal::NameStore => 14,
+        }
+    }
+}

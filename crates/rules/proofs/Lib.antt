@@ -1,0 +1,7 @@
+-- The laws of the theory.
+pub mod Booleans
+pub mod Lists
+pub mod Sets
+pub mod Rules
+pub mod Stable
+pub mod Preferred

@@ -1,0 +1,6 @@
+-- The theory, once for every crate: sets as numbers, rules, models, the reduct, stable and preferred sets.
+pub mod Lists
+pub mod Sets
+pub mod Rules
+pub mod Stable
+pub mod Preferred

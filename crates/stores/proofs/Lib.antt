@@ -1,0 +1,2 @@
+-- The laws of programs and their stores.
+pub mod ClassWord
