@@ -5,3 +5,4 @@ pub mod Sets
 pub mod Rules
 pub mod Stable
 pub mod Preferred
+pub mod Examples
