@@ -1,10 +1,10 @@
 -- Where good readers go wrong (document 01), on the smallest programs that show it.
 use Prim.Native.Nat.{ℕ}
 use mathlib.Core.Path.{_≡_, refl}
-use mathlib.Core.List.{List, [], _∷_}
+use mathlib.Core.List.{List, [], _∷_, map}
 use mathlib.Core.Bool.{true, false}
 use Rattle.rules.specs.Sets.{has}
-use Rattle.rules.specs.Rules.{rule, reduct}
+use Rattle.rules.specs.Rules.{Rule, rule, reduct}
 use Rattle.rules.specs.Stable.{stable?}
 use Rattle.rules.specs.Preferred.{beats?, preferred?}
 
@@ -39,3 +39,29 @@ dropped = refl
 -- a if not a has no stable set
 none-stable : stable? (rule (0 ∷ []) [] (0 ∷ []) ∷ []) 1 ≡ false
 none-stable = refl
+
+-- document 001, Examples 1 and 2: three inverters, atoms ab1 ab2 ab3 a b c d
+inverters : List (Rule ℕ)
+inverters =
+    rule (3 ∷ 4 ∷ 0 ∷ []) [] []
+    ∷ rule (0 ∷ []) (3 ∷ 4 ∷ []) []
+    ∷ rule (4 ∷ 5 ∷ 1 ∷ []) [] []
+    ∷ rule (1 ∷ []) (4 ∷ 5 ∷ []) []
+    ∷ rule (5 ∷ 6 ∷ 2 ∷ []) [] []
+    ∷ rule (2 ∷ []) (5 ∷ 6 ∷ []) []
+    ∷ rule [] (3 ∷ []) []
+    ∷ rule [] (6 ∷ []) []
+    ∷ []
+
+-- {ab1, c}, {ab2, b, c} and {ab3, b}, and not {ab1, ab2, ab3}, though that is a minimal model
+diagnoses : map (preferred? (1 ∷ 1 ∷ 1 ∷ 17 ∷ 17 ∷ 17 ∷ 17 ∷ []) inverters) (33 ∷ 50 ∷ 20 ∷ 7 ∷ []) ≡ true ∷ true ∷ true ∷ false ∷ []
+unfolding inverters
+diagnoses = refl
+
+by-rank : map (preferred? (1 ∷ 2 ∷ 3 ∷ 17 ∷ 17 ∷ 17 ∷ 17 ∷ []) inverters) (33 ∷ 50 ∷ 20 ∷ 7 ∷ []) ≡ false ∷ false ∷ true ∷ false ∷ []
+unfolding inverters
+by-rank = refl
+
+spurious : stable? inverters 7 ≡ true
+unfolding inverters
+spurious = refl

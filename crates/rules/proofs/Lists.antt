@@ -1,13 +1,13 @@
 -- How All, Any, the tests and Distinct go through the lists made from lists.
 use Prim.Native.Nat.{ℕ, zero, suc, _+_, _≤_, _<_}
-use mathlib.Core.Path.{_≡_, refl, sym, ap, subst}
-use mathlib.Core.Logic.{_⊎_, inl, inr, _↔_, _≢_}
+use mathlib.Core.Path.{_≡_, sym, subst}
+use mathlib.Core.Logic.{_⊎_, inl, inr, _↔_}
 use mathlib.Core.List.{List, [], _∷_, _++_, map}
-use mathlib.Core.Bool.{Bool, true, false, not, _&&_, _||_}
+use mathlib.Core.Bool.{Bool, true, false}
 use native.Mathlib.Omega.{arith}
 use native.Mathlib.Decide.{ℕ-discrete}
 use lib.Dec.{T}
-use Rattle.rules.specs.Lists.{All, Any, Distinct, every, some, keep, filter, flat, from}
+use Rattle.rules.specs.Lists.{All, Any, every, some, keep, filter, flat, from}
 use Rattle.rules.proofs.Booleans.{decide, T-and, T-and-l, T-and-r, T-or, T-or-out}
 
 module _ {A : Type 0} (P : A → Type 0) where

@@ -1,19 +1,19 @@
 -- The tests of better and preferred sets are their definitions; what a reader expects of preferred sets.
 use Prim.Native.Nat.{ℕ, zero, suc, _+_, _^_, _≤_, _<_}
 use mathlib.Core.Path.{_≡_, sym, subst, _∙_}
-use mathlib.Core.List.{List, [], _∷_}
+use mathlib.Core.List.{List}
 use mathlib.Core.Bool.{Bool, true, false, not, _&&_, _||_}
-use mathlib.Core.Logic.{_⊎_, inl, inr, _↔_, _≢_}
+use mathlib.Core.Logic.{_⊎_, inl, inr, _↔_}
 use native.Mathlib.Omega.{arith}
 use native.Mathlib.Decide.{ℕ-discrete}
 use lib.Dec.{T, eqb, eqb→eq}
 use lib.ListN.{length, getD}
 use Rattle.kinds.specs.Limits.{classLimit}
-use Rattle.rules.specs.Lists.{All, Any, every, filter, from}
-use Rattle.rules.specs.Sets.{has, In, Out, Subset, ProperSubset, Agree}
+use Rattle.rules.specs.Lists.{All, Any, every, from}
+use Rattle.rules.specs.Sets.{has, In, Out, ProperSubset, Agree}
 use Rattle.rules.specs.Rules.{Rule, Model, model?}
 use Rattle.rules.specs.Preferred.{fixed, OfClass, Beats, Preferred, ofClass, same?, agree?, within?, spares?, beats?, preferred?}
-use Rattle.rules.proofs.Booleans.{decide, stable, bool-ext, eq→eqb, T-and, T-and-l, T-and-r, T-or, T-or-out, T-not-in, T-not-out, T-imp, T-imp-out}
+use Rattle.rules.proofs.Booleans.{stable, bool-ext, eq→eqb, T-and, T-and-l, T-and-r, T-or, T-or-out, T-not-in, T-not-out, T-imp, T-imp-out}
 use Rattle.rules.proofs.Lists.{every-all, every-from, all-from, from-all, all-filter, filter-all, any-from, from-any, any-filter, filter-any, any-or-none}
 use Rattle.rules.proofs.Sets.{has-below, same-set}
 use Rattle.rules.proofs.Rules.{model-law}

@@ -1,16 +1,16 @@
 -- The tests of rules and models are their definitions; the first broken rule; what the reduct asks.
-use Prim.Native.Nat.{ℕ, zero, suc, _+_, _≤_, _<_}
+use Prim.Native.Nat.{ℕ, zero, suc, _≤_, _<_}
 use mathlib.Core.Path.{_≡_, refl, ap}
 use mathlib.Core.List.{List, [], _∷_}
 use mathlib.Core.Bool.{Bool, true, false, not, _&&_, _||_}
-use mathlib.Core.Logic.{_⊎_, inl, inr, _↔_}
+use mathlib.Core.Logic.{_↔_}
 use native.Mathlib.Omega.{arith}
 use lib.Dec.{T}
-use lib.ListN.{length, getD, take}
-use Rattle.rules.specs.Lists.{All, Any, every, some, keep}
+use lib.ListN.{length}
+use Rattle.rules.specs.Lists.{All, Any, every, some}
 use Rattle.rules.specs.Sets.{In, Out}
 use Rattle.rules.specs.Rules.{Rule, rule, Holds, Model, FirstBroken, reduct, holds?, model?, countIf, firstBroken}
-use Rattle.rules.proofs.Booleans.{decide, T-and, T-and-l, T-and-r, T-not-in, T-not-out, T-imp, T-imp-out}
+use Rattle.rules.proofs.Booleans.{T-and, T-and-l, T-and-r, T-imp, T-imp-out}
 use Rattle.rules.proofs.Lists.{every-all, some-any, all-imp, all-keep, keep-all-head, keep-all-tail}
 
 module _ {A : Type 0} where

@@ -10,7 +10,7 @@ use mathlib.Core.Logic.{_⊎_, inl, inr}
 use lib.Dec.{T, eqb, eqb→eq}
 use lib.Pow.{shr-shr, field, mod-mod-pow, pow-mono}
 use lib.ListN.{length}
-use Rattle.rules.specs.Sets.{has, cut}
+use Rattle.rules.specs.Sets.{has}
 use Rattle.rules.proofs.Booleans.{decide, T-of, eq→eqb}
 
 -- the tests of two digits are equal only if the digits are

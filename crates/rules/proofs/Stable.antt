@@ -1,12 +1,11 @@
 -- The test of stable sets is its definition; a stable set is a model.
-use Prim.Native.Nat.{ℕ, zero, suc, _+_, _^_, _≤_, _<_}
-use mathlib.Core.Path.{_≡_, refl, sym, ap}
-use mathlib.Core.List.{List, [], _∷_}
-use mathlib.Core.Bool.{Bool, true, false, not, _&&_, _||_}
-use mathlib.Core.Logic.{_⊎_, inl, inr, _↔_, _≢_}
+use Prim.Native.Nat.{ℕ, _+_, _≤_, _<_}
+use mathlib.Core.List.{List}
+use mathlib.Core.Bool.{Bool, not, _&&_, _||_}
+use mathlib.Core.Logic.{_↔_}
 use native.Mathlib.Omega.{arith}
 use lib.Dec.{T}
-use Rattle.rules.specs.Lists.{All, every, from}
+use Rattle.rules.specs.Lists.{every, from}
 use Rattle.rules.specs.Sets.{has, In, Subset, ProperSubset}
 use Rattle.rules.specs.Rules.{Rule, Model, reduct, model?}
 use Rattle.rules.specs.Stable.{Stable, subset?, stable?}

@@ -1,5 +1,5 @@
 -- Rules, models and the reduct (document 01, "Verdicts"; document 000, Definition 1). Atoms may be of any type.
-use Prim.Native.Nat.{ℕ, zero, suc, _+_, _<_}
+use Prim.Native.Nat.{ℕ, suc, _+_, _<_}
 use mathlib.Core.List.{List, [], _∷_}
 use mathlib.Core.Bool.{Bool, true, false, not, _&&_, _||_}
 use lib.ListN.{length, getD, take}

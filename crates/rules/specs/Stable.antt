@@ -2,7 +2,6 @@
 use Prim.Native.Nat.{ℕ}
 use mathlib.Core.List.{List}
 use mathlib.Core.Bool.{Bool, not, _&&_, _||_}
-use lib.Dec.{eqb}
 use Rattle.rules.specs.Lists.{every, from}
 use Rattle.rules.specs.Sets.{has, ProperSubset}
 use Rattle.rules.specs.Rules.{Rule, Model, reduct, model?}

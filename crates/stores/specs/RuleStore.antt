@@ -8,8 +8,8 @@ use lib.ListN.{length, getD, take, drop}
 use Rattle.kinds.specs.Limits.{atomLimit, ruleLimit, occurrenceLimit, classLimit}
 use Rattle.kinds.specs.declared.limits.Kind.{Kind}
 use Rattle.kinds.specs.declared.limits.Kind.the-variants.{Plain, Preference}
-use Rattle.rules.specs.Lists.{every, some, flat}
-use Rattle.rules.specs.Rules.{Rule, rule, occurrences}
+use Rattle.rules.specs.Lists.{some, flat}
+use Rattle.rules.specs.Rules.{Rule, rule}
 use Rattle.stores.specs.Program.{Program, Form, roleOf}
 use Rattle.stores.specs.declared.roles.Role.{Role}
 use Rattle.stores.specs.declared.roles.Role.the-variants.{Minimised, Varying, Fixed, Unknown}

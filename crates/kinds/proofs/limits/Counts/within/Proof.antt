@@ -1,9 +1,8 @@
-use mathlib.Core.Path.{_≡_}
 use Prim.Native.Nat.{_<_, _≤_}
 use native.Mathlib.Omega.{arith}
 use borrow.Author.Needs.{needs}
 use borrow.Author.Tests.{le-leb, lt-leb}
-use Rattle.kinds.specs.Limits.{atomLimit, ruleLimit, occurrenceLimit}
+use Rattle.kinds.specs.Limits.{atomLimit, ruleLimit}
 use Rattle.kinds.proofs.limits.Counts.within.Statement.{statement}
 use Rattle.kinds.proofs.limits.Counts.within.Tie as tie
 
