@@ -1,0 +1,2 @@
+// Text to stores, of both kinds (document 01, "The two kinds of file" and "Who can be turned back").
+pub mod answers;

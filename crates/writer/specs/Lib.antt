@@ -1,0 +1,4 @@
+-- The text of a program, and what the writer answers.
+pub mod Words
+pub mod Text
+pub mod Answers
