@@ -1,0 +1,8 @@
+-- The laws of the translation.
+pub mod Quantified
+pub mod ListLaws
+pub mod Fit
+pub mod Asked
+pub mod Numbering
+pub mod Numbered
+pub mod Renamed
