@@ -6,3 +6,6 @@ pub mod Asked
 pub mod Numbering
 pub mod Numbered
 pub mod Renamed
+pub mod FullSet
+pub mod StablePreferred
+pub mod PreferredStable
