@@ -1,0 +1,142 @@
+-- General laws of lists: following numbers, chosen entries, entries that differ.
+use Prim.Native.Nat.{ℕ, zero, suc, _+_, _≤_, _<_}
+use native.Mathlib.Omega.{arith}
+use mathlib.Core.Path.{_≡_, refl, sym, ap, ap₂, _∙_}
+use mathlib.Core.List.{List, [], _∷_, _++_, map, map-append, append-assoc, head-eq-of-cons-eq, tail-eq-of-cons-eq}
+use mathlib.Core.Bool.{Bool, true, false}
+use mathlib.Core.Logic.{_≢_}
+use lib.Dec.{T}
+use lib.ListN.{length, getD, take, length-append}
+use lib.Seq.{getD-append-seam}
+use Rattle.rules.specs.Lists.{All, Distinct, keep, filter, flat, from}
+use Rattle.rules.proofs.Booleans.{T-of}
+use Rattle.rules.proofs.Lists.{all-imp, all-both, all-app, all-filter, all-map, all-from}
+
+-- following numbers
+
+pub length-from : (s c : ℕ) → length (from s c) ≡ c
+length-from s zero = refl
+length-from s (suc c) = ap suc (length-from (suc s) c)
+
+pub from-append : (s c d : ℕ) → from s c ++ from (s + c) d ≡ from s (c + d)
+from-append s zero d = let e : s + 0 ≡ s = omega arith in let f : d ≡ 0 + d = omega arith in ap₂ from e f
+from-append s (suc c) d =
+    let e : s + suc c ≡ suc s + c = omega arith in
+    let f : suc (c + d) ≡ suc c + d = omega arith in
+    ap (λ (l : List ℕ). s ∷ l) (ap (λ (b : ℕ). from (suc s) c ++ from b d) e ∙ from-append (suc s) c d) ∙ ap (from s) f
+
+pub shifted : (b s c : ℕ) → map (λ (a : ℕ). b + a) (from s c) ≡ from (b + s) c
+shifted b s zero = refl
+shifted b s (suc c) = let e : b + suc s ≡ suc (b + s) = omega arith in ap (λ (l : List ℕ). (b + s) ∷ l) (shifted b (suc s) c ∙ ap (λ (x : ℕ). from x c) e)
+
+-- the entries at following places
+pub entries : {A : Type 0} (d : A) (l : List A) (pre : List A) (c : ℕ) → c ≤ length l → map (λ (a : ℕ). getD (pre ++ l) a d) (from (length pre) c) ≡ take c l
+entries d [] pre zero h = refl
+entries d [] pre (suc c) h = absurd (omega arith)
+entries d (x ∷ l) pre zero h = refl
+entries {A} d (x ∷ l) pre (suc c) h = ap₂ (λ (y : A) (r : List A). y ∷ r) (getD-append-seam pre x l d) (next ∙ entries d l (pre ++ (x ∷ [])) c (omega arith))
+  where
+    longer : suc (length pre) ≡ length (pre ++ (x ∷ []))
+    longer = omega (arith, length-append pre (x ∷ []))
+
+    next : map (λ (a : ℕ). getD (pre ++ (x ∷ l)) a d) (from (suc (length pre)) c) ≡ map (λ (a : ℕ). getD ((pre ++ (x ∷ [])) ++ l) a d) (from (length (pre ++ (x ∷ []))) c)
+    next = ap₂ (λ (r : List A) (s : ℕ). map (λ (a : ℕ). getD r a d) (from s c)) (sym (append-assoc pre (x ∷ []) l)) longer
+
+-- a list numbered along is found again by its numbers
+pub found : {A : Type 0} (num : A → ℕ) (d : A) (pre l : List A) → map num l ≡ from (length pre) (length l) → All (λ c. getD (pre ++ l) (num c) d ≡ c) l
+found num d pre [] e = tt
+found {A} num d pre (c ∷ l) e = (
+  ap (λ (i : ℕ). getD (pre ++ (c ∷ l)) i d) (head-eq-of-cons-eq e) ∙ getD-append-seam pre c l d,
+  rw (← append-assoc pre (c ∷ []) l) (found num d (pre ++ (c ∷ [])) l (tail-eq-of-cons-eq e ∙ ap (λ (i : ℕ). from i (length l)) longer)),
+)
+  where
+    longer : suc (length pre) ≡ length (pre ++ (c ∷ []))
+    longer = omega (arith, length-append pre (c ∷ []))
+
+-- maps
+
+pub map-flat : {A B C : Type 0} (f : B → C) (g : A → List B) (l : List A) → map f (flat g l) ≡ flat (λ a. map f (g a)) l
+map-flat f g [] = refl
+map-flat {C} f g (x ∷ l) = map-append f (g x) (flat g l) ∙ ap (λ (r : List C). map f (g x) ++ r) (map-flat f g l)
+
+pub map-eq : {A B : Type 0} (f g : A → B) → ((a : A) → f a ≡ g a) → (l : List A) → map f l ≡ map g l
+map-eq f g h [] = refl
+map-eq {B} f g h (x ∷ l) = ap₂ (λ (y : B) (r : List B). y ∷ r) (h x) (map-eq f g h l)
+
+pub all-each : {A : Type 0} (P : A → Type 0) → ((a : A) → P a) → (l : List A) → All P l
+all-each P f [] = tt
+all-each P f (x ∷ l) = (f x, all-each P f l)
+
+-- chosen entries
+
+filter-none : (t : ℕ → Bool) (l : List ℕ) → All (λ a. T (t a) → ⊥) l → filter t l ≡ []
+filter-none t [] h = refl
+filter-none t (a ∷ l) h = step (t a) (h .0) (filter-none t l (h .1))
+  where
+    step : (b : Bool) → (T b → ⊥) → filter t l ≡ [] → keep b a (filter t l) ≡ []
+    step true n e = absurd (n tt)
+    step false n e = e
+
+-- a test that holds below wherever it holds chooses a first part
+pub filter-first : (t : ℕ → Bool) (s c : ℕ) → ((a b : ℕ) → s ≤ a → a < b → b < s + c → T (t b) → T (t a)) → filter t (from s c) ≡ from s (length (filter t (from s c)))
+filter-first t s zero h = refl
+filter-first t s (suc c) h = step (t s) refl (filter-first t (suc s) c (λ a b l m u. h a b (omega arith) m (omega arith)))
+  where
+    rest : List ℕ
+    rest = filter t (from (suc s) c)
+
+    step : (b : Bool) → t s ≡ b → rest ≡ from (suc s) (length rest) → keep b s rest ≡ from s (length (keep b s rest))
+    step true e ih = ap (λ (l : List ℕ). s ∷ l) ih
+    step false e ih = none ∙ ap (λ (l : List ℕ). from s (length l)) (sym none)
+      where
+        none : rest ≡ []
+        none = filter-none t (from (suc s) c) (all-from (λ a. T (t a) → ⊥) (suc s) c (λ a l u k. T-of e (h s a (omega arith) l (omega arith) k)))
+
+-- entries that differ
+
+module _ {A : Type 0} where
+  pub distinct-app : (xs ys : List A) → Distinct xs → Distinct ys → All (λ x. All (λ y. x ≢ y) ys) xs → Distinct (xs ++ ys)
+  distinct-app [] ys h k a = k
+  distinct-app (x ∷ xs) ys h k a = (all-app (λ y. x ≢ y) xs ys (h .0) (a .0), distinct-app xs ys (h .1) k (a .1))
+
+  pub distinct-filter : (t : A → Bool) (l : List A) → Distinct l → Distinct (filter t l)
+  distinct-filter t [] h = tt
+  distinct-filter t (x ∷ l) h = step (t x) (distinct-filter t l (h .1))
+    where
+      step : (b : Bool) → Distinct (filter t l) → Distinct (keep b x (filter t l))
+      step true rest = (all-filter (λ y. x ≢ y) t l (all-imp (λ y. x ≢ y) (λ y. T (t y) → x ≢ y) (λ y q u. q) l (h .0)), rest)
+      step false rest = rest
+
+  pub all-take : (P : A → Type 0) (n : ℕ) (l : List A) → All P l → All P (take n l)
+  all-take P zero l h = tt
+  all-take P (suc n) [] h = tt
+  all-take P (suc n) (x ∷ l) h = (h .0, all-take P n l (h .1))
+
+  pub distinct-take : (n : ℕ) (l : List A) → Distinct l → Distinct (take n l)
+  distinct-take zero l h = tt
+  distinct-take (suc n) [] h = tt
+  distinct-take (suc n) (x ∷ l) h = (all-take (λ y. x ≢ y) n l (h .0), distinct-take n l (h .1))
+
+pub distinct-from : (s c : ℕ) → Distinct (from s c)
+distinct-from s zero = tt
+distinct-from s (suc c) = (all-from (λ y. s ≢ y) (suc s) c (λ a l u. omega arith), distinct-from (suc s) c)
+
+module _ {A B : Type 0} (f : A → B) where
+  -- f tells the entries of l apart
+  pub distinct-map : (P : A → Type 0) → ((a b : A) → P a → P b → f a ≡ f b → a ≡ b) → (l : List A) → All P l → Distinct l → Distinct (map f l)
+  distinct-map P i [] q h = tt
+  distinct-map P i (x ∷ l) q h = (
+    all-map (λ y. f x ≢ y) f l (all-imp (λ b. P b × (x ≢ b)) (λ b. f x ≢ f b) (λ b k e. k .1 (i x b (q .0) (k .0) e)) l (all-both P (λ b. x ≢ b) l (q .1) (h .0))),
+    distinct-map P i l (q .1) (h .1),
+  )
+
+  pub distinct-inj : ((a b : A) → f a ≡ f b → a ≡ b) → (l : List A) → Distinct l → Distinct (map f l)
+  distinct-inj i l h = distinct-map (λ a. Unit {0}) (λ a b p q. i a b) l (all-each (λ a. Unit {0}) (λ a. tt) l) h
+
+  -- y is f of nothing
+  abbrev pub NoImage : B → Type 0
+  NoImage y = (a : A) → f a ≢ y
+
+  pub distinct-map-app : ((a b : A) → f a ≡ f b → a ≡ b) → (l : List A) (ys : List B) → Distinct l → Distinct ys → All NoImage ys → Distinct (map f l ++ ys)
+  distinct-map-app i l ys h k apart = distinct-app (map f l) ys (distinct-inj i l h) k
+      (all-map (λ x. All (λ y. x ≢ y) ys) f l (all-each (λ a. All (λ y. f a ≢ y) ys) (λ a. all-imp NoImage (λ y. f a ≢ y) (λ y q. q a) ys apart) l))

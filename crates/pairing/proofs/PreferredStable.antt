@@ -1,0 +1,208 @@
+-- The full set over a preferred set is stable.
+use Prim.Native.Nat.{ℕ, zero, suc, _+_, _-_, _^_, _≤_, _<_}
+use native.Mathlib.Omega.{arith}
+use native.Mathlib.Decide.{ℕ-discrete}
+use mathlib.Core.Path.{_≡_, refl, sym, ap, subst, _∙_}
+use mathlib.Core.List.{List, [], map, map-id}
+use mathlib.Core.Bool.{Bool, true, false, not, _&&_, cond}
+use mathlib.Core.Logic.{_⊎_, inl, inr}
+use lib.Dec.{T, eqb→eq}
+use lib.ListN.{length}
+use Rattle.rules.specs.Lists.{All, Any, from}
+use Rattle.rules.specs.Sets.{has, In, Out}
+use Rattle.rules.specs.Rules.{Rule, Holds, Model}
+use Rattle.rules.specs.Preferred.{fixed, OfClass, Beats, Preferred}
+use Rattle.rules.proofs.Booleans.{decide, stable, T-of, T-and, T-and-l, T-and-r, T-not-in, eq→eqb}
+use Rattle.rules.proofs.Lists.{all-imp, all-both, all-any, any-imp, any-with, any-or-none, from-all}
+use Rattle.stores.specs.Program.{Program}
+use Rattle.pairing.specs.Atoms.{Atom, original, N, S, D, E, U, originals, classWord, fixed?, unfixed?, declared}
+use Rattle.pairing.specs.Steps.{translation}
+use Rattle.pairing.proofs.ListLaws.{length-from, all-each}
+use Rattle.pairing.proofs.Fit.{Fit, Inside}
+use Rattle.pairing.proofs.Asked.{Kept, Copied, Steps, to-steps, of-steps}
+use Rattle.pairing.proofs.Numbering.{Declared, to-declared, of-declared}
+use Rattle.pairing.proofs.Numbered.{setOf, set-lt, set-has}
+use Rattle.pairing.proofs.Renamed.{StableOver}
+use Rattle.pairing.proofs.FullSet.{Full}
+
+-- the set of a test on the numbers below n
+module _ (n : ℕ) (w : ℕ → Bool) where
+  order : map (λ (a : ℕ). a) (from 0 n) ≡ from 0 (length (from 0 n))
+  order = map-id (from 0 n) ∙ ap (from 0) (sym (length-from 0 n))
+
+  setBelow : ℕ
+  setBelow = setOf (λ (a : ℕ). a) 0 (from 0 n) order w
+
+  set-below : setBelow < 2 ^ n
+  unfolding setBelow
+  set-below = subst (λ (c : ℕ). setOf (λ (a : ℕ). a) 0 (from 0 n) order w < 2 ^ c) (length-from 0 n) (set-lt (λ (a : ℕ). a) 0 (from 0 n) order w)
+
+  set-below-has : (a : ℕ) → a < n → has setBelow a ≡ w a
+  unfolding setBelow
+  set-below-has a l = from-all (λ a. has (setOf (λ (a : ℕ). a) 0 (from 0 n) order w) a ≡ w a) 0 n (set-has (λ (a : ℕ). a) 0 (from 0 n) order w) a (omega arith) (omega arith)
+
+cond-yes : (b u v : Bool) → T b → cond b u v ≡ u
+cond-yes true u v h = refl
+cond-yes false u v h = absurd h
+
+cond-no : (b u v : Bool) → T (not b) → cond b u v ≡ v
+cond-no true u v h = absurd h
+cond-no false u v h = refl
+
+module _ (p : Program) (fit : Fit p) (m : ℕ) (preferred : Preferred (p .words) (p .rules) m) (t : Atom → Bool) (full : Full p (has m) t) where
+  kept : (r : Rule ℕ) → Holds (has m) r × Inside (p .atoms) r → Kept p t t r
+  kept r h o b = none (all-any (λ a. (a < p .atoms) × Out t (original a)) (In (has m)) (r .head) (all-both (λ a. a < p .atoms) (λ a. Out t (original a)) (r .head) (h .1 .head) o)
+      (h .0
+      (all-imp (λ a. (a < p .atoms) × Out t (N a)) (In (has m)) (λ a q. stable (has m a) (λ e. q .1 (full .Ns a (q .0) .1 e))) (r .body) (all-both (λ a. a < p .atoms) (λ a. Out t (N a)) (r .body) (h .1 .body) b))
+      (subst (All (Out (has m))) (sym (h .1 .nots)) tt)))
+    where
+      none : (a : ℕ) × ((a < p .atoms) × Out t (original a)) × In (has m) a → ⊥
+      none q = q .1 .1 (full .originals (q .0) (q .1 .0) .1 (q .2))
+
+  full-steps : Steps p t t
+  full-steps = record {
+    s1 = λ a l. (
+      λ o. full .originals a l .1 (stable (has m a) (λ e. o (full .Ns a l .1 e))),
+      λ o. full .Ns a l .1 (λ e. o (full .originals a l .1 e)),
+    );
+    s2 = all-imp (λ r. Holds (has m) r × Inside (p .atoms) r) (Kept p t t) kept (p .rules) (all-both (Holds (has m)) (Inside (p .atoms)) (p .rules) (preferred .model) (fit .rules));
+    s3 = all-each (Copied p t t) (λ r o u e. inr (full .Us)) (p .rules);
+    s4 = inr (full .Us);
+    s5 = λ i l u e. inr (inr (full .Us));
+    s6 = λ a l c. (λ o d. full .Us, (λ d h. full .Us, (λ o e h. full .Us, λ o e. inr (full .Us))));
+    s7 = λ a l k u. full .Ss a l k;
+    s8 = λ a l c u. full .Ds a l c;
+    s9 = λ j l u. full .Es j l;
+    s10 = (λ e. full .Us, λ o. o (full .Us));
+  }
+
+  module _ (x : Atom → Bool) (strict : Declared p (λ c. In t c → In x c) → ⊥) (steps : Steps p t x) where
+    original-in : (a : ℕ) → a < p .atoms → In (has m) a → In x (original a)
+    original-in a l h = steps .s1 a l .0 (λ k. full .Ns a l .0 k h)
+
+    no-U : In x U → ⊥
+    no-U u = strict (record {
+      originals = λ a l h. original-in a l (full .originals a l .0 h);
+      Ns = λ a l h. steps .s1 a l .1 (λ k. full .Ns a l .0 h (full .originals a l .0 k));
+      Ss = λ a l k h. steps .s7 a l k u;
+      Ds = λ a l c h. steps .s8 a l c u;
+      Es = λ j l h. steps .s9 j l u;
+      Us = λ h. u;
+    })
+
+    without-U : {A : Type 0} → A ⊎ In x U → A
+    without-U (inl h) = h
+    without-U (inr u) = absurd (no-U u)
+
+    -- the set that would beat m: m's fixed atoms, and the atoms whose copies are in x
+    w : ℕ → Bool
+    w a = cond (fixed? p a) (has m a) (x (S a))
+
+    s : ℕ
+    s = setBelow (p .atoms) w
+
+    on-fixed : (a : ℕ) → a < p .atoms → T (fixed? p a) → has s a ≡ has m a
+    unfolding s w
+    on-fixed a l e = set-below-has (p .atoms) w a l ∙ cond-yes (fixed? p a) (has m a) (x (S a)) e
+
+    on-unfixed : (a : ℕ) → a < p .atoms → T (unfixed? p a) → has s a ≡ x (S a)
+    unfolding s w
+    on-unfixed a l e = set-below-has (p .atoms) w a l ∙ cond-no (fixed? p a) (has m a) (x (S a)) e
+
+    s-holds : (r : Rule ℕ) → Copied p t x r × Inside (p .atoms) r → Holds (has s) r
+    s-holds r h b n = step (any-or-none (λ a. fixed? p a && has m a) (r .head))
+      where
+        inside : All (λ a. (a < p .atoms) × In (has s) a) (r .body)
+        inside = all-both (λ a. a < p .atoms) (In (has s)) (r .body) (h .1 .body) b
+
+        copies : All (λ a. T (unfixed? p a) → In x (S a)) (r .body)
+        copies = all-imp (λ a. (a < p .atoms) × In (has s) a) (λ a. T (unfixed? p a) → In x (S a)) (λ a q e. T-of (on-unfixed a (q .0) e) (q .1)) (r .body) inside
+
+        themselves : All (λ a. T (fixed? p a) → In x (original a)) (r .body)
+        themselves = all-imp (λ a. (a < p .atoms) × In (has s) a) (λ a. T (fixed? p a) → In x (original a)) (λ a q e. original-in a (q .0) (T-of (on-fixed a (q .0) e) (q .1))) (r .body) inside
+
+        headed : (P : ℕ → Type 0) → ((a : ℕ) → (a < p .atoms) × P a → In (has s) a) → Any P (r .head) → Any (In (has s)) (r .head)
+        headed P f k = any-imp (λ a. (a < p .atoms) × P a) (In (has s)) f (r .head) (any-with P (λ a. a < p .atoms) (r .head) (h .1 .head) k)
+
+        step : Any (λ a. T (fixed? p a && has m a)) (r .head) ⊎ All (λ a. T (fixed? p a && has m a) → ⊥) (r .head) → Any (In (has s)) (r .head)
+        step (inl k) = headed (λ a. T (fixed? p a && has m a)) (λ a q. T-of (sym (on-fixed a (q .0) (T-and-l (fixed? p a) (has m a) (q .1)))) (T-and-r (fixed? p a) (has m a) (q .1))) k
+        step (inr k) = headed (λ a. T (unfixed? p a) × In x (S a)) (λ a q. T-of (sym (on-unfixed a (q .0) (q .1 .0))) (q .1 .1))
+            (without-U (h .0
+            (all-imp (λ a. (a < p .atoms) × (T (fixed? p a && has m a) → ⊥)) (λ a. T (fixed? p a) → Out t (original a)) (λ a q e o. q .1 (T-and (fixed? p a) (has m a) e (full .originals a (q .0) .0 o))) (r .head) (all-both (λ a. a < p .atoms) (λ a. T (fixed? p a && has m a) → ⊥) (r .head) (h .1 .head) k))
+            copies themselves))
+
+    s-model : Model (p .rules) (has s)
+    s-model = all-imp (λ r. Copied p t x r × Inside (p .atoms) r) (Holds (has s)) s-holds (p .rules) (all-both (Copied p t x) (Inside (p .atoms)) (p .rules) (steps .s3) (fit .rules))
+
+    -- a minimised atom is not fixed
+    unfixed-of : (a : ℕ) → classWord p a ≤ 16 → T (unfixed? p a)
+    unfixed-of a c = T-not-in (fixed? p a) (λ e. let k : classWord p a ≡ 18 = eqb→eq (classWord p a) 18 e in omega arith)
+
+    -- x has E.0 to E.j, and D. of an atom of class j + 1: s beats m
+    module _ (j : ℕ) (ends : (i : ℕ) → i ≤ j → In x (E i)) (high : suc j ≤ p .classes) where
+      inside-of : (a i : ℕ) → OfClass (p .words) i a → a < p .atoms
+      inside-of a i c = let l = c .0 in let e = fit .count in omega arith
+
+      m-of : (a i : ℕ) → OfClass (p .words) i a → i ≤ suc j → In (has s) a → In (has m) a
+      m-of a i c l h =
+          let n = inside-of a i c in
+          let e : classWord p a ≡ i = c .1 in
+          let k : classWord p a ≤ 16 = omega (arith, fit .classes) in
+          stable (has m a) (λ o. no-U (steps .s6 a n k .1 .1 .0 (λ d. o (full .originals a n .0 d)) (ends (classWord p a - 1) (omega arith)) (T-of (on-unfixed a n (unfixed-of a k)) h)))
+
+      of-m : (a i : ℕ) → OfClass (p .words) i a → i ≤ j → In (has m) a → In (has s) a
+      of-m a i c l h =
+          let n = inside-of a i c in
+          let e : classWord p a ≡ i = c .1 in
+          let k : classWord p a ≤ 16 = omega (arith, fit .classes) in
+          T-of (sym (on-unfixed a n (unfixed-of a k))) (without-U (steps .s6 a n k .1 .1 .1 (λ d. full .Ns a n .0 d h) (ends (classWord p a) (omega arith))))
+
+      beaten : (a : ℕ) × OfClass (p .words) (suc j) a × In x (D a) → Beats (p .words) (p .rules) s m
+      beaten q =
+          let n = inside-of (q .0) (suc j) (q .1) in
+          let e : classWord p (q .0) ≡ suc j = q .1 .1 in
+          let k : classWord p (q .0) ≤ 16 = omega (arith, fit .classes) in
+          record {
+            model = s-model;
+            agrees = λ a c. let f = on-fixed a (inside-of a fixed c) (eq→eqb (classWord p a) fixed (c .1)) in (T-of f, T-of (sym f));
+            class = suc j;
+            is-class = (omega arith, omega (arith, fit .classes));
+            earlier = λ i l u a c. (m-of a i c (omega arith), of-m a i c (omega arith));
+            subset = λ a c. m-of a (suc j) c (omega arith);
+            proper = (
+              q .0,
+              q .1,
+              stable (has m (q .0)) (λ o. no-U (steps .s6 (q .0) n k .0 (λ d. o (full .originals (q .0) n .0 d)) (q .2))),
+              λ h. no-U (steps .s6 (q .0) n k .1 .0 (q .2) (T-of (on-unfixed (q .0) n (unfixed-of (q .0) k)) h)),
+            );
+          }
+
+    s-lt : s < 2 ^ length (p .words)
+    unfolding s
+    s-lt = subst (λ (c : ℕ). setBelow (p .atoms) w < 2 ^ c) (sym (fit .count)) (set-below (p .atoms) w)
+
+    -- the first class without its E., or U after the last
+    walk : (c j : ℕ) → j + c ≡ p .classes → ((i : ℕ) → i ≤ j → In x (E i)) → ⊥
+    walk zero j e h = no-U (steps .s10 .0 (h (p .classes) (omega arith)))
+    walk (suc c) j e h = step (λ h′. walk c (suc j) (omega arith) h′) (steps .s5 (suc j) (omega arith) high (h (suc j - 1) (omega arith)))
+      where
+        high : suc j ≤ p .classes
+        high = omega arith
+
+        more : In x (E (suc j)) → (i : ℕ) → Dec (suc j ≡ i) → i ≤ suc j → In x (E i)
+        more k i (yes e′) l = subst (λ (q : ℕ). In x (E q)) e′ k
+        more k i (no e′) l = h i (omega arith)
+
+        step : (((i : ℕ) → i ≤ suc j → In x (E i)) → ⊥) → ((a : ℕ) × OfClass (p .words) (suc j) a × In x (D a)) ⊎ (In x (E (suc j)) ⊎ In x U) → ⊥
+        step next (inl q) = preferred .unbeaten s s-lt (beaten j h high q)
+        step next (inr (inl k)) = next (λ i. more k i (ℕ-discrete (suc j) i))
+        step next (inr (inr u)) = no-U u
+
+    none-smaller : ⊥
+    none-smaller = walk (p .classes) 0 (omega arith) (λ i l. subst (λ (q : ℕ). In x (E q)) (omega arith) (without-U (steps .s4)))
+
+  pub preferred-stable : StableOver (declared p) (translation p) t
+  preferred-stable = record {
+    model = of-steps p t t full-steps;
+    minimal = λ x sub strict asks. none-smaller x (λ d. strict (of-declared p (λ c. In t c → In x c) d)) (to-steps p t x asks);
+  }

@@ -1,0 +1,55 @@
+-- The plain program of the ten steps, its names, and the three sums (document 01, "The translation").
+use Prim.Native.Nat.{ℕ, _+_, _-_, _*_}
+use mathlib.Core.List.{List, [], map}
+use lib.ListN.{length}
+use Rattle.kinds.specs.declared.limits.Kind.the-variants.{Plain}
+use Rattle.rules.specs.Lists.{sum}
+use Rattle.rules.specs.Rules.{Rule, rule, occurrences}
+use Rattle.stores.specs.Program.{Program}
+use Rattle.pairing.specs.Atoms.{Atom, minimisedAtoms, varyingAtoms, fixedAtoms, declared, place, nameOf}
+use Rattle.pairing.specs.Steps.{translation}
+
+-- a rule with other atoms
+abbrev pub rename : {A : Type 0} → (A → ℕ) → Rule A → Rule ℕ
+rename f r = rule (map f (r .head)) (map f (r .body)) (map f (r .nots))
+
+unfoldable pub translatedRules : Program → List (Rule ℕ)
+translatedRules p = map (rename (place p)) (translation p)
+
+abbrev pub translated : Program → Program
+translated p = record { kind = Plain; atoms = length (declared p); classes = 0; words = []; rules = translatedRules p }
+
+unfoldable pub translatedNames : Program → List (List ℕ) → List (List ℕ)
+translatedNames p names = map (nameOf names) (declared p)
+
+-- p, v, f count the minimised, varying and fixed atoms, n all three, k the classes, r the rules, L the atom places in rules
+pub record Numbers : Type 0 where
+  pub p : ℕ
+  pub v : ℕ
+  pub f : ℕ
+  pub n : ℕ
+  pub k : ℕ
+  pub r : ℕ
+  pub L : ℕ
+
+unfoldable pub numbers : Program → Numbers
+numbers file = record {
+  p = length (minimisedAtoms file);
+  v = length (varyingAtoms file);
+  f = length (fixedAtoms file);
+  n = file .atoms;
+  k = file .classes;
+  r = length (file .rules);
+  L = sum occurrences (file .rules);
+}
+
+-- the three sums
+
+abbrev pub atomsSum : Numbers → ℕ
+atomsSum c = 3 * c .n - c .f + c .p + c .k + 2
+
+abbrev pub rulesSum : Numbers → ℕ
+rulesSum c = 3 * c .n - c .f + 2 * c .r + 5 * c .p + 2 * c .k + 4
+
+abbrev pub occurrencesSum : Numbers → ℕ
+occurrencesSum c = 6 * c .n - 2 * c .f + 2 * c .L + c .r + 17 * c .p + 5 * c .k + 7

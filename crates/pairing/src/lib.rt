@@ -1,0 +1,1 @@
+// The translation of a preference program and its theorems: definitions in specs/, their laws in proofs/. No code.
