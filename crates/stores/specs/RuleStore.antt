@@ -134,3 +134,12 @@ pickStore false a b = b
 -- what the words are: the store of a program of some kind, or refused
 unfoldable pub ruleStore : List ℕ → RuleStore
 ruleStore ws = pickStore (store? ws) (Of (kindOf (getD ws 0 0))) Refused
+
+-- a store of the kind asked for
+abbrev pub isOf : Kind → RuleStore → Bool
+isOf Plain (Of Plain) = true
+isOf Plain (Of Preference) = false
+isOf Plain Refused = false
+isOf Preference (Of Plain) = false
+isOf Preference (Of Preference) = true
+isOf Preference Refused = false

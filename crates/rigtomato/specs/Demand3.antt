@@ -1,0 +1,74 @@
+-- Demand 3 (document 01, "In demand 3, accepted means .."), from the bytes of a text.
+use Prim.Native.Nat.{ℕ, _^_, _≤_, _<_}
+use mathlib.Core.Path.{_≡_}
+use mathlib.Core.Logic.{_↔_}
+use mathlib.Core.List.{List}
+use lib.ListN.{length, take}
+use Rattle.kinds.specs.declared.limits.Kind.the-variants.{Plain, Preference}
+use Rattle.rules.specs.Lists.{sum}
+use Rattle.rules.specs.Sets.{cut}
+use Rattle.rules.specs.Rules.{occurrences}
+use Rattle.rules.specs.Stable.{Stable}
+use Rattle.rules.specs.Preferred.{Preferred}
+use Rattle.stores.specs.Program.{Program}
+use Rattle.stores.specs.RuleStore.{encode}
+use Rattle.stores.specs.NameStore.{encodeNames}
+use Rattle.writer.specs.declared.Written.the-variants.{Text}
+use Rattle.writer.specs.Answers.{over}
+use Rattle.reader.specs.declared.answers.Read.the-variants.{Accepted}
+use Rattle.reader.specs.Faults.{State}
+use Rattle.reader.specs.Said.{said, accepted, programOf}
+use Rattle.reader.specs.Answers.{readAnswer, readRules, readNames, ruleWordsOf, nameBytesOf}
+use Rattle.pairing.specs.Translated.{translated, translatedNames, numbers, atomsSum, rulesSum, occurrencesSum}
+use Rattle.translation.specs.Answers.{translationText, translateAnswer, translateOutput}
+
+-- A text was read into two lent outputs and refused for nothing; the stores that the reader then left were handed on unchanged, and the translator answered without a refusal.
+pub record Handed (text rules names out : List ℕ) : Type 0 where
+  pub words : ℕ
+  pub bytes : ℕ
+  pub read : readAnswer text (length rules) (length names) ≡ Accepted words bytes
+  pub size : ℕ
+  pub written : translateAnswer (take words (readRules text rules names)) (take bytes (readNames text rules names)) (length out) ≡ Text size
+
+-- what the translator then wrote is the delivered text
+abbrev pub delivered : {text rules names out : List ℕ} → Handed text rules names out → List ℕ
+delivered {text} {rules} {names} {out} h =
+    take (h .size) (translateOutput (take (h .words) (readRules text rules names)) (take (h .bytes) (readNames text rules names)) out)
+
+-- Reading a text is accepted with any outputs that are long enough, and fills both from the text's lines.
+pub record ReadsAs (text : List ℕ) (st : State) : Type 0 where
+  pub lines : said text ≡ accepted st
+  pub answer : (rules names : List ℕ) → length (ruleWordsOf st) ≤ length rules → length (nameBytesOf st) ≤ length names
+      → readAnswer text (length rules) (length names) ≡ Accepted (length (ruleWordsOf st)) (length (nameBytesOf st))
+  pub rules-filled : (rules names : List ℕ) → length (ruleWordsOf st) ≤ length rules → length (nameBytesOf st) ≤ length names
+      → readRules text rules names ≡ over (ruleWordsOf st) rules
+  pub names-filled : (rules names : List ℕ) → length (ruleWordsOf st) ≤ length rules → length (nameBytesOf st) ≤ length names
+      → readNames text rules names ≡ over (nameBytesOf st) names
+
+pub record Demand3 (text plain-text : List ℕ) : Type 0 where
+  -- the lines of the two texts
+  pub file : State
+  pub plain : State
+  pub file-read : ReadsAs text file
+  pub plain-read : ReadsAs plain-text plain
+  pub file-kind : file .kind ≡ Preference
+  pub plain-kind : plain .kind ≡ Plain
+  -- the delivered text is the one that the ten steps give
+  pub steps : plain-text ≡ translationText (programOf file) (file .names)
+  pub program : programOf plain ≡ translated (programOf file)
+  pub names : plain .names ≡ translatedNames (programOf file) (file .names)
+  -- the members below n bear the file's names in the file's order
+  pub own-names : take (length (file .names)) (plain .names) ≡ file .names
+  -- preferred states and stable models pair one to one by cutting down
+  pub paired : (s : ℕ) → s < 2 ^ length (file .names)
+      → Preferred (file .words) (file .program-rules) s
+      ↔ ((t : ℕ) × (t < 2 ^ length (plain .names)) × Stable (plain .program-rules) t × (cut (length (file .names)) t ≡ s))
+  pub only-one : (t u : ℕ) → t < 2 ^ length (plain .names) → u < 2 ^ length (plain .names) → Stable (plain .program-rules) t → Stable (plain .program-rules) u
+      → cut (length (file .names)) t ≡ cut (length (file .names)) u → t ≡ u
+  -- the three sums
+  pub atoms : length (plain .names) ≡ atomsSum (numbers (programOf file))
+  pub rules : length (plain .program-rules) ≡ rulesSum (numbers (programOf file))
+  pub places : sum occurrences (plain .program-rules) ≡ occurrencesSum (numbers (programOf file))
+
+abbrev pub Demand3Holds : Type 0
+Demand3Holds = (text rules names out : List ℕ) (h : Handed text rules names out) → Demand3 text (delivered h)

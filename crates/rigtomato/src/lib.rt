@@ -1,0 +1,1 @@
+// The public entry points (document 01).

@@ -1,0 +1,2 @@
+-- What the translator answers.
+pub mod Answers
