@@ -1,2 +1,4 @@
 -- Demand 3, and what the two programs print.
 pub mod Demand3
+pub mod Printed
+pub mod Fields

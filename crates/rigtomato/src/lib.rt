@@ -1,1 +1,2 @@
 // The public entry points (document 01).
+pub mod fields;
