@@ -2,3 +2,4 @@
 pub mod ClassWord
 pub mod RuleTests
 pub mod RuleStores
+pub mod Marks
