@@ -3,3 +3,4 @@ pub mod ClassWord
 pub mod RuleTests
 pub mod RuleStores
 pub mod Marks
+pub mod RulePlace

@@ -1,17 +1,18 @@
 -- The check of one list by marks: an atom stood in the part passed exactly when its mark is the list's stamp.
 use Prim.Native.Nat.{ℕ, suc, _+_, _-_, _≤_, _<_}
 use mathlib.Core.Path.{_≡_, refl, sym, ap, _∙_}
-use mathlib.Core.Bool.{Bool, true, false, _||_}
+use mathlib.Core.Bool.{Bool, true, false, not, _||_}
 use mathlib.Core.List.{List, [], _∷_}
 use native.Mathlib.Omega.{arith}
 use native.Mathlib.Numerals.{add-one}
 use native.Mathlib.Decide.{ℕ-discrete}
-use lib.Dec.{eqb, ltb}
+use lib.Dec.{eqb}
 use lib.ListN.{length, getD, take, drop, set, length-set}
 use lib.Seq.{drop-cons, getD-set-same, getD-set-other}
-use borrow.Author.Tests.{lt-ltb, le-ltb, eq-eqb, ne-eqb}
+use borrow.Author.Tests.{not-true, not-false, lt-ltb, le-ltb, eq-eqb, ne-eqb}
 use Rattle.rules.specs.Lists.{some}
-use Rattle.stores.specs.RuleStore.{Below, list?}
+use Rattle.rules.specs.Rules.{Rule}
+use Rattle.stores.specs.RuleStore.{Below, list?, lists?}
 
 -- a part of the words, one word taken off
 pub part-cons : (ws : List ℕ) (i e : ℕ) → i < e → e ≤ length ws → take (e - i) (drop i ws) ≡ getD ws i 0 ∷ take (e - (i + 1)) (drop (i + 1) ws)
@@ -23,12 +24,15 @@ part-cons ws i e h k =
 pub part-none : (ws : List ℕ) (i e : ℕ) → e ≤ i → take (e - i) (drop i ws) ≡ []
 part-none ws i e h = let n : e - i ≡ 0 = omega arith in rw n
 
+pub below-more : {s t : ℕ} {marks : List ℕ} → Below s marks → s ≤ t → Below t marks
+below-more b h = record { mark = λ a. omega (arith, b .mark a) }
+
 set-below : (marks : List ℕ) (a stamp : ℕ) → a < length marks → Below (stamp + 1) marks → Below (stamp + 1) (set marks a stamp)
-set-below marks a stamp l h b = step (ℕ-discrete b a)
+set-below marks a stamp l h = record { mark = λ b. step b (ℕ-discrete b a) }
   where
-    step : Dec (b ≡ a) → getD (set marks a stamp) b 0 < stamp + 1
-    step (yes e) = rw (e, getD-set-same marks a stamp 0 l) (omega arith)
-    step (no e) = rw (getD-set-other marks a b stamp 0 e) (h b)
+    step : (b : ℕ) → Dec (b ≡ a) → getD (set marks a stamp) b 0 < stamp + 1
+    step b (yes e) = rw (e, getD-set-same marks a stamp 0 l) (omega arith)
+    step b (no e) = rw (getD-set-other marks a b stamp 0 e) (h .mark b)
 
 set-marks : (marks : List ℕ) (a stamp : ℕ) → a < length marks → (b : ℕ) → eqb (getD (set marks a stamp) b 0) stamp ≡ (eqb b a || eqb (getD marks b 0) stamp)
 set-marks marks a stamp l b = step (ℕ-discrete b a)
@@ -57,8 +61,8 @@ begins words at count atoms marks stamp h =
       passed = omega arith;
       room = h .1;
       same-length = refl;
-      below = λ a. omega (arith, h .2 a);
-      marked = λ a. ne-eqb (getD marks a 0) stamp (λ e. omega (arith, h .2 a));
+      below = below-more (h .2) (omega arith);
+      marked = λ a. ne-eqb (getD marks a 0) stamp (λ e. omega (arith, h .2 .mark a));
       rest = ap (λ (m : ℕ). list? atoms [] (take m (drop at words))) n;
     }
 
@@ -98,3 +102,18 @@ module _ {words : List ℕ} {at count atoms : ℕ} {marks₀ : List ℕ} {stamp 
             marked = λ b. set-marks marks a stamp l b ∙ ap (λ (t : Bool). eqb b a || t) (m .marked b);
             rest = simp (lt-ltb a atoms inside, s) at next;
           }
+
+-- the three lists of a rule, one after another
+module _ (n : ℕ) (r : Rule ℕ) {x : Bool} (h : x ≡ list? n [] (r .head)) where
+  pub head-wrong : not x ≡ true → false ≡ lists? n r
+  unfolding lists?
+  head-wrong f = simp (sym h, not-true x f)
+
+  module _ {y : Bool} (b : y ≡ list? n [] (r .body)) (t : not x ≡ false) where
+    pub body-wrong : not y ≡ true → false ≡ lists? n r
+    unfolding lists?
+    body-wrong f = simp (sym h, sym b, not-false x t, not-true y f)
+
+    pub all-lists : {z : Bool} → z ≡ list? n [] (r .nots) → not y ≡ false → z ≡ lists? n r
+    unfolding lists?
+    all-lists {z} c f = simp (sym h, sym b, sym c, not-false x t, not-false y f)

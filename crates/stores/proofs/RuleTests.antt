@@ -17,7 +17,7 @@ use Rattle.rules.specs.Rules.{Rule, occurrences}
 use Rattle.rules.proofs.Booleans.{T-and, T-and-l, T-and-r, T-or, T-or-out, T-not-in, T-not-out, eq→eqb}
 use Rattle.rules.proofs.Lists.{all-imp, all-both}
 use Rattle.stores.specs.Program.{RoleForm, Rising, ListForm, NotForm, RuleForm, roleOf}
-use Rattle.stores.specs.RuleStore.{ruleWords, heads, bodies, nots, places, ruleAt, role?, words?, list?, not?, rule?}
+use Rattle.stores.specs.RuleStore.{ruleWords, heads, bodies, nots, places, ruleAt, role?, words?, list?, lists?, not?, rule?}
 use Rattle.stores.specs.declared.roles.Role.{Role}
 use Rattle.stores.specs.declared.roles.Role.the-variants.{Minimised, Varying, Fixed, Unknown}
 
@@ -141,11 +141,12 @@ rule-words (a ∷ b ∷ c ∷ t) h =
     ∙ ap (λ (l : List ℕ). (take a t ++ (take b (drop a t) ++ take c (drop (a + b) t))) ++ l) p
     ∙ parts a b c t) i
 
--- what the test of one rule says
-pub record RuleHere (kind : Kind) (n used : ℕ) (ws : List ℕ) : Type 0 where
-  pub inside : 3 + places ws ≤ length ws
-  pub fits : used + places ws ≤ occurrenceLimit kind
-  pub form : RuleForm kind n (ruleAt ws)
+pub lists-law : (n : ℕ) (r : Rule ℕ) → T (lists? n r) ↔ (ListForm n (r .head) × ListForm n (r .body) × ListForm n (r .nots))
+unfolding lists?
+lists-law n r = (
+  λ h. let t = simp and-iff at h in (list-law n (r .head) .0 (t .0), list-law n (r .body) .0 (t .1 .0), list-law n (r .nots) .0 (t .1 .1)),
+  λ h. simp and-iff (list-law n (r .head) .1 (h .0), (list-law n (r .body) .1 (h .1), list-law n (r .nots) .1 (h .2))),
+)
 
 not-law : (kind : Kind) (ws : List ℕ) → 3 + places ws ≤ length ws → T (not? kind (nots ws)) ↔ NotForm kind (ruleAt ws .nots)
 unfolding ruleAt
@@ -153,32 +154,35 @@ not-law Plain ws h = (λ t. t, λ t. t)
 not-law Preference ws h =
     (λ t. ap (λ (m : ℕ). take m (drop (3 + heads ws + bodies ws) ws)) (eqb→eq (nots ws) 0 t), λ e. eq→eqb (nots ws) 0 (sym (nots-length ws h) ∙ ap length e))
 
-pub rule-law : (kind : Kind) (n used : ℕ) (ws : List ℕ) → T (rule? kind n used ws) ↔ RuleHere kind n used ws
+-- the parts of the test of one rule
+pub record RuleTested (kind : Kind) (n used : ℕ) (ws : List ℕ) : Type 0 where
+  pub inside : 3 + places ws ≤ length ws
+  pub fits : used + places ws ≤ occurrenceLimit kind
+  pub nots-fit : T (not? kind (nots ws))
+  pub lists-fit : T (lists? n (ruleAt ws))
+
+pub rule-tested : (kind : Kind) (n used : ℕ) (ws : List ℕ) → T (rule? kind n used ws) ↔ RuleTested kind n used ws
 unfolding rule?
+rule-tested kind n used ws = (
+  λ h.
+    let t = simp and-iff at h in
+    record { inside = leb→le (3 + places ws) (length ws) (t .0); fits = leb→le (used + places ws) (occurrenceLimit kind) (t .1 .0); nots-fit = t .1 .1 .0; lists-fit = t .1 .1 .1 },
+  λ h. simp and-iff (le→leb (3 + places ws) (length ws) (h .inside), (le→leb (used + places ws) (occurrenceLimit kind) (h .fits), (h .nots-fit, h .lists-fit))),
+)
+
+-- what the test of one rule says
+pub record RuleHere (kind : Kind) (n used : ℕ) (ws : List ℕ) : Type 0 where
+  pub inside : 3 + places ws ≤ length ws
+  pub fits : used + places ws ≤ occurrenceLimit kind
+  pub form : RuleForm kind n (ruleAt ws)
+
+pub rule-law : (kind : Kind) (n used : ℕ) (ws : List ℕ) → T (rule? kind n used ws) ↔ RuleHere kind n used ws
 rule-law kind n used ws = (
   λ h.
-      let t = simp and-iff at h in
-      let inside : 3 + places ws ≤ length ws = leb→le (3 + places ws) (length ws) (t .0) in
-      record {
-        inside = inside;
-        fits = leb→le (used + places ws) (occurrenceLimit kind) (t .1 .0);
-        form =
-            record {
-              head-form = list-law n (ruleAt ws .head) .0 (t .1 .1 .1 .0);
-              body-form = list-law n (ruleAt ws .body) .0 (t .1 .1 .1 .1 .0);
-              nots-form = list-law n (ruleAt ws .nots) .0 (t .1 .1 .1 .1 .1);
-              no-nots = not-law kind ws inside .0 (t .1 .1 .0);
-            };
-      },
+    let t = rule-tested kind n used ws .0 h in
+    let l = lists-law n (ruleAt ws) .0 (t .lists-fit) in
+    record { inside = t .inside; fits = t .fits; form = record { head-form = l .0; body-form = l .1; nots-form = l .2; no-nots = not-law kind ws (t .inside) .0 (t .nots-fit) } },
   λ h.
-      simp and-iff (
-        le→leb (3 + places ws) (length ws) (h .inside),
-        (
-          le→leb (used + places ws) (occurrenceLimit kind) (h .fits),
-          (
-            not-law kind ws (h .inside) .1 (h .form .no-nots),
-            (list-law n (ruleAt ws .head) .1 (h .form .head-form), (list-law n (ruleAt ws .body) .1 (h .form .body-form), list-law n (ruleAt ws .nots) .1 (h .form .nots-form))),
-          ),
-        ),
-      ),
+    rule-tested kind n used ws .1
+    (record { inside = h .inside; fits = h .fits; nots-fit = not-law kind ws (h .inside) .1 (h .form .no-nots); lists-fit = lists-law n (ruleAt ws) .1 (h .form .head-form, h .form .body-form, h .form .nots-form) }),
 )

@@ -100,15 +100,15 @@ classes? Plain n k ws = eqb k 0
 classes? Preference n k ws = leb k classLimit && (leb n (length ws) && words? k 0 (take n ws))
 
 -- the check keeps a mark for each atom: the stamp of the last list that had it, each list having a higher one
-abbrev pub Below : ℕ → List ℕ → Type 0
-Below stamp marks = (a : ℕ) → getD marks a 0 < stamp
+pub record Below (stamp : ℕ) (marks : List ℕ) : Type 0 where
+  pub mark : (a : ℕ) → getD marks a 0 < stamp
 
 -- atom numbers below n, none among those seen before nor twice
 unfoldable pub list? : ℕ → List ℕ → List ℕ → Bool
 list? n seen [] = true
 list? n seen (a ∷ xs) = ltb a n && (not (some (eqb a) seen) && list? n (a ∷ seen) xs)
 
-abbrev pub lists? : ℕ → Rule ℕ → Bool
+unfoldable pub lists? : ℕ → Rule ℕ → Bool
 lists? n r = list? n [] (r .head) && (list? n [] (r .body) && list? n [] (r .nots))
 
 abbrev pub not? : Kind → ℕ → Bool
