@@ -12,17 +12,8 @@ use lib.Seq.{drop-cons, getD-set-same, getD-set-other}
 use borrow.Author.Tests.{not-true, not-false, lt-ltb, le-ltb, eq-eqb, ne-eqb}
 use Rattle.rules.specs.Lists.{some}
 use Rattle.rules.specs.Rules.{Rule}
+use Rattle.stores.proofs.Parts.{part-cons, part-none}
 use Rattle.stores.specs.RuleStore.{Below, list?, lists?}
-
--- a part of the words, one word taken off
-pub part-cons : (ws : List ℕ) (i e : ℕ) → i < e → e ≤ length ws → take (e - i) (drop i ws) ≡ getD ws i 0 ∷ take (e - (i + 1)) (drop (i + 1) ws)
-part-cons ws i e h k =
-    let n : e - i ≡ suc (e - (i + 1)) = omega arith in
-    let l : i < length ws = omega arith in
-    rw (n, drop-cons ws i 0 l, add-one)
-
-pub part-none : (ws : List ℕ) (i e : ℕ) → e ≤ i → take (e - i) (drop i ws) ≡ []
-part-none ws i e h = let n : e - i ≡ 0 = omega arith in rw n
 
 pub below-more : {s t : ℕ} {marks : List ℕ} → Below s marks → s ≤ t → Below t marks
 below-more b h = record { mark = λ a. omega (arith, b .mark a) }
