@@ -6,3 +6,4 @@ pub mod Marks
 pub mod RulePlace
 pub mod Parts
 pub mod Rising
+pub mod StoreHeader

@@ -18,14 +18,11 @@ use Rattle.stores.specs.RuleStore.{Below, rules?, empty?, heads, bodies,
 use Rattle.stores.specs.declared.rule_store.RuleCheck.{RuleCheck}
 use Rattle.stores.specs.declared.rule_store.RuleCheck.the-variants.{Next, Broken}
 use Rattle.stores.proofs.Marks.{below-more}
-use Rattle.stores.proofs.RuleTests.{RuleTested, rule-tested}
+use Rattle.stores.proofs.RuleTests.{T-is, RuleTested, rule-tested}
 
 pub limit-small : (kind : Kind) → occurrenceLimit kind ≤ 24000
 limit-small Plain = omega arith
 limit-small Preference = omega arith
-
-T-is : {t : Bool} → t ≡ true → T t
-T-is e = subst T (sym e) tt
 
 rules-small : (kind : Kind) → ruleLimit kind ≤ 4200
 rules-small Plain = omega arith
@@ -107,12 +104,12 @@ module _ (ws : List ℕ) (at : ℕ) where
         let next : at + 3 + (headCount + bodyCount + notCount) ≡ at + (3 + places (drop at ws)) = omega (arith, places-at) in
         let sum : used + (headCount + bodyCount + notCount) ≡ used + places (drop at ws) = omega (arith, places-at) in
         let tested : RuleTested kind n used (drop at ws) =
-          record {
-            inside = omega (arith, i, places-at, length-drop at ws);
-            fits = omega (arith, f, places-at);
-            nots-fit = T-is (ap (not? kind) nots-at ∙ sym e ∙ not-false x p);
-            lists-fit = T-is (ap (lists? n) rule-at ∙ sym g ∙ not-false y q);
-          } in
+        record {
+          inside = omega (arith, i, places-at, length-drop at ws);
+          fits = omega (arith, f, places-at);
+          nots-fit = T-is (ap (not? kind) nots-at ∙ sym e ∙ not-false x p);
+          lists-fit = T-is (ap (lists? n) rule-at ∙ sym g ∙ not-false y q);
+        } in
         ap₂ Next next sum ∙ step (rule? kind n used (drop at ws)) (rule-tested kind n used (drop at ws) .1 tested)
       where
         step : (t : Bool) → T t → Next (at + (3 + places (drop at ws))) (used + places (drop at ws)) ≡ pickCheck t (Next (at + (3 + places (drop at ws))) (used + places (drop at ws))) Broken
@@ -181,9 +178,9 @@ module _ {words : List ℕ} {start : ℕ} {kind : Kind} {atoms rules : ℕ} {mar
             same-length = l ∙ m .same-length;
             below = below-more b (omega arith);
             rest =
-              ap₂ (λ (j u : ℕ). rules? kind atoms u (rules - (i + 1)) (drop j words)) (t .1) (t .2)
-              ∙ ap (rules? kind atoms (used + places w) (rules - (i + 1))) (sym (drop-drop (3 + places w) at words))
-              ∙ simp (t .0) at turn;
+                ap₂ (λ (j u : ℕ). rules? kind atoms u (rules - (i + 1)) (drop j words)) (t .1) (t .2)
+                ∙ ap (rules? kind atoms (used + places w) (rules - (i + 1))) (sym (drop-drop (3 + places w) at words))
+                ∙ simp (t .0) at turn;
           }
 
   pub all-passed : rules ≤ i → eqb at (length words) ≡ rules? kind atoms 0 rules (drop start words)

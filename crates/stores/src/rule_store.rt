@@ -26,7 +26,14 @@ pub enum RuleCheck {
 }
 
 // One list of a rule. An atom that stood in it has `stamp` as its mark.
-fn list_form(words: &[u16], at: usize, count: usize, atoms: usize, marks: &mut [u16], stamp: u16) -> bool
+fn list_form(
+    words: &[u16],
+    at: usize,
+    count: usize,
+    atoms: usize,
+    marks: &mut [u16],
+    stamp: u16,
+) -> bool
     requires { ⌜ (at + count ≤ length (now words)) × (atoms ≤ length (now marks)) × Below stamp (now marks) ⌝ }
     ensures { λ r. ⌜ (r ≡ list? atoms [] (take count (drop at (now (words .entry))))) × Below (stamp + 1) (now (marks .exit)) ⌝ }
 {
@@ -47,7 +54,16 @@ fn list_form(words: &[u16], at: usize, count: usize, atoms: usize, marks: &mut [
 }
 
 // The three lists of a rule, with a stamp each.
-fn lists_form(words: &[u16], at: usize, heads: usize, bodies: usize, nots: usize, atoms: usize, marks: &mut [u16], stamp: u16) -> bool
+fn lists_form(
+    words: &[u16],
+    at: usize,
+    heads: usize,
+    bodies: usize,
+    nots: usize,
+    atoms: usize,
+    marks: &mut [u16],
+    stamp: u16,
+) -> bool
     requires { ⌜ (at + (heads + bodies + nots) ≤ length (now words)) × (atoms ≤ length (now marks)) × (stamp ≤ 65532) × Below stamp (now marks) ⌝ }
     ensures { λ r. ⌜ (r ≡ lists? atoms (rule (take heads (drop at (now (words .entry)))) (take bodies (drop (at + heads) (now (words .entry)))) (take nots (drop (at + heads + bodies) (now (words .entry)))))) × Below (stamp + 3) (now (marks .exit)) ⌝ }
 {
@@ -75,7 +91,15 @@ fn not_form(kind: Kind, nots: usize) -> bool
 }
 
 // The rule at `at`, after `used` occurrences in earlier rules.
-fn rule_form(words: &[u16], at: usize, kind: Kind, atoms: usize, used: usize, marks: &mut [u16], stamp: u16) -> RuleCheck
+fn rule_form(
+    words: &[u16],
+    at: usize,
+    kind: Kind,
+    atoms: usize,
+    used: usize,
+    marks: &mut [u16],
+    stamp: u16,
+) -> RuleCheck
     requires { ⌜ (at ≤ length (now words)) × (used ≤ occurrenceLimit kind) × (atoms ≤ length (now marks)) × (stamp ≤ 65532) × Below stamp (now marks) ⌝ }
     ensures { λ r. ⌜ (r ≡ ruleCheck kind atoms used at (now (words .entry))) × Below (stamp + 3) (now (marks .exit)) ⌝ }
 {
@@ -104,11 +128,21 @@ fn rule_form(words: &[u16], at: usize, kind: Kind, atoms: usize, used: usize, ma
     if !lists_fit {
         return RuleCheck::Broken;
     }
-    RuleCheck::Next { at: lists + places, used: sum }
+    RuleCheck::Next {
+        at: lists + places,
+        used: sum,
+    }
 }
 
 // The rules from `start` on, after which no word follows.
-fn rules_form(words: &[u16], start: usize, kind: Kind, atoms: usize, rules: usize, marks: &mut [u16]) -> bool
+fn rules_form(
+    words: &[u16],
+    start: usize,
+    kind: Kind,
+    atoms: usize,
+    rules: usize,
+    marks: &mut [u16],
+) -> bool
     requires { ⌜ (start ≤ length (now words)) × (rules ≤ ruleLimit kind) × (atoms ≤ length (now marks)) × Below 1 (now marks) ⌝ }
     ensures { λ r. ⌜ r ≡ rules? kind atoms 0 rules (drop start (now (words .entry))) ⌝ }
 {
@@ -117,7 +151,11 @@ fn rules_form(words: &[u16], start: usize, kind: Kind, atoms: usize, rules: usiz
     let mut i: usize = 0;
     while i < rules {
         let stamp = (3 * i + 1) as u16;
-        let RuleCheck::Next { at: next, used: sum } = rule_form(words, at, kind, atoms, used, marks, stamp) else {
+        let RuleCheck::Next {
+            at: next,
+            used: sum,
+        } = rule_form(words, at, kind, atoms, used, marks, stamp)
+        else {
             return false;
         };
         at = next;
@@ -230,7 +268,11 @@ fn program_form(words: &[u16], kind: Kind) -> bool
 fn kind_of(word: u16) -> Kind
     ensures { λ r. ⌜ r ≡ kindOf word ⌝ }
 {
-    if word == 0 { Kind::Plain } else { Kind::Preference }
+    if word == 0 {
+        Kind::Plain
+    } else {
+        Kind::Preference
+    }
 }
 
 // Whether the words are the rule store of a program, and of which kind.

@@ -4,9 +4,6 @@ use borrow.Author.Needs.{needs}
 use Rattle.stores.proofs.RulePlace.{Passing, first, ready, stops, goes-on, all-passed}
 use Rattle.stores.proofs.rule_store.rules_form.Statement.{statement}
 use Rattle.stores.proofs.rule_store.rules_form.Tie as tie
-use Rattle.stores.proofs.rule_store.rules_form.Reads as reads
-use Rattle.stores.proofs.rule_store.rules_form.Lts as lts
-use Rattle.stores.proofs.rule_store.rule_form.Reads as rule-form-reads
 
 abbrev Inv-loop : tie.InvT-loop
 Inv-loop words start kind atoms rules marks₀ at₀ used₀ i₀ marks at used i = Passing words start kind atoms rules marks₀ marks at used i
@@ -14,59 +11,45 @@ Inv-loop words start kind atoms rules marks₀ at₀ used₀ i₀ marks at used 
 abbrev μ-loop : tie.MeasureT-loop
 μ-loop words start kind atoms rules marks₀ at₀ used₀ i₀ marks at used i = rules - i
 
--- src/rule_store.rt:117:5
 loop-holds : tie.Need-loop-holds Inv-loop μ-loop
 loop-holds c = first _ _ _ _ _ _ (c .before .before .pre)
 
--- src/rule_store.rt:118:22
 mul-stamp : tie.Need-mul-stamp Inv-loop μ-loop
 mul-stamp c = search needs
 
--- src/rule_store.rt:118:22
 add-stamp : tie.Need-add-stamp Inv-loop μ-loop
 add-stamp c = search needs
 
--- src/rule_store.rt:118:21
 cast-stamp : tie.Need-cast-stamp Inv-loop μ-loop
 cast-stamp c = search needs
 
--- src/rule_store.rt:119:55
 rule-form-requires : tie.Need-rule-form-requires Inv-loop μ-loop
 rule-form-requires c κs = ready (c .before .before .loop .inv) (c .before .loop-test .taken)
 
--- src/rule_store.rt:119:35
 enum-known-next : tie.Need-enum-known-next Inv-loop μ-loop
 enum-known-next c = search needs
 
--- src/rule_store.rt:120:13
 enum-told : tie.Need-enum-told Inv-loop μ-loop
 enum-told c = search needs
 
--- src/rule_store.rt:120:13
 same-length : tie.Need-same-length Inv-loop μ-loop
 same-length c = c .before .before .before .before .rule-form .kept .1 .1 .1 .1 .1 .0 ∙ c .before .before .before .before .before .before .before .loop .inv .same-length
 
--- src/rule_store.rt:120:13
 returns : tie.Need-returns Inv-loop μ-loop
 returns c = stops (c .before .before .before .before .before .before .before .loop .inv) (c .before .before .before .before .before .before .loop-test .taken) (c .before .before .before .before .rule-form .ensures .0) (c .enum-told .given .1)
 
--- src/rule_store.rt:124:9
 add-i : tie.Need-add-i Inv-loop μ-loop
 add-i c = search needs
 
--- src/rule_store.rt:117:5
 loop-less : tie.Need-loop-less Inv-loop μ-loop
 loop-less c = search needs
 
--- src/rule_store.rt:117:5
 loop-again : tie.Need-loop-again Inv-loop μ-loop
 loop-again c = goes-on (c .before .before .before .before .before .before .before .before .loop .inv) (c .before .before .before .before .before .before .before .loop-test .taken) (c .before .before .before .before .before .rule-form .ensures .0) (c .before .next .given .1) (c .before .before .before .before .before .rule-form .ensures .1) (c .before .before .before .before .before .rule-form .kept .1 .1 .1 .1 .1 .0)
 
--- src/rule_store.rt:110:1
 same-length-2 : tie.Need-same-length-2 Inv-loop μ-loop
 same-length-2 c = search needs
 
--- src/rule_store.rt:110:1
 returns-2 : tie.Need-returns-2 Inv-loop μ-loop
 returns-2 c = all-passed (c .before .loop .inv) (c .loop-test .left)
 
