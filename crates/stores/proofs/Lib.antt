@@ -7,3 +7,4 @@ pub mod RulePlace
 pub mod Parts
 pub mod Rising
 pub mod StoreHeader
+pub mod RuleStoreClauses
