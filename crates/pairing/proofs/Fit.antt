@@ -4,16 +4,19 @@ use native.Mathlib.Omega.{arith}
 use native.Mathlib.Decide.{ℕ-discrete, decLe}
 use mathlib.Core.Path.{_≡_, sym, subst}
 use mathlib.Core.List.{List, [], _∷_}
+use mathlib.Core.Logic.{_⊎_, inl, inr}
+use lib.Dec.{T, eqb→eq}
 use lib.ListN.{length, getD}
 use Rattle.kinds.specs.Limits.{atomLimit, ruleLimit, occurrenceLimit}
 use Rattle.kinds.specs.declared.limits.Kind.{Kind}
 use Rattle.kinds.specs.declared.limits.Kind.the-variants.{Preference}
 use Rattle.rules.specs.Lists.{All, Distinct, sum}
 use Rattle.rules.specs.Rules.{Rule, occurrences}
+use Rattle.rules.proofs.Booleans.{decide, T-not-in}
 use Rattle.rules.proofs.Lists.{all-imp}
 use Rattle.stores.specs.Program.{Program, Form, ClassesForm, RuleForm, RoleForm, Rising, roleOf}
 use Rattle.stores.proofs.ClassWord.{minimised, below, above}
-use Rattle.pairing.specs.Atoms.{classWord}
+use Rattle.pairing.specs.Atoms.{classWord, fixed?, unfixed?}
 
 -- a rule of a preference program with n atoms
 pub record Inside (n : ℕ) (r : Rule ℕ) : Type 0 where
@@ -91,3 +94,15 @@ fit-of p e f =
   where
     words : ClassesForm Preference (p .atoms) (p .classes) (p .words) → (a : ℕ) → a < length (p .words) → Word (p .classes) (classWord p a)
     words c a l = word (p .classes) (classWord p a) (all-at (λ w. RoleForm (p .classes) (roleOf w)) (p .words) (c .2) a l)
+
+-- an atom is fixed or not
+pub fixed-or : (p : Program) (a : ℕ) → T (fixed? p a) ⊎ T (unfixed? p a)
+fixed-or p a = step (decide (fixed? p a))
+  where
+    step : T (fixed? p a) ⊎ (T (fixed? p a) → ⊥) → T (fixed? p a) ⊎ T (unfixed? p a)
+    step (inl h) = inl h
+    step (inr h) = inr (T-not-in (fixed? p a) h)
+
+-- a minimised atom is not
+pub minimised-unfixed : (p : Program) (a : ℕ) → classWord p a ≤ 16 → T (unfixed? p a)
+minimised-unfixed p a c = T-not-in (fixed? p a) (λ e. let k : classWord p a ≡ 18 = eqb→eq (classWord p a) 18 e in omega arith)

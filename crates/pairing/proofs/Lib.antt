@@ -9,3 +9,5 @@ pub mod Renamed
 pub mod FullSet
 pub mod StablePreferred
 pub mod PreferredStable
+pub mod Closed
+pub mod Paired

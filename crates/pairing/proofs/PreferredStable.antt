@@ -18,7 +18,7 @@ use Rattle.stores.specs.Program.{Program}
 use Rattle.pairing.specs.Atoms.{Atom, original, N, S, D, E, U, originals, classWord, fixed?, unfixed?, declared}
 use Rattle.pairing.specs.Steps.{translation}
 use Rattle.pairing.proofs.ListLaws.{length-from, all-each}
-use Rattle.pairing.proofs.Fit.{Fit, Inside}
+use Rattle.pairing.proofs.Fit.{Fit, Inside, minimised-unfixed}
 use Rattle.pairing.proofs.Asked.{Kept, Copied, Steps, to-steps, of-steps}
 use Rattle.pairing.proofs.Numbering.{Declared, to-declared, of-declared}
 use Rattle.pairing.proofs.Numbered.{setOf, set-lt, set-has}
@@ -134,10 +134,6 @@ module _ (p : Program) (fit : Fit p) (m : ℕ) (preferred : Preferred (p .words)
     s-model : Model (p .rules) (has s)
     s-model = all-imp (λ r. Copied p t x r × Inside (p .atoms) r) (Holds (has s)) s-holds (p .rules) (all-both (Copied p t x) (Inside (p .atoms)) (p .rules) (steps .s3) (fit .rules))
 
-    -- a minimised atom is not fixed
-    unfixed-of : (a : ℕ) → classWord p a ≤ 16 → T (unfixed? p a)
-    unfixed-of a c = T-not-in (fixed? p a) (λ e. let k : classWord p a ≡ 18 = eqb→eq (classWord p a) 18 e in omega arith)
-
     -- x has E.0 to E.j, and D. of an atom of class j + 1: s beats m
     module _ (j : ℕ) (ends : (i : ℕ) → i ≤ j → In x (E i)) (high : suc j ≤ p .classes) where
       inside-of : (a i : ℕ) → OfClass (p .words) i a → a < p .atoms
@@ -148,14 +144,14 @@ module _ (p : Program) (fit : Fit p) (m : ℕ) (preferred : Preferred (p .words)
           let n = inside-of a i c in
           let e : classWord p a ≡ i = c .1 in
           let k : classWord p a ≤ 16 = omega (arith, fit .classes) in
-          stable (has m a) (λ o. no-U (steps .s6 a n k .1 .1 .0 (λ d. o (full .originals a n .0 d)) (ends (classWord p a - 1) (omega arith)) (T-of (on-unfixed a n (unfixed-of a k)) h)))
+          stable (has m a) (λ o. no-U (steps .s6 a n k .1 .1 .0 (λ d. o (full .originals a n .0 d)) (ends (classWord p a - 1) (omega arith)) (T-of (on-unfixed a n (minimised-unfixed p a k)) h)))
 
       of-m : (a i : ℕ) → OfClass (p .words) i a → i ≤ j → In (has m) a → In (has s) a
       of-m a i c l h =
           let n = inside-of a i c in
           let e : classWord p a ≡ i = c .1 in
           let k : classWord p a ≤ 16 = omega (arith, fit .classes) in
-          T-of (sym (on-unfixed a n (unfixed-of a k))) (without-U (steps .s6 a n k .1 .1 .1 (λ d. full .Ns a n .0 d h) (ends (classWord p a) (omega arith))))
+          T-of (sym (on-unfixed a n (minimised-unfixed p a k))) (without-U (steps .s6 a n k .1 .1 .1 (λ d. full .Ns a n .0 d h) (ends (classWord p a) (omega arith))))
 
       beaten : (a : ℕ) × OfClass (p .words) (suc j) a × In x (D a) → Beats (p .words) (p .rules) s m
       beaten q =
@@ -173,7 +169,7 @@ module _ (p : Program) (fit : Fit p) (m : ℕ) (preferred : Preferred (p .words)
               q .0,
               q .1,
               stable (has m (q .0)) (λ o. no-U (steps .s6 (q .0) n k .0 (λ d. o (full .originals (q .0) n .0 d)) (q .2))),
-              λ h. no-U (steps .s6 (q .0) n k .1 .0 (q .2) (T-of (on-unfixed (q .0) n (unfixed-of (q .0) k)) h)),
+              λ h. no-U (steps .s6 (q .0) n k .1 .0 (q .2) (T-of (on-unfixed (q .0) n (minimised-unfixed p (q .0) k)) h)),
             );
           }
 

@@ -74,8 +74,8 @@ module _ {A : Type 0} (atoms : List A) (rs : List (Rule A)) where
           let y : ℕ = setOf num d atoms order x in
           let same = set-has num d atoms order x in
           let smaller : Subset y t = λ i h. to-numbers num d atoms order (λ i. In (has y) i → In (has t) i)
-              (all-imp (λ c. (at (has y) c ≡ x c) × (In x c → In (at (has t)) c)) (λ c. In (at (has y)) c → In (at (has t)) c) (λ c q h. q .1 (T-of (q .0) h)) atoms (all-both (λ c. at (has y) c ≡ x c) (λ c. In x c → In (at (has t)) c) atoms same sub))
-              i (has-below (length atoms) y i (set-lt num d atoms order x) h) h in
+          (all-imp (λ c. (at (has y) c ≡ x c) × (In x c → In (at (has t)) c)) (λ c. In (at (has y)) c → In (at (has t)) c) (λ c q h. q .1 (T-of (q .0) h)) atoms (all-both (λ c. at (has y) c ≡ x c) (λ c. In x c → In (at (has t)) c) atoms same sub))
+          i (has-below (length atoms) y i (set-lt num d atoms order x) h) h in
           st .minimal y (record {
             subset = smaller;
             differs = λ e. strict (all-imp (λ c. at (has y) c ≡ x c) (λ c. In (at (has t)) c → In x c) (λ c q h. T-of (q) (T-of (ap (λ (z : ℕ). has z (num c)) (sym e)) h)) atoms same);
