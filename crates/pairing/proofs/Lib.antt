@@ -11,3 +11,5 @@ pub mod StablePreferred
 pub mod PreferredStable
 pub mod Closed
 pub mod Paired
+pub mod SumLaws
+pub mod Sums
