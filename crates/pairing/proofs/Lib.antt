@@ -13,3 +13,4 @@ pub mod Closed
 pub mod Paired
 pub mod SumLaws
 pub mod Sums
+pub mod PlainForm
