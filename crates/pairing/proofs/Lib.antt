@@ -14,3 +14,4 @@ pub mod Paired
 pub mod SumLaws
 pub mod Sums
 pub mod PlainForm
+pub mod Looped
