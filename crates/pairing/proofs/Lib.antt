@@ -15,3 +15,4 @@ pub mod SumLaws
 pub mod Sums
 pub mod PlainForm
 pub mod Looped
+pub mod PlainNames
