@@ -16,3 +16,4 @@ pub mod Sums
 pub mod PlainForm
 pub mod Looped
 pub mod PlainNames
+pub mod Examples
