@@ -1,17 +1,15 @@
 -- The rules of a translation name declared atoms only.
-use Prim.Native.Nat.{ℕ, suc, _-_, _≤_, _<_}
+use Prim.Native.Nat.{ℕ, _-_, _≤_, _<_}
 use native.Mathlib.Omega.{arith}
 use mathlib.Core.Path.{_≡_}
-use mathlib.Core.List.{List, [], _∷_, _++_, map}
+use mathlib.Core.List.{List, map}
 use lib.Dec.{T}
-use lib.ListN.{length}
 use Rattle.rules.specs.Lists.{All, filter}
-use Rattle.rules.specs.Rules.{Rule}
-use Rattle.rules.specs.Preferred.{OfClass, ofClass}
+use Rattle.rules.specs.Preferred.{ofClass}
 use Rattle.rules.proofs.Lists.{all-imp, app-iff, map-iff, filter-iff, all-map}
 use Rattle.rules.proofs.Preferred.{all-of-class}
 use Rattle.stores.specs.Program.{Program}
-use Rattle.pairing.specs.Atoms.{Atom, original, N, S, D, E, U, classWord, fixed?, unfixed?, declared}
+use Rattle.pairing.specs.Atoms.{Atom, original, N, S, D, classWord, fixed?, unfixed?, declared}
 use Rattle.pairing.specs.Steps.{step1, step2, step3, step4, step5, step6, step7, step8, step9, step10, translation}
 use Rattle.pairing.proofs.Quantified.{Each·simp}
 use Rattle.pairing.proofs.Fit.{Fit, Inside, minimised-unfixed}

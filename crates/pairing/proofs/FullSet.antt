@@ -9,7 +9,7 @@ use Rattle.rules.specs.Sets.{In, Out}
 use Rattle.rules.proofs.Booleans.{T-of, T-not-in, T-not-out, bool-ext}
 use Rattle.stores.specs.Program.{Program}
 use Rattle.pairing.specs.Atoms.{Atom, original, N, S, D, E, U, classWord, unfixed?, declared}
-use Rattle.pairing.proofs.Numbering.{Declared, to-declared, of-declared}
+use Rattle.pairing.proofs.Numbering.{to-declared, of-declared}
 
 -- t is the full set over m
 pub record Full (p : Program) (m : ℕ → Bool) (t : Atom → Bool) : Type 0 where

@@ -4,7 +4,7 @@ pub mod ListLaws
 pub mod Fit
 pub mod Asked
 pub mod Numbering
-pub mod Numbered
+pub mod NumberedSets
 pub mod Renamed
 pub mod FullSet
 pub mod StablePreferred

@@ -2,13 +2,12 @@
 use Prim.Native.Nat.{ℕ, suc, _+_, _*_, _≤_, _<_}
 use native.Mathlib.Omega.{arith}
 use mathlib.Core.Path.{_≡_, refl, sym, ap, ap₂, _∙_}
-use mathlib.Core.List.{List, [], _∷_, _++_, map, map-map, map-id, map-append}
-use mathlib.Core.Logic.{_⊎_, inl, inr, _↔_, and-true}
+use mathlib.Core.List.{List, [], _∷_, _++_, map, map-map, map-append}
+use mathlib.Core.Logic.{and-true}
 use lib.Dec.{T, leb→le, le→leb, eqb→eq}
 use lib.ListN.{length, getD, length-append, length-map}
-use Rattle.rules.specs.Lists.{All, Any, from}
+use Rattle.rules.specs.Lists.{All, from}
 use Rattle.rules.proofs.Booleans.{eq→eqb, T-not-in, T-not-out}
-use Rattle.rules.proofs.Lists.{any-app, any-map, any-from}
 use Rattle.stores.specs.Program.{Program}
 use Rattle.pairing.specs.Atoms.{Atom, original, N, S, D, E, U, originals, classWord, minimised?, fixed?, unfixed?, minimisedAtoms, unfixedAtoms, declared, place}
 use Rattle.pairing.proofs.Quantified.{Each·simp}

@@ -2,7 +2,6 @@
 use Prim.Native.Nat.{ℕ, _^_, _<_}
 use native.Mathlib.Nat.{mod-lt}
 use mathlib.Core.Path.{_≡_, refl, sym, ap, _∙_}
-use mathlib.Core.List.{List}
 use mathlib.Core.Bool.{Bool}
 use mathlib.Core.Logic.{_↔_}
 use lib.Pow.{pow-pos}
@@ -19,7 +18,7 @@ use Rattle.pairing.specs.Steps.{translation}
 use Rattle.pairing.specs.Translated.{translated, translatedRules}
 use Rattle.pairing.proofs.Fit.{Fit, fit-of}
 use Rattle.pairing.proofs.Numbering.{to-declared, order}
-use Rattle.pairing.proofs.Numbered.{setOf, set-lt, set-has}
+use Rattle.pairing.proofs.NumberedSets.{setOf, set-lt, set-has}
 use Rattle.pairing.proofs.Renamed.{StableOver, same, stable-up, stable-down}
 use Rattle.pairing.proofs.Closed.{closed}
 use Rattle.pairing.proofs.FullSet.{Full, full, full-set, one-full}

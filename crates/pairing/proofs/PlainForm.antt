@@ -1,5 +1,5 @@
 -- The translation is of the plain form: inside the limits, atom numbers below the count, no list with an atom twice.
-use Prim.Native.Nat.{ℕ, _-_, _≤_, _<_}
+use Prim.Native.Nat.{ℕ, _<_}
 use native.Mathlib.Omega.{arith}
 use mathlib.Core.Path.{_≡_, refl, sym, ap, _∙_}
 use mathlib.Core.List.{List, [], _∷_, _++_, map}
@@ -12,15 +12,15 @@ use Rattle.rules.specs.Rules.{Rule}
 use Rattle.rules.specs.Preferred.{ofClass}
 use Rattle.rules.proofs.Lists.{all-imp, all-both, all-map, app-iff, map-iff}
 use Rattle.stores.specs.Program.{Program, Form, ListForm, RuleForm}
-use Rattle.pairing.specs.Atoms.{Atom, original, N, S, D, E, U, originals, classWord, fixed?, unfixed?, minimised?, minimisedAtoms, fixedAtoms, declared, place}
+use Rattle.pairing.specs.Atoms.{Atom, original, N, S, D, E, U, originals, classWord, fixed?, unfixed?, minimised?, declared, place}
 use Rattle.pairing.specs.Steps.{step1, step2, step3, step4, step5, step6, step7, step8, step9, step10, translation}
-use Rattle.pairing.specs.Translated.{translated, translatedRules, numbers, rename}
+use Rattle.pairing.specs.Translated.{translated, translatedRules, numbers}
 use Rattle.pairing.proofs.Quantified.{Each·simp}
 use Rattle.pairing.proofs.ListLaws.{length-from, all-each, distinct-filter, distinct-from, distinct-map, distinct-inj, distinct-map-app, NoImage}
 use Rattle.pairing.proofs.SumLaws.{length-parts}
 use Rattle.pairing.proofs.Fit.{Fit, Inside, fit-of}
 use Rattle.pairing.proofs.Numbering.{order, known}
-use Rattle.pairing.proofs.Numbered.{of-numbers}
+use Rattle.pairing.proofs.NumberedSets.{of-numbers}
 use Rattle.pairing.proofs.Renamed.{Within}
 use Rattle.pairing.proofs.Closed.{closed}
 use Rattle.pairing.proofs.Sums.{atoms-sum, rules-sum, occurrences-sum}

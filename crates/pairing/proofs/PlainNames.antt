@@ -1,5 +1,5 @@
 -- The translated names fit the plain program: allowed to it, all different, one for each atom, the file's names first.
-use Prim.Native.Nat.{ℕ, suc, _+_, _≤_, _<_}
+use Prim.Native.Nat.{ℕ, suc, _+_, _≤_}
 use native.Mathlib.Omega.{arith}
 use mathlib.Core.Path.{_≡_, refl, sym, ap, subst, _∙_}
 use mathlib.Core.List.{List, [], _∷_, _++_, map, head-eq-of-cons-eq, tail-eq-of-cons-eq}
@@ -10,7 +10,7 @@ use lib.ListN.{length, getD, take, drop, length-map}
 use lib.Seq.{take-at}
 use borrow.Author.Tests.{le-leb, ne-eqb}
 use Rattle.kinds.specs.declared.limits.Kind.the-variants.{Plain, Preference}
-use Rattle.rules.specs.Lists.{All, Distinct, every, from}
+use Rattle.rules.specs.Lists.{All, Distinct, from}
 use Rattle.rules.proofs.Booleans.{T-not-out, eq→eqb}
 use Rattle.rules.proofs.Lists.{all-imp, all-app, all-map, all-from, app-iff, every-from}
 use Rattle.stores.specs.Program.{Program, Form}

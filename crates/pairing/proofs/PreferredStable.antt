@@ -3,16 +3,16 @@ use Prim.Native.Nat.{ℕ, zero, suc, _+_, _-_, _^_, _≤_, _<_}
 use native.Mathlib.Omega.{arith}
 use native.Mathlib.Decide.{ℕ-discrete}
 use mathlib.Core.Path.{_≡_, refl, sym, ap, subst, _∙_}
-use mathlib.Core.List.{List, [], map, map-id}
+use mathlib.Core.List.{map, map-id}
 use mathlib.Core.Bool.{Bool, true, false, not, _&&_, cond}
 use mathlib.Core.Logic.{_⊎_, inl, inr}
-use lib.Dec.{T, eqb→eq}
+use lib.Dec.{T}
 use lib.ListN.{length}
 use Rattle.rules.specs.Lists.{All, Any, from}
 use Rattle.rules.specs.Sets.{has, In, Out}
 use Rattle.rules.specs.Rules.{Rule, Holds, Model}
 use Rattle.rules.specs.Preferred.{fixed, OfClass, Beats, Preferred}
-use Rattle.rules.proofs.Booleans.{decide, stable, T-of, T-and, T-and-l, T-and-r, T-not-in, eq→eqb}
+use Rattle.rules.proofs.Booleans.{stable, T-of, T-and, T-and-l, T-and-r, eq→eqb}
 use Rattle.rules.proofs.Lists.{all-imp, all-both, all-any, any-imp, any-with, any-or-none, from-all}
 use Rattle.stores.specs.Program.{Program}
 use Rattle.pairing.specs.Atoms.{Atom, original, N, S, D, E, U, originals, classWord, fixed?, unfixed?, declared}
@@ -20,8 +20,8 @@ use Rattle.pairing.specs.Steps.{translation}
 use Rattle.pairing.proofs.ListLaws.{length-from, all-each}
 use Rattle.pairing.proofs.Fit.{Fit, Inside, minimised-unfixed}
 use Rattle.pairing.proofs.Asked.{Kept, Copied, Steps, to-steps, of-steps}
-use Rattle.pairing.proofs.Numbering.{Declared, to-declared, of-declared}
-use Rattle.pairing.proofs.Numbered.{setOf, set-lt, set-has}
+use Rattle.pairing.proofs.Numbering.{Declared, of-declared}
+use Rattle.pairing.proofs.NumberedSets.{setOf, set-lt, set-has}
 use Rattle.pairing.proofs.Renamed.{StableOver}
 use Rattle.pairing.proofs.FullSet.{Full}
 

@@ -1,8 +1,8 @@
 -- A program over any atoms, numbered from 0 in declared order, and the same program over the numbers: stable sets go over.
 use Prim.Native.Nat.{ℕ, _^_, _<_}
 use native.Mathlib.Omega.{arith}
-use mathlib.Core.Path.{_≡_, refl, sym, ap}
-use mathlib.Core.List.{List, [], _∷_, map}
+use mathlib.Core.Path.{_≡_, sym, ap}
+use mathlib.Core.List.{List, map}
 use mathlib.Core.Bool.{Bool}
 use lib.ListN.{length}
 use Rattle.rules.specs.Lists.{All, Any, from}
@@ -16,7 +16,7 @@ use Rattle.rules.proofs.Rules.{Asks, model→asks, asks→model, reduct→asks,
 use Rattle.rules.proofs.Stable.{proper-lt}
 use Rattle.pairing.specs.Translated.{rename}
 use Rattle.pairing.proofs.ListLaws.{all-each}
-use Rattle.pairing.proofs.Numbered.{to-numbers, of-numbers, setOf, set-lt, set-has}
+use Rattle.pairing.proofs.NumberedSets.{to-numbers, setOf, set-lt, set-has}
 
 -- Q holds of every atom of a rule
 pub record Within {A : Type 0} (Q : A → Type 0) (r : Rule A) : Type 0 where

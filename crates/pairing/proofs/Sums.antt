@@ -3,19 +3,19 @@ use Prim.Native.Nat.{ℕ, suc, _+_, _*_, _≤_, _<_}
 use native.Mathlib.Omega.{arith}
 use native.Mathlib.Decide.{ℕ-discrete, decLe}
 use mathlib.Core.Path.{_≡_, refl, sym, ap, _∙_}
-use mathlib.Core.List.{List, [], _∷_, _++_, map}
-use mathlib.Core.Logic.{_⊎_, inl, inr}
-use lib.Dec.{T, eqb, leb, eqb→eq, leb→le, le→leb}
+use mathlib.Core.List.{List, map}
+use mathlib.Core.Logic.{inr}
+use lib.Dec.{eqb, leb, eqb→eq, leb→le, le→leb}
 use lib.ListN.{length, length-append, length-map}
 use Rattle.kinds.specs.declared.limits.Kind.the-variants.{Preference}
-use Rattle.rules.specs.Lists.{All, filter, from, sum}
+use Rattle.rules.specs.Lists.{filter, from, sum}
 use Rattle.rules.specs.Rules.{Rule, occurrences}
 use Rattle.rules.specs.Preferred.{ofClass}
 use Rattle.rules.proofs.Booleans.{eq→eqb}
 use Rattle.rules.proofs.Lists.{all-imp, all-from}
 use Rattle.rules.proofs.Sets.{digit}
 use Rattle.stores.specs.Program.{Program, Form}
-use Rattle.pairing.specs.Atoms.{Atom, original, N, S, D, E, U, originals, classWord, minimised?, varying?, fixed?, unfixed?, minimisedAtoms, varyingAtoms, fixedAtoms, unfixedAtoms, place}
+use Rattle.pairing.specs.Atoms.{Atom, original, S, originals, classWord, minimised?, varying?, fixed?, unfixed?, minimisedAtoms, fixedAtoms, unfixedAtoms, place}
 use Rattle.pairing.specs.Steps.{step1, step2, step3, step4, step5, step6, step7, step8, step9, step10, translation}
 use Rattle.pairing.specs.Translated.{translated, translatedRules, numbers, atomsSum, rulesSum, occurrencesSum, rename}
 use Rattle.pairing.proofs.ListLaws.{length-from, all-each}
