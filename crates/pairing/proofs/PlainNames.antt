@@ -9,6 +9,7 @@ use lib.Dec.{T, leb, eqb, ltb}
 use lib.ListN.{length, getD, take, drop, length-map}
 use lib.Seq.{take-at}
 use borrow.Author.Tests.{le-leb, ne-eqb}
+use Rattle.kinds.specs.Limits.{nameLimit, classLimit}
 use Rattle.kinds.specs.declared.limits.Kind.the-variants.{Plain, Preference}
 use Rattle.rules.specs.Lists.{All, Distinct, from}
 use Rattle.rules.proofs.Booleans.{T-not-out, eq→eqb}
@@ -33,7 +34,7 @@ either false c d f g h = g h
 
 not-dotted : (c : ℕ) (x : List ℕ) → T (takes Preference (dotted c x)) → ⊥
 not-dotted c x = either ((eqb c 78 || (eqb c 83 || eqb c 68)) && house? x) (sized x Generated) (pickName (eqb c 69 && classNumber? x) Generated Wrong)
-    (either (leb (length x) 16) Generated TooLong (λ h. h) (λ h. h))
+    (either (leb (length x) nameLimit) Generated TooLong (λ h. h) (λ h. h))
     (either (eqb c 69 && classNumber? x) Generated Wrong (λ h. h) (λ h. h))
 
 not-generated : (x : List ℕ) → T (takes Preference (generated x)) → ⊥
@@ -42,13 +43,13 @@ not-generated x = either (eqb (length x) 1 && eqb (getD x 0 0) 85) Generated (pi
 
 record HouseName (x : List ℕ) : Type 0 where
   form : house? x ≡ true
-  short : leb (length x) 16 ≡ true
+  short : leb (length x) nameLimit ≡ true
 
 house-name : (x : List ℕ) → T (allowed Preference x) → HouseName x
 unfolding allowed nameClass
-house-name x h = step (house? x) (leb (length x) 16) refl refl h
+house-name x h = step (house? x) (leb (length x) nameLimit) refl refl h
   where
-    step : (b c : Bool) → house? x ≡ b → leb (length x) 16 ≡ c → T (takes Preference (pickName b (pickName c House TooLong) (generated x))) → HouseName x
+    step : (b c : Bool) → house? x ≡ b → leb (length x) nameLimit ≡ c → T (takes Preference (pickName b (pickName c House TooLong) (generated x))) → HouseName x
     step true true e f h = record { form = e; short = f }
     step true false e f h = absurd h
     step false c e f h = absurd (not-generated x h)
@@ -64,9 +65,9 @@ dot-allowed c x l d h =
     let two : leb 2 (suc (suc (length x))) ≡ true = le-leb 2 (suc (suc (length x))) (omega arith) in
     simp (l, long, two, d, h .form, h .short) tt
 
-end-allowed : (j : ℕ) → j ≤ 16 → T (allowed Plain (dot 69 (decimal j)))
+end-allowed : (j : ℕ) → j ≤ classLimit → T (allowed Plain (dot 69 (decimal j)))
 unfolding allowed nameClass house? classNumber?
-end-allowed j l = every-from (λ j. allowed Plain (dot 69 (decimal j))) (λ j. T (allowed Plain (dot 69 (decimal j)))) (λ j. Iff·rfl) 0 17 .0 tt j (omega arith) (omega arith)
+end-allowed j l = every-from (λ j. allowed Plain (dot 69 (decimal j))) (λ j. T (allowed Plain (dot 69 (decimal j)))) (λ j. Iff·rfl) 0 (suc classLimit) .0 tt j (omega arith) (omega arith)
 
 -- the names differ
 

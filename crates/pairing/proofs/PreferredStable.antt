@@ -18,7 +18,7 @@ use Rattle.stores.specs.Program.{Program}
 use Rattle.pairing.specs.Atoms.{Atom, original, N, S, D, E, U, originals, classWord, fixed?, unfixed?, declared}
 use Rattle.pairing.specs.Steps.{translation}
 use Rattle.pairing.proofs.ListLaws.{length-from, all-each}
-use Rattle.pairing.proofs.Fit.{Fit, Inside, minimised-unfixed}
+use Rattle.pairing.proofs.Fit.{Fit, Minimised, Inside, minimised-unfixed}
 use Rattle.pairing.proofs.Asked.{Kept, Copied, Steps, to-steps, of-steps}
 use Rattle.pairing.proofs.Numbering.{Declared, of-declared}
 use Rattle.pairing.proofs.NumberedSets.{setOf, set-lt, set-has}
@@ -143,21 +143,21 @@ module _ (p : Program) (fit : Fit p) (m : ℕ) (preferred : Preferred (p .words)
       m-of a i c l h =
           let n = inside-of a i c in
           let e : classWord p a ≡ i = c .1 in
-          let k : classWord p a ≤ 16 = omega (arith, fit .classes) in
+          let k : Minimised p a = omega (arith, fit .classes) in
           stable (has m a) (λ o. no-U (steps .s6 a n k .1 .1 .0 (λ d. o (full .originals a n .0 d)) (ends (classWord p a - 1) (omega arith)) (T-of (on-unfixed a n (minimised-unfixed p a k)) h)))
 
       of-m : (a i : ℕ) → OfClass (p .words) i a → i ≤ j → In (has m) a → In (has s) a
       of-m a i c l h =
           let n = inside-of a i c in
           let e : classWord p a ≡ i = c .1 in
-          let k : classWord p a ≤ 16 = omega (arith, fit .classes) in
+          let k : Minimised p a = omega (arith, fit .classes) in
           T-of (sym (on-unfixed a n (minimised-unfixed p a k))) (without-U (steps .s6 a n k .1 .1 .1 (λ d. full .Ns a n .0 d h) (ends (classWord p a) (omega arith))))
 
       beaten : (a : ℕ) × OfClass (p .words) (suc j) a × In x (D a) → Beats (p .words) (p .rules) s m
       beaten q =
           let n = inside-of (q .0) (suc j) (q .1) in
           let e : classWord p (q .0) ≡ suc j = q .1 .1 in
-          let k : classWord p (q .0) ≤ 16 = omega (arith, fit .classes) in
+          let k : Minimised p (q .0) = omega (arith, fit .classes) in
           record {
             model = s-model;
             agrees = λ a c. let f = on-fixed a (inside-of a fixed c) (eq→eqb (classWord p a) fixed (c .1)) in (T-of f, T-of (sym f));

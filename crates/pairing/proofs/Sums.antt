@@ -7,10 +7,11 @@ use mathlib.Core.List.{List, map}
 use mathlib.Core.Logic.{inr}
 use lib.Dec.{eqb, leb, eqb→eq, leb→le, le→leb}
 use lib.ListN.{length, length-append, length-map}
+use Rattle.kinds.specs.Limits.{classLimit}
 use Rattle.kinds.specs.declared.limits.Kind.the-variants.{Preference}
 use Rattle.rules.specs.Lists.{filter, from, sum}
 use Rattle.rules.specs.Rules.{Rule, occurrences}
-use Rattle.rules.specs.Preferred.{ofClass}
+use Rattle.rules.specs.Preferred.{varying, fixed, ofClass}
 use Rattle.rules.proofs.Booleans.{eq→eqb}
 use Rattle.rules.proofs.Lists.{all-imp, all-from}
 use Rattle.rules.proofs.Sets.{digit}
@@ -20,7 +21,7 @@ use Rattle.pairing.specs.Steps.{step1, step2, step3, step4, step5, step6
 use Rattle.pairing.specs.Translated.{translated, translatedRules, numbers, atomsSum, rulesSum, occurrencesSum, rename}
 use Rattle.pairing.proofs.ListLaws.{length-from, all-each}
 use Rattle.pairing.proofs.SumLaws.{sum-app, sum-add, sum-const, sum-eq, sum-map, sum-flat, sum-swap, length-flat, length-filter, length-parts, digit-same, digit-other, met, met-not, met-once}
-use Rattle.pairing.proofs.Fit.{Fit, Inside, fit-of}
+use Rattle.pairing.proofs.Fit.{Fit, Minimised, Inside, fit-of}
 use Rattle.pairing.proofs.Numbering.{count}
 
 module _ (p : Program) where
@@ -122,11 +123,11 @@ module _ (p : Program) where
 
     -- each minimised atom is in one class
     met-minimised : (a : ℕ) → a < n → met (classWord p a) 1 k ≡ digit (minimised? p a)
-    met-minimised a l = step (decLe (classWord p a) 16)
+    met-minimised a l = step (decLe (classWord p a) classLimit)
       where
-        step : Dec (classWord p a ≤ 16) → met (classWord p a) 1 k ≡ digit (minimised? p a)
-        step (yes c) = met-once (classWord p a) 1 k (fit .low a l) (omega (arith, fit .class a l c)) ∙ sym (digit-same (minimised? p a) (le→leb (classWord p a) 16 c))
-        step (no c) = met-not (classWord p a) 1 k (inr (omega (arith, fit .classes))) ∙ sym (digit-other (minimised? p a) (λ t. c (leb→le (classWord p a) 16 t)))
+        step : Dec (Minimised p a) → met (classWord p a) 1 k ≡ digit (minimised? p a)
+        step (yes c) = met-once (classWord p a) 1 k (fit .low a l) (omega (arith, fit .class a l c)) ∙ sym (digit-same (minimised? p a) (le→leb (classWord p a) classLimit c))
+        step (no c) = met-not (classWord p a) 1 k (inr (omega (arith, fit .classes))) ∙ sym (digit-other (minimised? p a) (λ t. c (leb→le (classWord p a) classLimit t)))
 
     classes-sum : sum (λ i. length (ofClass (p .words) i)) (from 1 k) ≡ m
     classes-sum =
@@ -204,10 +205,10 @@ module _ (p : Program) (kind : p .kind ≡ Preference) (form : Form p) where
       one : (a : ℕ) → a < p .atoms → digit (minimised? p a) + digit (varying? p a) + digit (fixed? p a) ≡ 1
       one a l = step (classWord p a) (fit-of p kind form .high a l)
         where
-          step : (w : ℕ) → w ≤ 18 → digit (leb w 16) + digit (eqb w 17) + digit (eqb w 18) ≡ 1
-          step w h = go (decLe w 16) (ℕ-discrete w 17)
+          step : (w : ℕ) → w ≤ fixed → digit (leb w classLimit) + digit (eqb w varying) + digit (eqb w fixed) ≡ 1
+          step w h = go (decLe w classLimit) (ℕ-discrete w varying)
             where
-              go : Dec (w ≤ 16) → Dec (w ≡ 17) → digit (leb w 16) + digit (eqb w 17) + digit (eqb w 18) ≡ 1
-              go (yes c) d = omega (arith, digit-same (leb w 16) (le→leb w 16 c), digit-other (eqb w 17) (λ t. let e = eqb→eq w 17 t in omega arith), digit-other (eqb w 18) (λ t. let e = eqb→eq w 18 t in omega arith))
-              go (no c) (yes d) = omega (arith, digit-other (leb w 16) (λ t. c (leb→le w 16 t)), digit-same (eqb w 17) (eq→eqb w 17 d), digit-other (eqb w 18) (λ t. let e = eqb→eq w 18 t in omega arith))
-              go (no c) (no d) = omega (arith, digit-other (leb w 16) (λ t. c (leb→le w 16 t)), digit-other (eqb w 17) (λ t. d (eqb→eq w 17 t)), digit-same (eqb w 18) (eq→eqb w 18 (omega arith)))
+              go : Dec (w ≤ classLimit) → Dec (w ≡ varying) → digit (leb w classLimit) + digit (eqb w varying) + digit (eqb w fixed) ≡ 1
+              go (yes c) d = omega (arith, digit-same (leb w classLimit) (le→leb w classLimit c), digit-other (eqb w varying) (λ t. let e = eqb→eq w varying t in omega arith), digit-other (eqb w fixed) (λ t. let e = eqb→eq w fixed t in omega arith))
+              go (no c) (yes d) = omega (arith, digit-other (leb w classLimit) (λ t. c (leb→le w classLimit t)), digit-same (eqb w varying) (eq→eqb w varying d), digit-other (eqb w fixed) (λ t. let e = eqb→eq w fixed t in omega arith))
+              go (no c) (no d) = omega (arith, digit-other (leb w classLimit) (λ t. c (leb→le w classLimit t)), digit-other (eqb w varying) (λ t. d (eqb→eq w varying t)), digit-same (eqb w fixed) (eq→eqb w fixed (omega arith)))
