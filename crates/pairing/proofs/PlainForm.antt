@@ -3,13 +3,15 @@ use Prim.Native.Nat.{ℕ, _<_}
 use native.Mathlib.Omega.{arith}
 use mathlib.Core.Path.{_≡_, refl, sym, ap, _∙_}
 use mathlib.Core.List.{List, [], _∷_, _++_, map}
+use mathlib.Core.Bool.{not}
 use mathlib.Core.Logic.{_≢_}
-use lib.Dec.{eqb}
+use lib.Dec.{T, eqb}
 use lib.ListN.{length, getD}
 use Rattle.kinds.specs.declared.limits.Kind.the-variants.{Plain, Preference}
 use Rattle.rules.specs.Lists.{All, Distinct, filter, from}
 use Rattle.rules.specs.Rules.{Rule}
 use Rattle.rules.specs.Preferred.{ofClass}
+use Rattle.rules.proofs.Booleans.{T-not-out, eq→eqb}
 use Rattle.rules.proofs.Lists.{all-imp, all-both, all-map, app-iff, map-iff}
 use Rattle.stores.specs.Program.{Program, Form, ListForm, RuleForm}
 use Rattle.pairing.specs.Atoms.{Atom, original, N, S, D, E, U, originals, classWord, fixed?, unfixed?, minimised?, declared, place}
@@ -26,30 +28,16 @@ use Rattle.pairing.proofs.Closed.{closed}
 use Rattle.pairing.proofs.Sums.{atoms-sum, rules-sum, occurrences-sum}
 
 -- atoms of two kinds differ
+abbrev kindOf : Atom → ℕ
+kindOf (original a) = 0
+kindOf (N a) = 1
+kindOf (S a) = 2
+kindOf (D a) = 3
+kindOf (E j) = 4
+kindOf U = 5
 
-original≢N : (a b : ℕ) → original a ≢ N b
-original≢N a b e = let z : _≡_ {A = ℕ} 0 1 = cc in omega arith
-
-S≢original : (a b : ℕ) → S a ≢ original b
-S≢original a b e = let z : _≡_ {A = ℕ} 0 1 = cc in omega arith
-
-S≢U : (a : ℕ) → S a ≢ U
-S≢U a e = let z : _≡_ {A = ℕ} 0 1 = cc in omega arith
-
-D≢S : (a b : ℕ) → D a ≢ S b
-D≢S a b e = let z : _≡_ {A = ℕ} 0 1 = cc in omega arith
-
-D≢E : (a b : ℕ) → D a ≢ E b
-D≢E a b e = let z : _≡_ {A = ℕ} 0 1 = cc in omega arith
-
-D≢U : (a : ℕ) → D a ≢ U
-D≢U a e = let z : _≡_ {A = ℕ} 0 1 = cc in omega arith
-
-E≢S : (a b : ℕ) → E a ≢ S b
-E≢S a b e = let z : _≡_ {A = ℕ} 0 1 = cc in omega arith
-
-E≢U : (a : ℕ) → E a ≢ U
-E≢U a e = let z : _≡_ {A = ℕ} 0 1 = cc in omega arith
+differ : (c d : Atom) → T (not (eqb (kindOf c) (kindOf d))) → c ≢ d
+differ c d h e = T-not-out (eqb (kindOf c) (kindOf d)) h (eq→eqb (kindOf c) (kindOf d) (ap kindOf e))
 
 -- no list of a rule has an atom twice
 pub record Single {A : Type 0} (r : Rule A) : Type 0 where
@@ -76,32 +64,32 @@ module _ (p : Program) (fit : Fit p) where
   single2 = simp map-iff (all-imp (Inside (p .atoms)) _ (λ r i. record {
     head = tt;
     body = tt;
-    nots = distinct-map-app original (λ a b e. cc) (r .head) (map N (r .body)) (i .head-distinct) (distinct-inj N (λ a b e. cc) (r .body) (i .body-distinct)) (simp map-iff (all-each _ (λ b a. original≢N a b) (r .body)));
+    nots = distinct-map-app original (λ a b e. cc) (r .head) (map N (r .body)) (i .head-distinct) (distinct-inj N (λ a b e. cc) (r .body) (i .body-distinct)) (simp map-iff (all-each _ (λ b a. differ (original a) (N b) tt) (r .body)));
   }) (p .rules) (fit .rules))
 
   single3 : All Single (step3 p)
   unfolding step3
   single3 = simp map-iff (all-imp (Inside (p .atoms)) _ (λ r i. record {
-    head = copies (r .head) (U ∷ []) (i .head-distinct) (tt, tt) (S≢U, tt);
-    body = copies (r .body) (map original (filter (fixed? p) (r .body))) (i .body-distinct) (themselves (r .body) (i .body-distinct)) (simp map-iff (all-each _ (λ b a. S≢original a b) (filter (fixed? p) (r .body))));
+    head = copies (r .head) (U ∷ []) (i .head-distinct) (tt, tt) ((λ a. differ (S a) U tt), tt);
+    body = copies (r .body) (map original (filter (fixed? p) (r .body))) (i .body-distinct) (themselves (r .body) (i .body-distinct)) (simp map-iff (all-each _ (λ b a. differ (S a) (original b) tt) (filter (fixed? p) (r .body))));
     nots = themselves (r .head) (i .head-distinct);
   }) (p .rules) (fit .rules))
 
   single4 : All Single (step4 p)
   unfolding step4
-  single4 = search E≢U
+  single4 = search differ
 
   single5 : All Single (step5 p)
   unfolding step5
   single5 = simp Each·simp (λ i l u. record {
-    head = distinct-map-app D (λ a b e. cc) (ofClass (p .words) i) (E i ∷ U ∷ []) (distinct-filter (λ a. eqb (classWord p a) i) (from 0 (length (p .words))) (distinct-from 0 (length (p .words)))) ((E≢U i, tt), (tt, tt)) ((λ a. D≢E a i), (D≢U, tt));
+    head = distinct-map-app D (λ a b e. cc) (ofClass (p .words) i) (E i ∷ U ∷ []) (distinct-filter (λ a. eqb (classWord p a) i) (from 0 (length (p .words))) (distinct-from 0 (length (p .words)))) ((differ (E i) U tt, tt), (tt, tt)) ((λ a. differ (D a) (E i) tt), ((λ a. differ (D a) U tt), tt));
     body = (tt, tt);
     nots = tt;
   })
 
   single6 : All Single (step6 p)
   unfolding step6
-  single6 = simp Each·simp (λ a l c. search (D≢S, E≢S, S≢U))
+  single6 = simp Each·simp (λ a l c. search differ)
 
   single7 : All Single (step7 p)
   unfolding step7

@@ -78,7 +78,7 @@ module _ {A : Type 0} (atoms : List A) (rs : List (Rule A)) where
           i (has-below (length atoms) y i (set-lt num d atoms order x) h) h in
           st .minimal y (record {
             subset = smaller;
-            differs = λ e. strict (all-imp (λ c. at (has y) c ≡ x c) (λ c. In (at (has t)) c → In x c) (λ c q h. T-of (q) (T-of (ap (λ (z : ℕ). has z (num c)) (sym e)) h)) atoms same);
+            differs = λ e. strict (all-imp (λ c. at (has y) c ≡ x c) (λ c. In (at (has t)) c → In x c) (λ c q h. T-of q (T-of (ap (λ (z : ℕ). has z (num c)) (sym e)) h)) atoms same);
           })
           (asks→reduct (map (rename num) rs) (has t) (has y) (down (has t) (has y)
           (all-imp (λ r. Within (λ c. x c ≡ at (has y) c) r × Asks (at (has t)) x r) (Asks (at (has t)) (at (has y))) (λ r q. asks-congr (at (has t)) x (at (has y)) r (q .0) (q .1)) rs
