@@ -1,4 +1,4 @@
--- What the reduct of a translation by m asks of x, step by step. No law past this file looks at a rule of the translation for it.
+-- What the reduct of a translation by m asks of x, step by step: the pairing is proved from this record and not from the rules.
 use Prim.Native.Nat.{ℕ, suc, _-_, _≤_, _<_}
 use mathlib.Core.List.{List, [], _∷_, _++_, map}
 use mathlib.Core.Bool.{Bool}
@@ -14,6 +14,7 @@ use Rattle.rules.proofs.Preferred.{any-of-class}
 use Rattle.stores.specs.Program.{Program}
 use Rattle.pairing.specs.Atoms.{Atom, original, N, S, D, E, U, classWord, fixed?, unfixed?}
 use Rattle.pairing.specs.Steps.{step1, step2, step3, step4, step5, step6, step7, step8, step9, step10, translation}
+use Rattle.pairing.proofs.Fit.{Minimised}
 use Rattle.pairing.proofs.Quantified.{Each·simp, Asked·simp, or-iff, or-none, or-last, all-iff, any-app-iff, any-chosen-iff}
 
 module _ (p : Program) (m x : Atom → Bool) where
@@ -34,7 +35,7 @@ module _ (p : Program) (m x : Atom → Bool) where
   Asked5 = (i : ℕ) → 1 ≤ i → i ≤ p .classes → In x (E (i - 1)) → ((a : ℕ) × OfClass (p .words) i a × In x (D a)) ⊎ (In x (E i) ⊎ In x U)
 
   abbrev pub Asked6 : Type 0
-  Asked6 = (a : ℕ) → a < p .atoms → classWord p a ≤ 16
+  Asked6 = (a : ℕ) → a < p .atoms → Minimised p a
       → (Out m (original a) → In x (D a) → In x U)
       × ((In x (D a) → In x (S a) → In x U)
       × ((Out m (original a) → In x (E (classWord p a - 1)) → In x (S a) → In x U)
@@ -48,7 +49,7 @@ module _ (p : Program) (m x : Atom → Bool) where
     pub s5 : Asked5
     pub s6 : Asked6
     pub s7 : (a : ℕ) → a < p .atoms → T (unfixed? p a) → In x U → In x (S a)
-    pub s8 : (a : ℕ) → a < p .atoms → classWord p a ≤ 16 → In x U → In x (D a)
+    pub s8 : (a : ℕ) → a < p .atoms → Minimised p a → In x U → In x (D a)
     pub s9 : (j : ℕ) → j < suc (p .classes) → In x U → In x (E j)
     pub s10 : (In x (E (p .classes)) → In x U) × (Out m U → ⊥)
 
@@ -87,7 +88,7 @@ module _ (p : Program) (m x : Atom → Bool) where
   unfolding step7
   asked7 = simp (Each·simp, Asked·simp) Iff·rfl
 
-  asked8 : All (Asks m x) (step8 p) ↔ ((a : ℕ) → a < p .atoms → classWord p a ≤ 16 → In x U → In x (D a))
+  asked8 : All (Asks m x) (step8 p) ↔ ((a : ℕ) → a < p .atoms → Minimised p a → In x U → In x (D a))
   unfolding step8
   asked8 = simp (Each·simp, Asked·simp) Iff·rfl
 

@@ -4,16 +4,23 @@ use native.Mathlib.Omega.{arith}
 use native.Mathlib.Decide.{ℕ-discrete, decLe}
 use mathlib.Core.Path.{_≡_, sym, subst}
 use mathlib.Core.List.{List, [], _∷_}
+use mathlib.Core.Logic.{_⊎_, inl, inr}
+use lib.Dec.{T, eqb→eq}
 use lib.ListN.{length, getD}
-use Rattle.kinds.specs.Limits.{atomLimit, ruleLimit, occurrenceLimit}
+use Rattle.kinds.specs.Limits.{atomLimit, ruleLimit, occurrenceLimit, classLimit}
 use Rattle.kinds.specs.declared.limits.Kind.{Kind}
 use Rattle.kinds.specs.declared.limits.Kind.the-variants.{Preference}
 use Rattle.rules.specs.Lists.{All, Distinct, sum}
 use Rattle.rules.specs.Rules.{Rule, occurrences}
+use Rattle.rules.specs.Preferred.{varying, fixed}
+use Rattle.rules.proofs.Booleans.{decide, T-not-in}
 use Rattle.rules.proofs.Lists.{all-imp}
 use Rattle.stores.specs.Program.{Program, Form, ClassesForm, RuleForm, RoleForm, Rising, roleOf}
 use Rattle.stores.proofs.ClassWord.{minimised, below, above}
-use Rattle.pairing.specs.Atoms.{classWord}
+use Rattle.pairing.specs.Atoms.{classWord, fixed?, unfixed?}
+
+abbrev pub Minimised : Program → ℕ → Type 0
+Minimised p a = classWord p a ≤ classLimit
 
 -- a rule of a preference program with n atoms
 pub record Inside (n : ℕ) (r : Rule ℕ) : Type 0 where
@@ -25,15 +32,15 @@ pub record Inside (n : ℕ) (r : Rule ℕ) : Type 0 where
 
 pub record Fit (p : Program) : Type 0 where
   pub count : length (p .words) ≡ p .atoms
-  pub classes : p .classes ≤ 16
+  pub classes : p .classes ≤ classLimit
   pub low : (a : ℕ) → a < p .atoms → 1 ≤ classWord p a
-  pub class : (a : ℕ) → a < p .atoms → classWord p a ≤ 16 → classWord p a ≤ p .classes
-  pub high : (a : ℕ) → a < p .atoms → classWord p a ≤ 18
+  pub class : (a : ℕ) → a < p .atoms → Minimised p a → classWord p a ≤ p .classes
+  pub high : (a : ℕ) → a < p .atoms → classWord p a ≤ fixed
   pub rising : (a b : ℕ) → a < b → b < p .atoms → classWord p a ≤ classWord p b
   pub rules : All (Inside (p .atoms)) (p .rules)
-  pub atoms-fit : p .atoms ≤ 256
-  pub rules-fit : length (p .rules) ≤ 1024
-  pub occurrences-fit : sum occurrences (p .rules) ≤ 8192
+  pub atoms-fit : p .atoms ≤ atomLimit Preference
+  pub rules-fit : length (p .rules) ≤ ruleLimit Preference
+  pub occurrences-fit : sum occurrences (p .rules) ≤ occurrenceLimit Preference
 
 all-at : (P : ℕ → Type 0) (l : List ℕ) → All P l → (i : ℕ) → i < length l → P (getD l i 0)
 all-at P [] h i u = absurd (omega arith)
@@ -55,18 +62,18 @@ rising-at b (x ∷ l) h (suc i) (suc j) m u = rising-at x l (h .1) i j (omega ar
 -- 1 to 16 a class that is there, 17 varying, 18 fixed
 record Word (k w : ℕ) : Type 0 where
   low : 1 ≤ w
-  class : w ≤ 16 → w ≤ k
-  high : w ≤ 18
+  class : w ≤ classLimit → w ≤ k
+  high : w ≤ fixed
 
 word : (k w : ℕ) → RoleForm k (roleOf w) → Word k w
-word k w h = first (decLe 1 w) (decLe w 16)
+word k w h = first (decLe 1 w) (decLe w classLimit)
   where
-    first : Dec (1 ≤ w) → Dec (w ≤ 16) → Word k w
+    first : Dec (1 ≤ w) → Dec (w ≤ classLimit) → Word k w
     first (no l) u = absurd (subst (RoleForm k) (sym (below w (omega arith))) h)
     first (yes l) (yes u) = record { low = l; class = λ c. subst (RoleForm k) (sym (minimised w l u)) h; high = omega arith }
-    first (yes l) (no u) = last (ℕ-discrete w 17) (ℕ-discrete w 18)
+    first (yes l) (no u) = last (ℕ-discrete w varying) (ℕ-discrete w fixed)
       where
-        last : Dec (w ≡ 17) → Dec (w ≡ 18) → Word k w
+        last : Dec (w ≡ varying) → Dec (w ≡ fixed) → Word k w
         last (no e) (no f) = absurd (subst (RoleForm k) (sym (above w (omega arith) e f)) h)
         last (yes e) f = record { low = l; class = λ c. absurd (u c); high = omega arith }
         last (no e) (yes f) = record { low = l; class = λ c. absurd (u c); high = omega arith }
@@ -91,3 +98,15 @@ fit-of p e f =
   where
     words : ClassesForm Preference (p .atoms) (p .classes) (p .words) → (a : ℕ) → a < length (p .words) → Word (p .classes) (classWord p a)
     words c a l = word (p .classes) (classWord p a) (all-at (λ w. RoleForm (p .classes) (roleOf w)) (p .words) (c .2) a l)
+
+-- an atom is fixed or not
+pub fixed-or : (p : Program) (a : ℕ) → T (fixed? p a) ⊎ T (unfixed? p a)
+fixed-or p a = step (decide (fixed? p a))
+  where
+    step : T (fixed? p a) ⊎ (T (fixed? p a) → ⊥) → T (fixed? p a) ⊎ T (unfixed? p a)
+    step (inl h) = inl h
+    step (inr h) = inr (T-not-in (fixed? p a) h)
+
+-- a minimised atom is not
+pub minimised-unfixed : (p : Program) (a : ℕ) → Minimised p a → T (unfixed? p a)
+minimised-unfixed p a c = T-not-in (fixed? p a) (λ e. let k : classWord p a ≡ fixed = eqb→eq (classWord p a) fixed e in omega arith)

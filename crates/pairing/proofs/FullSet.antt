@@ -1,5 +1,5 @@
 -- The set that a preferred set pairs with: the set itself, N. of the atoms outside it, and every S., D., E. and U.
-use Prim.Native.Nat.{ℕ, suc, _≤_, _<_}
+use Prim.Native.Nat.{ℕ, suc, _<_}
 use mathlib.Core.Path.{_≡_, sym}
 use mathlib.Core.Bool.{Bool, true, not}
 use mathlib.Core.Logic.{_↔_}
@@ -8,15 +8,16 @@ use Rattle.rules.specs.Lists.{All}
 use Rattle.rules.specs.Sets.{In, Out}
 use Rattle.rules.proofs.Booleans.{T-of, T-not-in, T-not-out, bool-ext}
 use Rattle.stores.specs.Program.{Program}
-use Rattle.pairing.specs.Atoms.{Atom, original, N, S, D, E, U, classWord, unfixed?, declared}
-use Rattle.pairing.proofs.Numbering.{Declared, to-declared, of-declared}
+use Rattle.pairing.specs.Atoms.{Atom, original, N, S, D, E, U, unfixed?, declared}
+use Rattle.pairing.proofs.Fit.{Minimised}
+use Rattle.pairing.proofs.Numbering.{to-declared, of-declared}
 
 -- t is the full set over m
 pub record Full (p : Program) (m : ℕ → Bool) (t : Atom → Bool) : Type 0 where
   pub originals : (a : ℕ) → a < p .atoms → In t (original a) ↔ In m a
   pub Ns : (a : ℕ) → a < p .atoms → In t (N a) ↔ Out m a
   pub Ss : (a : ℕ) → a < p .atoms → T (unfixed? p a) → In t (S a)
-  pub Ds : (a : ℕ) → a < p .atoms → classWord p a ≤ 16 → In t (D a)
+  pub Ds : (a : ℕ) → a < p .atoms → Minimised p a → In t (D a)
   pub Es : (j : ℕ) → j < suc (p .classes) → In t (E j)
   pub Us : In t U
 

@@ -1,19 +1,20 @@
 -- The declared atoms: kind by kind, and numbered from 0 by their places.
-use Prim.Native.Nat.{ℕ, suc, _+_, _*_, _≤_, _<_}
+use Prim.Native.Nat.{ℕ, suc, _+_, _*_, _<_}
 use native.Mathlib.Omega.{arith}
 use mathlib.Core.Path.{_≡_, refl, sym, ap, ap₂, _∙_}
-use mathlib.Core.List.{List, [], _∷_, _++_, map, map-map, map-id, map-append}
-use mathlib.Core.Logic.{_⊎_, inl, inr, _↔_, and-true}
+use mathlib.Core.List.{List, [], _∷_, _++_, map, map-map, map-append}
+use mathlib.Core.Logic.{and-true}
 use lib.Dec.{T, leb→le, le→leb, eqb→eq}
 use lib.ListN.{length, getD, length-append, length-map}
-use Rattle.rules.specs.Lists.{All, Any, from}
+use Rattle.kinds.specs.Limits.{classLimit}
+use Rattle.rules.specs.Lists.{All, from}
+use Rattle.rules.specs.Preferred.{fixed}
 use Rattle.rules.proofs.Booleans.{eq→eqb, T-not-in, T-not-out}
-use Rattle.rules.proofs.Lists.{any-app, any-map, any-from}
 use Rattle.stores.specs.Program.{Program}
 use Rattle.pairing.specs.Atoms.{Atom, original, N, S, D, E, U, originals, classWord, minimised?, fixed?, unfixed?, minimisedAtoms, unfixedAtoms, declared, place}
 use Rattle.pairing.proofs.Quantified.{Each·simp}
 use Rattle.pairing.proofs.ListLaws.{length-from, from-append, shifted, map-eq, filter-first, found}
-use Rattle.pairing.proofs.Fit.{Fit}
+use Rattle.pairing.proofs.Fit.{Fit, Minimised}
 
 module _ (p : Program) where
   -- what holds of every declared atom
@@ -21,7 +22,7 @@ module _ (p : Program) where
     pub originals : (a : ℕ) → a < p .atoms → Q (original a)
     pub Ns : (a : ℕ) → a < p .atoms → Q (N a)
     pub Ss : (a : ℕ) → a < p .atoms → T (unfixed? p a) → Q (S a)
-    pub Ds : (a : ℕ) → a < p .atoms → classWord p a ≤ 16 → Q (D a)
+    pub Ds : (a : ℕ) → a < p .atoms → Minimised p a → Q (D a)
     pub Es : (j : ℕ) → j < suc (p .classes) → Q (E j)
     pub Us : Q U
 
@@ -44,16 +45,16 @@ module _ (p : Program) where
   module _ (fit : Fit p) where
     pub unfixed-first : unfixedAtoms p ≡ from 0 (length (unfixedAtoms p))
     unfixed-first = filter-first (unfixed? p) 0 (p .atoms) (λ a b l m u t. T-not-in (fixed? p a) (λ e.
-        let w : classWord p a ≡ 18 = eqb→eq (classWord p a) 18 e in
+        let w : classWord p a ≡ fixed = eqb→eq (classWord p a) fixed e in
         let n : b < p .atoms = omega arith in
         let r = fit .rising a b m n in
         let h = fit .high b n in
-        T-not-out (fixed? p b) t (eq→eqb (classWord p b) 18 (omega arith))))
+        T-not-out (fixed? p b) t (eq→eqb (classWord p b) fixed (omega arith))))
 
     pub minimised-first : minimisedAtoms p ≡ from 0 (length (minimisedAtoms p))
     minimised-first = filter-first (minimised? p) 0 (p .atoms) (λ a b l m u t.
-        let w : classWord p b ≤ 16 = leb→le (classWord p b) 16 t in
-        le→leb (classWord p a) 16 (omega (arith, fit .rising a b m (omega arith))))
+        let w : Minimised p b = leb→le (classWord p b) classLimit t in
+        le→leb (classWord p a) classLimit (omega (arith, fit .rising a b m (omega arith))))
 
     -- a run of c atoms numbered from s, and what follows it
     run : (f : ℕ → Atom) (s : ℕ) (l : List ℕ) (c : ℕ) → ((a : ℕ) → place p (f a) ≡ s + a) → l ≡ from 0 c → map (place p) (map f l) ≡ from s c

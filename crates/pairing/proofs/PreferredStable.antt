@@ -3,25 +3,25 @@ use Prim.Native.Nat.{ℕ, zero, suc, _+_, _-_, _^_, _≤_, _<_}
 use native.Mathlib.Omega.{arith}
 use native.Mathlib.Decide.{ℕ-discrete}
 use mathlib.Core.Path.{_≡_, refl, sym, ap, subst, _∙_}
-use mathlib.Core.List.{List, [], map, map-id}
+use mathlib.Core.List.{map, map-id}
 use mathlib.Core.Bool.{Bool, true, false, not, _&&_, cond}
 use mathlib.Core.Logic.{_⊎_, inl, inr}
-use lib.Dec.{T, eqb→eq}
+use lib.Dec.{T}
 use lib.ListN.{length}
 use Rattle.rules.specs.Lists.{All, Any, from}
 use Rattle.rules.specs.Sets.{has, In, Out}
 use Rattle.rules.specs.Rules.{Rule, Holds, Model}
 use Rattle.rules.specs.Preferred.{fixed, OfClass, Beats, Preferred}
-use Rattle.rules.proofs.Booleans.{decide, stable, T-of, T-and, T-and-l, T-and-r, T-not-in, eq→eqb}
+use Rattle.rules.proofs.Booleans.{stable, T-of, T-and, T-and-l, T-and-r, eq→eqb}
 use Rattle.rules.proofs.Lists.{all-imp, all-both, all-any, any-imp, any-with, any-or-none, from-all}
 use Rattle.stores.specs.Program.{Program}
 use Rattle.pairing.specs.Atoms.{Atom, original, N, S, D, E, U, originals, classWord, fixed?, unfixed?, declared}
 use Rattle.pairing.specs.Steps.{translation}
 use Rattle.pairing.proofs.ListLaws.{length-from, all-each}
-use Rattle.pairing.proofs.Fit.{Fit, Inside}
+use Rattle.pairing.proofs.Fit.{Fit, Minimised, Inside, minimised-unfixed}
 use Rattle.pairing.proofs.Asked.{Kept, Copied, Steps, to-steps, of-steps}
-use Rattle.pairing.proofs.Numbering.{Declared, to-declared, of-declared}
-use Rattle.pairing.proofs.Numbered.{setOf, set-lt, set-has}
+use Rattle.pairing.proofs.Numbering.{Declared, of-declared}
+use Rattle.pairing.proofs.NumberedSets.{setOf, set-lt, set-has}
 use Rattle.pairing.proofs.Renamed.{StableOver}
 use Rattle.pairing.proofs.FullSet.{Full}
 
@@ -134,10 +134,6 @@ module _ (p : Program) (fit : Fit p) (m : ℕ) (preferred : Preferred (p .words)
     s-model : Model (p .rules) (has s)
     s-model = all-imp (λ r. Copied p t x r × Inside (p .atoms) r) (Holds (has s)) s-holds (p .rules) (all-both (Copied p t x) (Inside (p .atoms)) (p .rules) (steps .s3) (fit .rules))
 
-    -- a minimised atom is not fixed
-    unfixed-of : (a : ℕ) → classWord p a ≤ 16 → T (unfixed? p a)
-    unfixed-of a c = T-not-in (fixed? p a) (λ e. let k : classWord p a ≡ 18 = eqb→eq (classWord p a) 18 e in omega arith)
-
     -- x has E.0 to E.j, and D. of an atom of class j + 1: s beats m
     module _ (j : ℕ) (ends : (i : ℕ) → i ≤ j → In x (E i)) (high : suc j ≤ p .classes) where
       inside-of : (a i : ℕ) → OfClass (p .words) i a → a < p .atoms
@@ -147,21 +143,21 @@ module _ (p : Program) (fit : Fit p) (m : ℕ) (preferred : Preferred (p .words)
       m-of a i c l h =
           let n = inside-of a i c in
           let e : classWord p a ≡ i = c .1 in
-          let k : classWord p a ≤ 16 = omega (arith, fit .classes) in
-          stable (has m a) (λ o. no-U (steps .s6 a n k .1 .1 .0 (λ d. o (full .originals a n .0 d)) (ends (classWord p a - 1) (omega arith)) (T-of (on-unfixed a n (unfixed-of a k)) h)))
+          let k : Minimised p a = omega (arith, fit .classes) in
+          stable (has m a) (λ o. no-U (steps .s6 a n k .1 .1 .0 (λ d. o (full .originals a n .0 d)) (ends (classWord p a - 1) (omega arith)) (T-of (on-unfixed a n (minimised-unfixed p a k)) h)))
 
       of-m : (a i : ℕ) → OfClass (p .words) i a → i ≤ j → In (has m) a → In (has s) a
       of-m a i c l h =
           let n = inside-of a i c in
           let e : classWord p a ≡ i = c .1 in
-          let k : classWord p a ≤ 16 = omega (arith, fit .classes) in
-          T-of (sym (on-unfixed a n (unfixed-of a k))) (without-U (steps .s6 a n k .1 .1 .1 (λ d. full .Ns a n .0 d h) (ends (classWord p a) (omega arith))))
+          let k : Minimised p a = omega (arith, fit .classes) in
+          T-of (sym (on-unfixed a n (minimised-unfixed p a k))) (without-U (steps .s6 a n k .1 .1 .1 (λ d. full .Ns a n .0 d h) (ends (classWord p a) (omega arith))))
 
       beaten : (a : ℕ) × OfClass (p .words) (suc j) a × In x (D a) → Beats (p .words) (p .rules) s m
       beaten q =
           let n = inside-of (q .0) (suc j) (q .1) in
           let e : classWord p (q .0) ≡ suc j = q .1 .1 in
-          let k : classWord p (q .0) ≤ 16 = omega (arith, fit .classes) in
+          let k : Minimised p (q .0) = omega (arith, fit .classes) in
           record {
             model = s-model;
             agrees = λ a c. let f = on-fixed a (inside-of a fixed c) (eq→eqb (classWord p a) fixed (c .1)) in (T-of f, T-of (sym f));
@@ -173,7 +169,7 @@ module _ (p : Program) (fit : Fit p) (m : ℕ) (preferred : Preferred (p .words)
               q .0,
               q .1,
               stable (has m (q .0)) (λ o. no-U (steps .s6 (q .0) n k .0 (λ d. o (full .originals (q .0) n .0 d)) (q .2))),
-              λ h. no-U (steps .s6 (q .0) n k .1 .0 (q .2) (T-of (on-unfixed (q .0) n (unfixed-of (q .0) k)) h)),
+              λ h. no-U (steps .s6 (q .0) n k .1 .0 (q .2) (T-of (on-unfixed (q .0) n (minimised-unfixed p (q .0) k)) h)),
             );
           }
 

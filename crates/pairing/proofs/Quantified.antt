@@ -1,7 +1,7 @@
 -- Equivalences for simp: All and Any over the lists that the translation goes through, and the shapes they compute to.
 use Prim.Native.Nat.{ℕ, _≤_, _<_}
 use native.Mathlib.Omega.{arith}
-use mathlib.Core.List.{List, [], _∷_, _++_, map}
+use mathlib.Core.List.{List, _++_, map}
 use mathlib.Core.Bool.{Bool}
 use mathlib.Core.Logic.{_⊎_, inl, inr, _↔_, and-true, true-implies}
 use lib.Dec.{T, leb, leb→le, le→leb}

@@ -1,8 +1,8 @@
 -- A program over any atoms, numbered from 0 in declared order, and the same program over the numbers: stable sets go over.
 use Prim.Native.Nat.{ℕ, _^_, _<_}
 use native.Mathlib.Omega.{arith}
-use mathlib.Core.Path.{_≡_, refl, sym, ap}
-use mathlib.Core.List.{List, [], _∷_, map}
+use mathlib.Core.Path.{_≡_, sym, ap}
+use mathlib.Core.List.{List, map}
 use mathlib.Core.Bool.{Bool}
 use lib.ListN.{length}
 use Rattle.rules.specs.Lists.{All, Any, from}
@@ -16,7 +16,7 @@ use Rattle.rules.proofs.Rules.{Asks, model→asks, asks→model, reduct→asks,
 use Rattle.rules.proofs.Stable.{proper-lt}
 use Rattle.pairing.specs.Translated.{rename}
 use Rattle.pairing.proofs.ListLaws.{all-each}
-use Rattle.pairing.proofs.Numbered.{to-numbers, of-numbers, setOf, set-lt, set-has}
+use Rattle.pairing.proofs.NumberedSets.{to-numbers, setOf, set-lt, set-has}
 
 -- Q holds of every atom of a rule
 pub record Within {A : Type 0} (Q : A → Type 0) (r : Rule A) : Type 0 where
@@ -78,7 +78,7 @@ module _ {A : Type 0} (atoms : List A) (rs : List (Rule A)) where
           i (has-below (length atoms) y i (set-lt num d atoms order x) h) h in
           st .minimal y (record {
             subset = smaller;
-            differs = λ e. strict (all-imp (λ c. at (has y) c ≡ x c) (λ c. In (at (has t)) c → In x c) (λ c q h. T-of (q) (T-of (ap (λ (z : ℕ). has z (num c)) (sym e)) h)) atoms same);
+            differs = λ e. strict (all-imp (λ c. at (has y) c ≡ x c) (λ c. In (at (has t)) c → In x c) (λ c q h. T-of q (T-of (ap (λ (z : ℕ). has z (num c)) (sym e)) h)) atoms same);
           })
           (asks→reduct (map (rename num) rs) (has t) (has y) (down (has t) (has y)
           (all-imp (λ r. Within (λ c. x c ≡ at (has y) c) r × Asks (at (has t)) x r) (Asks (at (has t)) (at (has y))) (λ r q. asks-congr (at (has t)) x (at (has y)) r (q .0) (q .1)) rs

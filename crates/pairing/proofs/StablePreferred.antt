@@ -1,23 +1,21 @@
 -- A stable set of the translation is the full set over its own part, and that part is preferred.
-use Prim.Native.Nat.{ℕ, suc, _-_, _≤_, _<_}
+use Prim.Native.Nat.{ℕ, _-_, _≤_, _<_}
 use native.Mathlib.Omega.{arith}
 use native.Mathlib.Decide.{ℕ-discrete}
 use mathlib.Core.Path.{_≡_, refl, sym, subst}
-use mathlib.Core.List.{List, []}
 use mathlib.Core.Bool.{Bool, false, not, _&&_}
 use mathlib.Core.Logic.{_⊎_, inl, inr}
 use lib.Dec.{T, eqb, ltb, eqb→eq, eqb-refl, ltb→lt, lt→ltb}
-use lib.ListN.{length}
 use Rattle.rules.specs.Lists.{All, Any}
 use Rattle.rules.specs.Sets.{has, In, Out}
 use Rattle.rules.specs.Rules.{Rule, Holds, Model}
 use Rattle.rules.specs.Preferred.{fixed, OfClass, Beats, Preferred}
-use Rattle.rules.proofs.Booleans.{decide, stable, T-of, T-and, T-and-l, T-and-r, T-not-in, T-not-out, eq→eqb}
+use Rattle.rules.proofs.Booleans.{stable, T-of, T-and, T-and-l, T-and-r, T-not-in, T-not-out, eq→eqb}
 use Rattle.rules.proofs.Lists.{all-imp, all-both, any-imp, any-with, any-or-none}
 use Rattle.stores.specs.Program.{Program}
 use Rattle.pairing.specs.Atoms.{Atom, original, N, S, D, E, U, classWord, fixed?, unfixed?, declared}
 use Rattle.pairing.specs.Steps.{translation}
-use Rattle.pairing.proofs.Fit.{Fit, Inside}
+use Rattle.pairing.proofs.Fit.{Fit, Inside, fixed-or}
 use Rattle.pairing.proofs.Asked.{Kept, Copied, Steps, to-steps, of-steps}
 use Rattle.pairing.proofs.Numbering.{Declared, to-declared, of-declared}
 use Rattle.pairing.proofs.Renamed.{StableOver}
@@ -40,14 +38,6 @@ smaller p t w i (S a) = w a
 smaller p t w i (D a) = (t (original a) && not (w a)) && eqb (classWord p a) i
 smaller p t w i (E j) = ltb j i
 smaller p t w i U = false
-
--- an atom is fixed or not
-pub fixed-or : (p : Program) (a : ℕ) → T (fixed? p a) ⊎ T (unfixed? p a)
-fixed-or p a = step (decide (fixed? p a))
-  where
-    step : T (fixed? p a) ⊎ (T (fixed? p a) → ⊥) → T (fixed? p a) ⊎ T (unfixed? p a)
-    step (inl h) = inl h
-    step (inr h) = inr (T-not-in (fixed? p a) h)
 
 module _ (p : Program) (fit : Fit p) (t : Atom → Bool) (st : StableOver (declared p) (translation p) t) where
   steps : Steps p t t

@@ -2,3 +2,4 @@
 pub mod Atoms
 pub mod Steps
 pub mod Translated
+pub mod Loops

@@ -6,7 +6,7 @@ use Rattle.kinds.specs.declared.limits.Kind.the-variants.{Plain}
 use Rattle.rules.specs.Lists.{sum}
 use Rattle.rules.specs.Rules.{Rule, rule, occurrences}
 use Rattle.stores.specs.Program.{Program}
-use Rattle.pairing.specs.Atoms.{Atom, minimisedAtoms, varyingAtoms, fixedAtoms, declared, place, nameOf}
+use Rattle.pairing.specs.Atoms.{minimisedAtoms, varyingAtoms, fixedAtoms, declared, place, nameOf}
 use Rattle.pairing.specs.Steps.{translation}
 
 -- a rule with other atoms

@@ -1,0 +1,184 @@
+-- The translated names fit the plain program: allowed to it, all different, one for each atom, the file's names first.
+use Prim.Native.Nat.{ℕ, suc, _+_, _≤_}
+use native.Mathlib.Omega.{arith}
+use mathlib.Core.Path.{_≡_, refl, sym, ap, subst, _∙_}
+use mathlib.Core.List.{List, [], _∷_, _++_, map, head-eq-of-cons-eq, tail-eq-of-cons-eq}
+use mathlib.Core.Bool.{Bool, true, false, not, _&&_, _||_, cond}
+use mathlib.Core.Logic.{_≢_, Iff·rfl}
+use lib.Dec.{T, leb, eqb, ltb}
+use lib.ListN.{length, getD, take, drop, length-map}
+use lib.Seq.{take-at}
+use borrow.Author.Tests.{le-leb, ne-eqb}
+use Rattle.kinds.specs.Limits.{nameLimit, classLimit}
+use Rattle.kinds.specs.declared.limits.Kind.the-variants.{Plain, Preference}
+use Rattle.rules.specs.Lists.{All, Distinct, from}
+use Rattle.rules.proofs.Booleans.{T-not-out, eq→eqb}
+use Rattle.rules.proofs.Lists.{all-imp, all-app, all-map, all-from, app-iff, every-from}
+use Rattle.stores.specs.Program.{Program, Form}
+use Rattle.stores.specs.Names.{letter?, house?, classNumber?, nameClass, pickName, sized, dotted, generated, takes, allowed}
+use Rattle.stores.specs.NameStore.{NamesForm}
+use Rattle.stores.specs.declared.names.NameClass.{NameClass}
+use Rattle.stores.specs.declared.names.NameClass.the-variants.{House, Generated, TooLong, Wrong}
+use Rattle.pairing.specs.Atoms.{unfixedAtoms, minimisedAtoms, declared, decimal, nameOf}
+use Rattle.pairing.specs.Translated.{translated, translatedNames}
+use Rattle.pairing.specs.Loops.{dot, loopedNames}
+use Rattle.pairing.proofs.ListLaws.{all-each, all-take, distinct-app, distinct-take, distinct-from, distinct-map-app, NoImage}
+use Rattle.pairing.proofs.Fit.{fit-of}
+use Rattle.pairing.proofs.Looped.{looped-names}
+
+-- a preference program takes house names only
+
+either : (b : Bool) (c d : NameClass) → (T (takes Preference c) → ⊥) → (T (takes Preference d) → ⊥) → T (takes Preference (pickName b c d)) → ⊥
+either true c d f g h = f h
+either false c d f g h = g h
+
+not-dotted : (c : ℕ) (x : List ℕ) → T (takes Preference (dotted c x)) → ⊥
+not-dotted c x = either ((eqb c 78 || (eqb c 83 || eqb c 68)) && house? x) (sized x Generated) (pickName (eqb c 69 && classNumber? x) Generated Wrong)
+    (either (leb (length x) nameLimit) Generated TooLong (λ h. h) (λ h. h))
+    (either (eqb c 69 && classNumber? x) Generated Wrong (λ h. h) (λ h. h))
+
+not-generated : (x : List ℕ) → T (takes Preference (generated x)) → ⊥
+not-generated x = either (eqb (length x) 1 && eqb (getD x 0 0) 85) Generated (pickName (leb 2 (length x) && eqb (getD x 1 0) 46) (dotted (getD x 0 0) (drop 2 x)) Wrong) (λ h. h)
+    (either (leb 2 (length x) && eqb (getD x 1 0) 46) (dotted (getD x 0 0) (drop 2 x)) Wrong (not-dotted (getD x 0 0) (drop 2 x)) (λ h. h))
+
+record HouseName (x : List ℕ) : Type 0 where
+  form : house? x ≡ true
+  short : leb (length x) nameLimit ≡ true
+
+house-name : (x : List ℕ) → T (allowed Preference x) → HouseName x
+unfolding allowed nameClass
+house-name x h = step (house? x) (leb (length x) nameLimit) refl refl h
+  where
+    step : (b c : Bool) → house? x ≡ b → leb (length x) nameLimit ≡ c → T (takes Preference (pickName b (pickName c House TooLong) (generated x))) → HouseName x
+    step true true e f h = record { form = e; short = f }
+    step true false e f h = absurd h
+    step false c e f h = absurd (not-generated x h)
+
+house-allowed : (x : List ℕ) → HouseName x → T (allowed Plain x)
+unfolding allowed nameClass
+house-allowed x h = simp (h .form, h .short) tt
+
+dot-allowed : (c : ℕ) (x : List ℕ) → letter? c ≡ false → (eqb c 78 || (eqb c 83 || eqb c 68)) ≡ true → HouseName x → T (allowed Plain (dot c x))
+unfolding allowed nameClass house?
+dot-allowed c x l d h =
+    let long : eqb (suc (suc (length x))) 1 ≡ false = ne-eqb (suc (suc (length x))) 1 (λ e. omega arith) in
+    let two : leb 2 (suc (suc (length x))) ≡ true = le-leb 2 (suc (suc (length x))) (omega arith) in
+    simp (l, long, two, d, h .form, h .short) tt
+
+end-allowed : (j : ℕ) → j ≤ classLimit → T (allowed Plain (dot 69 (decimal j)))
+unfolding allowed nameClass house? classNumber?
+end-allowed j l = every-from (λ j. allowed Plain (dot 69 (decimal j))) (λ j. T (allowed Plain (dot 69 (decimal j)))) (λ j. Iff·rfl) 0 (suc classLimit) .0 tt j (omega arith) (omega arith)
+
+-- the names differ
+
+dot-inj : (c : ℕ) (x y : List ℕ) → dot c x ≡ dot c y → x ≡ y
+dot-inj c x y e = tail-eq-of-cons-eq (tail-eq-of-cons-eq e)
+
+decimal-inj : (i j : ℕ) → decimal i ≡ decimal j → i ≡ j
+decimal-inj i j = step (ltb i 10) (ltb j 10)
+  where
+    step : (a b : Bool) → cond a ((48 + i) ∷ []) (49 ∷ (38 + i) ∷ []) ≡ cond b ((48 + j) ∷ []) (49 ∷ (38 + j) ∷ []) → i ≡ j
+    step true true e = let q : 48 + i ≡ 48 + j = head-eq-of-cons-eq e in omega arith
+    step true false e = let q : _≡_ {A = ℕ} 1 2 = ap length e in absurd (omega arith)
+    step false true e = let q : _≡_ {A = ℕ} 2 1 = ap length e in absurd (omega arith)
+    step false false e = let q : 38 + i ≡ 38 + j = head-eq-of-cons-eq (tail-eq-of-cons-eq e) in omega arith
+
+-- y begins with another byte than c
+abbrev Other : ℕ → List ℕ → Type 0
+Other c y = T (not (eqb c (getD y 0 0)))
+
+other : (c : ℕ) (x y : List ℕ) → Other c y → _≡_ {A = List ℕ} (c ∷ x) y → ⊥
+other c x y h e = T-not-out (eqb c (getD y 0 0)) h (eq→eqb c (getD y 0 0) (ap (λ (z : List ℕ). getD z 0 0) e))
+
+dots-then : (c : ℕ) (l ys : List (List ℕ)) → Distinct l → Distinct ys → All (Other c) ys → Distinct (map (dot c) l ++ ys)
+dots-then c l ys d e h = distinct-map-app (dot c) (dot-inj c) l ys d e (all-imp (Other c) (NoImage (dot c)) (λ y o x. other c (46 ∷ x) y o) ys h)
+
+-- what holds of all the names from some run on
+module _ (Q : List ℕ → Type 0) where
+  dots-all : (c : ℕ) (l ys : List (List ℕ)) → ((x : List ℕ) → Q (dot c x)) → All Q ys → All Q (map (dot c) l ++ ys)
+  dots-all c l ys h k = all-app Q (map (dot c) l) ys (all-map Q (dot c) l (all-each (λ x. Q (dot c x)) h l)) k
+
+  ends-all : (l : List ℕ) → ((x : List ℕ) → Q (dot 69 x)) → Q (85 ∷ []) → All Q (map (λ j. dot 69 (decimal j)) l ++ ((85 ∷ []) ∷ []))
+  ends-all l h u = all-app Q (map (λ j. dot 69 (decimal j)) l) ((85 ∷ []) ∷ []) (all-map Q (λ j. dot 69 (decimal j)) l (all-each (λ j. Q (dot 69 (decimal j))) (λ j. h (decimal j)) l)) (u, tt)
+
+module _ (p : Program) (kind : p .kind ≡ Preference) (form : Form p) (names : List (List ℕ)) (names-form : NamesForm Preference (p .atoms) names) where
+  house : All HouseName names
+  house = all-imp (λ x. T (allowed Preference x)) HouseName house-name names (names-form .all-allowed)
+
+  dots-allowed : (c : ℕ) (l : List (List ℕ)) → letter? c ≡ false → (eqb c 78 || (eqb c 83 || eqb c 68)) ≡ true → All HouseName l → All (λ x. T (allowed Plain x)) (map (dot c) l)
+  dots-allowed c l f d h = all-map (λ x. T (allowed Plain x)) (dot c) l (all-imp HouseName (λ x. T (allowed Plain (dot c x))) (λ x. dot-allowed c x f d) l h)
+
+  plain-allowed : All (λ x. T (allowed Plain x)) (loopedNames p names)
+  unfolding loopedNames allowed nameClass house?
+  plain-allowed = simp app-iff (
+    all-imp HouseName (λ x. T (allowed Plain x)) house-allowed names house,
+    (
+      dots-allowed 78 names refl refl house,
+      (
+        dots-allowed 83 (take (length (unfixedAtoms p)) names) refl refl (all-take HouseName (length (unfixedAtoms p)) names house),
+        (
+          dots-allowed 68 (take (length (minimisedAtoms p)) names) refl refl (all-take HouseName (length (minimisedAtoms p)) names house),
+          (
+            all-map (λ x. T (allowed Plain x)) (λ j. dot 69 (decimal j)) (from 0 (suc (p .classes))) (all-from (λ j. T (allowed Plain (dot 69 (decimal j)))) 0 (suc (p .classes)) (λ j l u. end-allowed j (omega (arith, fit-of p kind form .classes)))),
+            (tt, tt),
+          ),
+        ),
+      ),
+    ),
+  )
+
+  numbered : List ℕ
+  numbered = from 0 (suc (p .classes))
+
+  abbrev ends : List (List ℕ)
+  ends = map (λ j. dot 69 (decimal j)) numbered ++ ((85 ∷ []) ∷ [])
+
+  ends-different : Distinct ends
+  unfolding numbered
+  ends-different = distinct-map-app (λ j. dot 69 (decimal j)) (λ i j e. decimal-inj i j (dot-inj 69 (decimal i) (decimal j) e)) (from 0 (suc (p .classes))) ((85 ∷ []) ∷ []) (distinct-from 0 (suc (p .classes))) (tt, tt) ((λ j. other 69 (46 ∷ decimal j) (85 ∷ []) tt), tt)
+
+  abbrev NotHouse : List ℕ → Type 0
+  NotHouse y = (house? y ≡ true) → ⊥
+
+  not-house : (c : ℕ) (x : List ℕ) → letter? c ≡ false → NotHouse (c ∷ x)
+  unfolding house?
+  not-house c x l h = subst T (sym (simp l at h)) tt
+
+  plain-different : Distinct (loopedNames p names)
+  unfolding loopedNames numbered
+  plain-different =
+      let d = names-form .different in
+      let u = take (length (unfixedAtoms p)) names in
+      let m = take (length (minimisedAtoms p)) names in
+      distinct-app names (map (dot 78) names ++ (map (dot 83) u ++ (map (dot 68) m ++ ends))) d
+      (dots-then 78 names (map (dot 83) u ++ (map (dot 68) m ++ ends)) d
+      (dots-then 83 u (map (dot 68) m ++ ends) (distinct-take (length (unfixedAtoms p)) names d)
+      (dots-then 68 m ends (distinct-take (length (minimisedAtoms p)) names d) ends-different
+      (ends-all (Other 68) numbered (λ x. tt) tt))
+      (dots-all (Other 83) 68 m ends (λ x. tt) (ends-all (Other 83) numbered (λ x. tt) tt)))
+      (dots-all (Other 78) 83 u (map (dot 68) m ++ ends) (λ x. tt) (dots-all (Other 78) 68 m ends (λ x. tt) (ends-all (Other 78) numbered (λ x. tt) tt))))
+      (all-imp HouseName (λ x. All (λ y. x ≢ y) (map (dot 78) names ++ (map (dot 83) u ++ (map (dot 68) m ++ ends)))) (λ x h.
+      all-imp NotHouse (λ y. x ≢ y) (λ y q e. q (ap house? (sym e) ∙ h .form)) (map (dot 78) names ++ (map (dot 83) u ++ (map (dot 68) m ++ ends)))
+      (dots-all NotHouse 78 names (map (dot 83) u ++ (map (dot 68) m ++ ends)) (λ y. not-house 78 (46 ∷ y) refl)
+      (dots-all NotHouse 83 u (map (dot 68) m ++ ends) (λ y. not-house 83 (46 ∷ y) refl)
+      (dots-all NotHouse 68 m ends (λ y. not-house 68 (46 ∷ y) refl)
+      (ends-all NotHouse numbered (λ y. not-house 69 (46 ∷ y) refl) (not-house 85 [] refl)))))) names house)
+
+  abbrev same : translatedNames p names ≡ loopedNames p names
+  same = looped-names p kind form names (names-form .count)
+
+  one-each : length (translatedNames p names) ≡ length (declared p)
+  unfolding translatedNames
+  one-each = length-map (declared p) (nameOf names)
+
+  pub plain-names : NamesForm Plain (translated p .atoms) (translatedNames p names)
+  plain-names = record {
+    count = one-each;
+    all-allowed = subst (All (λ x. T (allowed Plain x))) (sym same) plain-allowed;
+    different = subst Distinct (sym same) plain-different;
+  }
+
+  -- the members numbered below n bear the file's names in the file's order
+  pub file-names : take (p .atoms) (translatedNames p names) ≡ names
+  unfolding loopedNames
+  file-names = ap (take (p .atoms)) same ∙ take-at names _ (p .atoms) (names-form .count)
