@@ -1,2 +1,3 @@
 -- The laws of programs and their stores.
 pub mod ClassWord
+pub mod NameForms
