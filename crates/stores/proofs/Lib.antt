@@ -2,3 +2,7 @@
 pub mod ClassWord
 pub mod NameForms
 pub mod NameStores
+pub mod ByteLoops
+pub mod NamePlaces
+pub mod NameChains
+pub mod NameEntries
