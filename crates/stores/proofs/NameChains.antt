@@ -60,11 +60,11 @@ last-ext f g h (suc i) e = ap₂ (λ (a b : ℕ). pickNumber (eqb a h) (suc i) b
 
 -- what `found` says
 
-bool-false : (b : Bool) → (T b → ⊥) → b ≡ false
+pub bool-false : (b : Bool) → (T b → ⊥) → b ≡ false
 bool-false true h = absurd (h tt)
 bool-false false h = refl
 
-bool-true : (b : Bool) → T b → b ≡ true
+pub bool-true : (b : Bool) → T b → b ≡ true
 bool-true true h = refl
 bool-true false h = absurd h
 

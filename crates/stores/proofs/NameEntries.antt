@@ -3,19 +3,24 @@ use Prim.Native.Nat.{ℕ, suc, _+_, _≤_, _<_}
 use native.Mathlib.Numerals.{add-one}
 use native.Mathlib.Decide.{ℕ-discrete}
 use native.Mathlib.Omega.{arith}
-use mathlib.Core.Path.{_≡_, refl, sym, ap, ap₂, _∙_, subst}
+use mathlib.Core.Path.{_≡_, sym, ap, ap₂, _∙_, subst}
 use mathlib.Core.Logic.{_≢_}
 use mathlib.Core.List.{List, [], _∷_, _++_, append-assoc, append-nil}
-use mathlib.Core.Bool.{Bool, true, false}
+use mathlib.Core.Bool.{true, false}
 use lib.Dec.{eqb}
 use lib.ListN.{length, getD, take, drop, set, length-append, length-set, List·getD-append}
-use lib.Seq.{drop-append-seam, take-append-le, take-append-seam, getD-append-seam, getD-set-same, getD-set-other, drop-drop}
+use lib.Seq.{length-take-le, getD-take, drop-append-seam, take-append-le, take-append-seam, getD-append-seam, getD-set-same, getD-set-other, drop-drop}
 use borrow.Author.Tests.{eq-eqb, ne-eqb}
-use Rattle.rules.specs.Lists.{All, Distinct}
-use Rattle.stores.specs.NameStore.{nameBytes, encodeNames}
-use Rattle.stores.specs.NameIndex.{buckets, nameHash, hashes, pickNumber, lastWith, place, Placed, Indexed}
+use Rattle.rules.specs.Lists.{All, Distinct, some}
+use Rattle.stores.specs.NameStore.{nameBytes, encodeNames, decodeNames, sameBytes}
+use Rattle.stores.specs.NameIndex.{found, new?, buckets, nameHash, hashes, pickNumber, lastWith, place, Placed, Indexed}
 use Rattle.stores.proofs.ByteLoops.{hash-small}
-use Rattle.stores.proofs.NameChains.{last-ext}
+use Rattle.stores.proofs.NameChains.{last-ext, bool-true, bool-false, missing-differs, found-among}
+use Rattle.stores.proofs.NamePlaces.{length-decode}
+use Rattle.stores.proofs.NameStores.{not-seen}
+use Rattle.rules.proofs.Booleans.{T-not-out}
+use Rattle.stores.specs.declared.name_index.Found.{Found}
+use Rattle.stores.specs.declared.name_index.Found.the-variants.{At, Missing}
 
 pub encode-last : (names : List (List ℕ)) (x : List ℕ) → encodeNames (names ++ (x ∷ [])) ≡ encodeNames names ++ nameBytes x
 unfolding encodeNames
@@ -118,3 +123,33 @@ module _ {names : List (List ℕ)} {bytes starts heads next : List ℕ} (ix : In
     head = head-more;
     link = link-more;
   }
+
+-- the part of `starts` that is filled
+
+module _ (n : ℕ) {bytes starts heads next : List ℕ} (ix : Indexed (decodeNames n bytes) bytes starts heads next) where
+  pub length-filled : length (take n starts) ≡ n
+  length-filled = length-take-le n starts (omega (arith, ix .placed .room, length-decode n bytes))
+
+  pub filled : Indexed (decodeNames (length (take n starts)) bytes) bytes (take n starts) heads next
+  filled = subst (λ m. Indexed (decodeNames m bytes) bytes (take n starts) heads next) (sym length-filled) (record {
+    placed = record {
+      stored = ix .placed .stored;
+      room = omega (arith, length-filled, length-decode n bytes);
+      start = λ i l. getD-take n starts i 0 (omega (arith, length-decode n bytes)) ∙ ix .placed .start i l;
+    };
+    different = ix .different;
+    heads-room = ix .heads-room;
+    next-room = ix .next-room;
+    head = ix .head;
+    link = ix .link;
+  })
+
+  module _ (x : List ℕ) {r : Found} (is : r ≡ found x (decodeNames (length (take n starts)) bytes)) where
+    found-filled : r ≡ found x (decodeNames n bytes)
+    found-filled = is ∙ ap (λ m. found x (decodeNames m bytes)) length-filled
+
+    pub found-new : r ≡ Missing → true ≡ new? x (decodeNames n bytes)
+    found-new e = sym (bool-true (new? x (decodeNames n bytes)) (not-seen x (decodeNames n bytes) .1 (missing-differs x 0 (decodeNames n bytes) (sym found-filled ∙ e))))
+
+    pub found-old : {j : ℕ} → r ≡ At j → false ≡ new? x (decodeNames n bytes)
+    found-old e = sym (bool-false (new? x (decodeNames n bytes)) (λ t. T-not-out (some (sameBytes x) (decodeNames n bytes)) t (found-among x 0 (decodeNames n bytes) (sym found-filled ∙ e))))
