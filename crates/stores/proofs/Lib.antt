@@ -1,2 +1,6 @@
 -- The laws of programs and their stores.
 pub mod ClassWord
+pub mod RuleTests
+pub mod RuleStores
+pub mod Marks
+pub mod RulePlace
