@@ -4,3 +4,5 @@ pub mod RuleTests
 pub mod RuleStores
 pub mod Marks
 pub mod RulePlace
+pub mod NameForms
+pub mod NameStores
