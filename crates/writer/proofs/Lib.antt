@@ -1,2 +1,4 @@
 -- The laws of texts and of writing them.
 pub mod Emitting
+pub mod ClassWords
+pub mod TextLength

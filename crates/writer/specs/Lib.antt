@@ -3,3 +3,4 @@ pub mod Words
 pub mod Text
 pub mod Answers
 pub mod Emitted
+pub mod ClassRuns
