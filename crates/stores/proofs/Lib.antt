@@ -6,3 +6,7 @@ pub mod Marks
 pub mod RulePlace
 pub mod NameForms
 pub mod NameStores
+pub mod Parts
+pub mod Rising
+pub mod StoreHeader
+pub mod RuleStoreClauses

@@ -1,28 +1,18 @@
 -- The check of one list by marks: an atom stood in the part passed exactly when its mark is the list's stamp.
-use Prim.Native.Nat.{ℕ, suc, _+_, _-_, _≤_, _<_}
+use Prim.Native.Nat.{ℕ, _+_, _-_, _≤_, _<_}
 use mathlib.Core.Path.{_≡_, refl, sym, ap, _∙_}
 use mathlib.Core.Bool.{Bool, true, false, not, _||_}
 use mathlib.Core.List.{List, [], _∷_}
 use native.Mathlib.Omega.{arith}
-use native.Mathlib.Numerals.{add-one}
 use native.Mathlib.Decide.{ℕ-discrete}
 use lib.Dec.{eqb}
 use lib.ListN.{length, getD, take, drop, set, length-set}
-use lib.Seq.{drop-cons, getD-set-same, getD-set-other}
+use lib.Seq.{getD-set-same, getD-set-other}
 use borrow.Author.Tests.{not-true, not-false, lt-ltb, le-ltb, eq-eqb, ne-eqb}
 use Rattle.rules.specs.Lists.{some}
 use Rattle.rules.specs.Rules.{Rule}
+use Rattle.stores.proofs.Parts.{part-cons, part-none}
 use Rattle.stores.specs.RuleStore.{Below, list?, lists?}
-
--- a part of the words, one word taken off
-pub part-cons : (ws : List ℕ) (i e : ℕ) → i < e → e ≤ length ws → take (e - i) (drop i ws) ≡ getD ws i 0 ∷ take (e - (i + 1)) (drop (i + 1) ws)
-part-cons ws i e h k =
-    let n : e - i ≡ suc (e - (i + 1)) = omega arith in
-    let l : i < length ws = omega arith in
-    rw (n, drop-cons ws i 0 l, add-one)
-
-pub part-none : (ws : List ℕ) (i e : ℕ) → e ≤ i → take (e - i) (drop i ws) ≡ []
-part-none ws i e h = let n : e - i ≡ 0 = omega arith in rw n
 
 pub below-more : {s t : ℕ} {marks : List ℕ} → Below s marks → s ≤ t → Below t marks
 below-more b h = record { mark = λ a. omega (arith, b .mark a) }

@@ -67,7 +67,7 @@ rules-count (suc r) ws = ap suc (rules-count r (drop (3 + places ws) ws))
 
 -- the class words
 
-classes-law : (kind : Kind) (n k : ℕ) (ws : List ℕ) → T (classes? kind n k ws) ↔ ClassesForm kind n k (take (wordCount kind n) ws)
+pub classes-law : (kind : Kind) (n k : ℕ) (ws : List ℕ) → T (classes? kind n k ws) ↔ ClassesForm kind n k (take (wordCount kind n) ws)
 classes-law Plain n k ws = (λ h. (eqb→eq k 0 h, refl), λ h. eq→eqb k 0 (h .0))
 classes-law Preference n k ws =
     let r = words-law k 0 (take n ws) in (
@@ -78,7 +78,7 @@ classes-law Preference n k ws =
       λ h. simp and-iff (le→leb k classLimit (h .0), (le→leb n (length ws) (omega (arith, h .1, length-take n ws)), r .1 (h .2, h .3))),
     )
 
-words-count : (kind : Kind) (n k : ℕ) (ws : List ℕ) → ClassesForm kind n k ws → length ws ≡ wordCount kind n
+pub words-count : (kind : Kind) (n k : ℕ) (ws : List ℕ) → ClassesForm kind n k ws → length ws ≡ wordCount kind n
 words-count Plain n k ws h = ap length (h .1)
 words-count Preference n k ws h = h .1
 

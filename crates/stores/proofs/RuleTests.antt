@@ -1,7 +1,7 @@
 -- What each test of a rule store says of the words.
 use Prim.Native.Nat.{ℕ, _+_, _≤_}
-use mathlib.Core.Path.{_≡_, sym, ap, _∙_}
-use mathlib.Core.Bool.{Bool, _&&_}
+use mathlib.Core.Path.{_≡_, sym, ap, _∙_, subst}
+use mathlib.Core.Bool.{Bool, true, _&&_}
 use mathlib.Core.Logic.{inl, inr, _↔_, _≢_}
 use mathlib.Core.List.{List, [], _∷_, _++_, append-assoc}
 use native.Mathlib.Omega.{arith}
@@ -20,6 +20,9 @@ use Rattle.stores.specs.Program.{RoleForm, Rising, ListForm, NotForm, Ru
 use Rattle.stores.specs.RuleStore.{ruleWords, heads, bodies, nots, places, ruleAt, role?, words?, list?, lists?, not?, rule?}
 use Rattle.stores.specs.declared.roles.Role.{Role}
 use Rattle.stores.specs.declared.roles.Role.the-variants.{Minimised, Varying, Fixed, Unknown}
+
+pub T-is : {t : Bool} → t ≡ true → T t
+T-is e = subst T (sym e) tt
 
 pub and-iff : (a b : Bool) → T (a && b) ↔ (T a × T b)
 and-iff a b = (λ h. (T-and-l a b h, T-and-r a b h), λ h. T-and a b (h .0) (h .1))
@@ -165,8 +168,8 @@ pub rule-tested : (kind : Kind) (n used : ℕ) (ws : List ℕ) → T (rule? kind
 unfolding rule?
 rule-tested kind n used ws = (
   λ h.
-    let t = simp and-iff at h in
-    record { inside = leb→le (3 + places ws) (length ws) (t .0); fits = leb→le (used + places ws) (occurrenceLimit kind) (t .1 .0); nots-fit = t .1 .1 .0; lists-fit = t .1 .1 .1 },
+      let t = simp and-iff at h in
+      record { inside = leb→le (3 + places ws) (length ws) (t .0); fits = leb→le (used + places ws) (occurrenceLimit kind) (t .1 .0); nots-fit = t .1 .1 .0; lists-fit = t .1 .1 .1 },
   λ h. simp and-iff (le→leb (3 + places ws) (length ws) (h .inside), (le→leb (used + places ws) (occurrenceLimit kind) (h .fits), (h .nots-fit, h .lists-fit))),
 )
 
@@ -179,10 +182,10 @@ pub record RuleHere (kind : Kind) (n used : ℕ) (ws : List ℕ) : Type 0 where
 pub rule-law : (kind : Kind) (n used : ℕ) (ws : List ℕ) → T (rule? kind n used ws) ↔ RuleHere kind n used ws
 rule-law kind n used ws = (
   λ h.
-    let t = rule-tested kind n used ws .0 h in
-    let l = lists-law n (ruleAt ws) .0 (t .lists-fit) in
-    record { inside = t .inside; fits = t .fits; form = record { head-form = l .0; body-form = l .1; nots-form = l .2; no-nots = not-law kind ws (t .inside) .0 (t .nots-fit) } },
+      let t = rule-tested kind n used ws .0 h in
+      let l = lists-law n (ruleAt ws) .0 (t .lists-fit) in
+      record { inside = t .inside; fits = t .fits; form = record { head-form = l .0; body-form = l .1; nots-form = l .2; no-nots = not-law kind ws (t .inside) .0 (t .nots-fit) } },
   λ h.
-    rule-tested kind n used ws .1
-    (record { inside = h .inside; fits = h .fits; nots-fit = not-law kind ws (h .inside) .1 (h .form .no-nots); lists-fit = lists-law n (ruleAt ws) .1 (h .form .head-form, h .form .body-form, h .form .nots-form) }),
+      rule-tested kind n used ws .1
+      (record { inside = h .inside; fits = h .fits; nots-fit = not-law kind ws (h .inside) .1 (h .form .no-nots); lists-fit = lists-law n (ruleAt ws) .1 (h .form .head-form, h .form .body-form, h .form .nots-form) }),
 )

@@ -4,8 +4,6 @@ use borrow.Author.Needs.{needs}
 use Rattle.stores.proofs.Marks.{Marking, begins, ended, beyond, twice, again}
 use Rattle.stores.proofs.rule_store.list_form.Statement.{statement}
 use Rattle.stores.proofs.rule_store.list_form.Tie as tie
-use Rattle.stores.proofs.rule_store.list_form.Reads as reads
-use Rattle.stores.proofs.rule_store.list_form.Lts as lts
 
 abbrev Inv-loop : tie.InvT-loop
 Inv-loop words at count atoms marks₀ stamp end i₀ marks i = Marking words at count atoms marks₀ stamp end marks i
@@ -13,75 +11,57 @@ Inv-loop words at count atoms marks₀ stamp end i₀ marks i = Marking words at
 abbrev μ-loop : tie.MeasureT-loop
 μ-loop words at count atoms marks₀ stamp end i₀ marks i = end - i
 
--- src/rule_store.rt:26:15
 add-end : tie.Need-add-end Inv-loop μ-loop
 add-end c = search needs
 
--- src/rule_store.rt:28:5
 loop-holds : tie.Need-loop-holds Inv-loop μ-loop
 loop-holds c = begins _ _ _ _ _ _ (c .pre)
 
--- src/rule_store.rt:29:17
 mul-a : tie.Need-mul-a Inv-loop μ-loop
 mul-a c = search needs
 
--- src/rule_store.rt:29:17
 shared-slice-read-a : tie.Need-shared-slice-read-a Inv-loop μ-loop
 shared-slice-read-a c = search needs
 
--- src/rule_store.rt:29:17
 cast-a : tie.Need-cast-a Inv-loop μ-loop
 cast-a c = omega (arith, c .shared-slice-known .given (c .before .before .loop .i))
 
--- src/rule_store.rt:31:13
 same-length : tie.Need-same-length Inv-loop μ-loop
 same-length c = search needs
 
--- src/rule_store.rt:31:13
 returns : tie.Need-returns Inv-loop μ-loop
 returns c = beyond (c .before .before .before .loop .inv) (c .before .before .loop-test .taken) (c .if1 .taken)
 
--- src/rule_store.rt:33:12
 mul-if2 : tie.Need-mul-if2 Inv-loop μ-loop
 mul-if2 c = search needs
 
--- src/rule_store.rt:33:12
 slice-read-if2 : tie.Need-slice-read-if2 Inv-loop μ-loop
 slice-read-if2 c = search needs
 
--- src/rule_store.rt:34:13
 same-length-2 : tie.Need-same-length-2 Inv-loop μ-loop
 same-length-2 c = search needs
 
--- src/rule_store.rt:34:13
 returns-2 : tie.Need-returns-2 Inv-loop μ-loop
 returns-2 c = twice (c .before .before .before .before .before .loop .inv) (c .before .before .before .before .loop-test .taken) (c .before .before .if1 .left) (c .if2 .taken)
 
--- src/rule_store.rt:36:9
 mul-marks : tie.Need-mul-marks Inv-loop μ-loop
 mul-marks c = search needs
 
--- src/rule_store.rt:36:9
 slice-write-marks : tie.Need-slice-write-marks Inv-loop μ-loop
 slice-write-marks c = search needs
 
--- src/rule_store.rt:37:9
 add-i : tie.Need-add-i Inv-loop μ-loop
 add-i c = search needs
 
--- src/rule_store.rt:28:5
 loop-less : tie.Need-loop-less Inv-loop μ-loop
 loop-less c = search needs
 
--- src/rule_store.rt:28:5
 loop-again : tie.Need-loop-again Inv-loop μ-loop
 loop-again c = again (c .before .before .before .before .before .loop .inv) (c .before .before .before .before .loop-test .taken) (c .before .before .if1 .left) (c .if2 .left)
 
--- src/rule_store.rt:22:1
 same-length-3 : tie.Need-same-length-3 Inv-loop μ-loop
 same-length-3 c = search needs
 
--- src/rule_store.rt:22:1
 returns-3 : tie.Need-returns-3 Inv-loop μ-loop
 returns-3 c = ended (c .before .loop .inv) (c .loop-test .left)
 

@@ -3,59 +3,43 @@ use Rattle.stores.proofs.Marks.{below-more, head-wrong, body-wrong, all
 use borrow.Author.Needs.{needs}
 use Rattle.stores.proofs.rule_store.lists_form.Statement.{statement}
 use Rattle.stores.proofs.rule_store.lists_form.Tie as tie
-use Rattle.stores.proofs.rule_store.lists_form.Reads as reads
-use Rattle.stores.proofs.rule_store.lists_form.Lts as lts
-use Rattle.stores.proofs.rule_store.list_form.Reads as list-form-reads
 
--- src/rule_store.rt:53:16
 add-body : tie.Need-add-body
 add-body c = search needs
 
--- src/rule_store.rt:54:15
 add-not : tie.Need-add-not
 add-not c = search needs
 
--- src/rule_store.rt:55:9
 list-form-requires : tie.Need-list-form-requires
 list-form-requires c κs = search needs
 
--- src/rule_store.rt:57:9
 same-length : tie.Need-same-length
 same-length c = search needs
 
--- src/rule_store.rt:57:9
 returns : tie.Need-returns
 returns c = (head-wrong _ _ (c .before .before .before .list-form .ensures .0) (c .if1 .taken), below-more (c .before .before .before .list-form .ensures .1) (omega arith))
 
--- src/rule_store.rt:59:66
 add-list-form : tie.Need-add-list-form
 add-list-form c = search needs
 
--- src/rule_store.rt:59:9
 list-form-requires-2 : tie.Need-list-form-requires-2
 list-form-requires-2 c κs = search needs
 
--- src/rule_store.rt:61:9
 same-length-2 : tie.Need-same-length-2
 same-length-2 c = search needs
 
--- src/rule_store.rt:61:9
 returns-2 : tie.Need-returns-2
 returns-2 c = (body-wrong _ _ (c .before .before .before .before .before .before .before .before .list-form .ensures .0) (c .before .before .before .list-form2 .ensures .0) (c .before .before .before .before .before .if1 .left) (c .if2 .taken), below-more (c .before .before .before .list-form2 .ensures .1) (omega arith))
 
--- src/rule_store.rt:63:47
 add-list-form-2 : tie.Need-add-list-form-2
 add-list-form-2 c = search needs
 
--- src/rule_store.rt:63:5
 list-form-requires-3 : tie.Need-list-form-requires-3
 list-form-requires-3 c κs = (search needs, search needs, below-more (c .before .before .before .before .list-form2 .ensures .1) (omega arith))
 
--- src/rule_store.rt:49:1
 same-length-3 : tie.Need-same-length-3
 same-length-3 c = search needs
 
--- src/rule_store.rt:49:1
 returns-3 : tie.Need-returns-3
 returns-3 c = (all-lists _ _ (c .before .before .before .before .before .before .before .before .before .before .before .before .list-form .ensures .0) (c .before .before .before .before .before .before .before .list-form2 .ensures .0) (c .before .before .before .before .before .before .before .before .before .if1 .left) (c .before .before .list-form3 .ensures .0) (c .before .before .before .before .if2 .left), below-more (c .before .before .list-form3 .ensures .1) (omega arith))
 

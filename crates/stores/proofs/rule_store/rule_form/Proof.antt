@@ -5,125 +5,91 @@ use Rattle.stores.proofs.RulePlace.{limit-small, cut-short, too-many, f
 use borrow.Author.Needs.{needs}
 use Rattle.stores.proofs.rule_store.rule_form.Statement.{statement}
 use Rattle.stores.proofs.rule_store.rule_form.Tie as tie
-use Rattle.stores.proofs.rule_store.rule_form.Reads as reads
-use Rattle.stores.proofs.rule_store.rule_form.Lts as lts
-use Rattle.kinds.proofs.limits.Kind.occurrences.Reads as occurrences-reads
-use Rattle.stores.proofs.rule_store.lists_form.Reads as lists-form-reads
-use Rattle.stores.proofs.rule_store.not_form.Reads as not-form-reads
 
--- src/rule_store.rt:81:8
 sub-if1 : tie.Need-sub-if1
 sub-if1 c = search needs
 
--- src/rule_store.rt:82:9
 returns : tie.Need-returns
 returns c = (cut-short _ _ _ _ _ (omega arith) (c .before .before .before .pre .0), below-more (c .before .before .before .pre .4) (omega arith))
 
--- src/rule_store.rt:84:18
 add-second : tie.Need-add-second
 add-second c = search needs
 
--- src/rule_store.rt:85:17
 add-third : tie.Need-add-third
 add-third c = search needs
 
--- src/rule_store.rt:86:17
 add-lists : tie.Need-add-lists
 add-lists c = search needs
 
--- src/rule_store.rt:87:17
 mul-heads : tie.Need-mul-heads
 mul-heads c = search needs
 
--- src/rule_store.rt:87:17
 shared-slice-read-heads : tie.Need-shared-slice-read-heads
 shared-slice-read-heads c = search needs
 
--- src/rule_store.rt:87:17
 cast-heads : tie.Need-cast-heads
 cast-heads c = omega (arith, c .before .before .before .shared-slice-known .given (c .before .before .before .before .args .at))
 
--- src/rule_store.rt:88:18
 mul-bodies : tie.Need-mul-bodies
 mul-bodies c = search needs
 
--- src/rule_store.rt:88:18
 shared-slice-read-bodies : tie.Need-shared-slice-read-bodies
 shared-slice-read-bodies c = search needs
 
--- src/rule_store.rt:88:18
 cast-bodies : tie.Need-cast-bodies
 cast-bodies c = omega (arith, c .before .before .before .before .shared-slice-known .given (c .before .before .before .before .before .args .at + 1))
 
--- src/rule_store.rt:89:16
 mul-nots : tie.Need-mul-nots
 mul-nots c = search needs
 
--- src/rule_store.rt:89:16
 shared-slice-read-nots : tie.Need-shared-slice-read-nots
 shared-slice-read-nots c = search needs
 
--- src/rule_store.rt:89:16
 cast-nots : tie.Need-cast-nots
 cast-nots c = omega (arith, c .before .before .before .before .before .shared-slice-known .given (c .before .before .before .before .before .before .args .at + 2))
 
--- src/rule_store.rt:90:18
 add-places : tie.Need-add-places
 add-places c = omega (arith, c .before .before .before .before .before .shared-slice-known .given (c .before .before .before .before .before .before .args .at), c .before .before .before .before .before .shared-slice-known .given (c .before .before .before .before .before .before .args .at + 1))
 
--- src/rule_store.rt:90:18
 add-places-2 : tie.Need-add-places-2
 add-places-2 c = omega (arith, c .before .before .before .before .before .shared-slice-known .given (c .before .before .before .before .before .before .args .at), c .before .before .before .before .before .shared-slice-known .given (c .before .before .before .before .before .before .args .at + 1), c .before .before .before .before .before .shared-slice-known .given (c .before .before .before .before .before .before .args .at + 2))
 
--- src/rule_store.rt:91:8
 sub-if2 : tie.Need-sub-if2
 sub-if2 c = search needs
 
--- src/rule_store.rt:92:9
 returns-2 : tie.Need-returns-2
 returns-2 c = (cut-short _ _ _ _ _ (omega arith) (c .before .before .before .before .before .before .before .pre .0), below-more (c .before .before .before .before .before .before .before .pre .4) (omega arith))
 
--- src/rule_store.rt:94:15
 add-sum : tie.Need-add-sum
 add-sum c = omega (arith, limit-small (c .before .before .before .before .before .before .before .args .kind), c .before .before .before .before .before .before .shared-slice-known .given (c .before .before .before .before .before .before .before .args .at), c .before .before .before .before .before .before .shared-slice-known .given (c .before .before .before .before .before .before .before .args .at + 1), c .before .before .before .before .before .before .shared-slice-known .given (c .before .before .before .before .before .before .before .args .at + 2))
 
--- src/rule_store.rt:95:8
 occurrences-requires : tie.Need-occurrences-requires
 occurrences-requires c κs = search needs
 
--- src/rule_store.rt:96:9
 returns-3 : tie.Need-returns-3
 returns-3 c = (too-many _ _ _ _ _ (omega arith), below-more (c .before .before .before .before .before .before .before .before .before .pre .4) (omega arith))
 
--- src/rule_store.rt:98:9
 not-form-requires : tie.Need-not-form-requires
 not-form-requires c κs = search needs
 
--- src/rule_store.rt:100:9
 returns-4 : tie.Need-returns-4
 returns-4 c = (filled-not _ _ _ _ _ (c .before .not-form .ensures) (c .if4 .taken), below-more (c .before .before .before .before .before .before .before .before .before .before .before .pre .4) (omega arith))
 
--- src/rule_store.rt:102:9
 lists-form-requires : tie.Need-lists-form-requires
 lists-form-requires c κs = (omega arith, c .before .before .before .before .before .before .before .before .before .before .before .before .pre .2, c .before .before .before .before .before .before .before .before .before .before .before .before .pre .3, c .before .before .before .before .before .before .before .before .before .before .before .before .pre .4)
 
--- src/rule_store.rt:104:9
 same-length : tie.Need-same-length
 same-length c = search needs
 
--- src/rule_store.rt:104:9
 returns-5 : tie.Need-returns-5
 returns-5 c = (list-wrong _ _ _ _ _ (c .before .before .before .lists-form .ensures .0) (c .if5 .taken), c .before .before .before .lists-form .ensures .1)
 
--- src/rule_store.rt:106:27
 add-t19 : tie.Need-add-t19
 add-t19 c = search needs
 
--- src/rule_store.rt:77:1
 same-length-2 : tie.Need-same-length-2
 same-length-2 c = search needs
 
--- src/rule_store.rt:77:1
 returns-6 : tie.Need-returns-6
 returns-6 c = (passed _ _ _ _ _ (omega arith) (omega arith) (c .before .before .before .before .before .before .not-form .ensures) (c .before .before .before .before .before .if4 .left) (c .before .before .before .lists-form .ensures .0) (c .if5 .left), c .before .before .before .lists-form .ensures .1)
 
