@@ -10,3 +10,7 @@ pub mod Parts
 pub mod Rising
 pub mod StoreHeader
 pub mod RuleStoreClauses
+pub mod ByteLoops
+pub mod NamePlaces
+pub mod NameChains
+pub mod NameEntries
