@@ -6,13 +6,11 @@ use mathlib.Core.Path.{_≡_, refl, sym, ap, ap₂, _∙_, subst}
 use mathlib.Core.Bool.{Bool, true, false}
 use mathlib.Core.List.{List, [], _∷_, _++_, append-nil}
 use lib.Dec.{leb, eqb}
-use lib.ListN.{length, getD, drop}
-use lib.Seq.{drop-cons}
-use borrow.Author.Tests.{le-leb, lt-leb, leb-true, leb-false, eq-eqb, ne-eqb}
-use Rattle.rules.specs.Lists.{All, keep, filter, from}
-use Rattle.rules.specs.Preferred.{varying, fixed, ofClass}
-use Rattle.stores.specs.Program.{Rising, RoleForm, roleOf, pickRole}
-use Rattle.stores.specs.declared.roles.Role.the-variants.{Minimised, Varying, Fixed, Unknown}
+use lib.ListN.{length, getD}
+use borrow.Author.Tests.{le-leb, leb-true, leb-false, eq-eqb, ne-eqb}
+use Rattle.rules.specs.Lists.{keep, filter, from}
+use Rattle.rules.specs.Preferred.{ofClass}
+use Rattle.stores.specs.Program.{Rising}
 use Rattle.writer.specs.ClassRuns.{upTo, countWhile}
 
 -- consecutive numbers in two parts

@@ -76,6 +76,9 @@ module _ {whole before left now : List ℕ} {at next : ℕ} (h : Emitting whole 
   pub length-kept : length now ≡ length before
   length-kept = same-length (h .so)
 
+pub range-begin : {whole run rest : List ℕ} {at : ℕ} → InRange at whole → Ahead whole run rest → InRange at run
+range-begin r e = range-here {before = []} (start r) e
+
 -- the next byte of a list
 pub byte-next : (s : List ℕ) (i : ℕ) → i < length s → Ahead (drop i s) (getD s i 0 ∷ []) (drop (i + 1) s)
 byte-next s i h = record { is = drop-cons s i 0 h ∙ ap (λ (k : ℕ). getD s i 0 ∷ drop k s) (sym (add-one i)) }

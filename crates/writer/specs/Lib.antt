@@ -4,3 +4,4 @@ pub mod Text
 pub mod Answers
 pub mod Emitted
 pub mod ClassRuns
+pub mod Items

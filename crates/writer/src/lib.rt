@@ -1,4 +1,5 @@
 // Stores to text (document 01, "The two kinds of file").
+mod atoms;
 mod classes;
 pub mod emit;
 
