@@ -4,12 +4,12 @@ pub mod RuleTests
 pub mod RuleStores
 pub mod Marks
 pub mod RulePlace
+pub mod NameForms
+pub mod NameStores
 pub mod Parts
 pub mod Rising
 pub mod StoreHeader
 pub mod RuleStoreClauses
-pub mod NameForms
-pub mod NameStores
 pub mod ByteLoops
 pub mod NamePlaces
 pub mod NameChains
