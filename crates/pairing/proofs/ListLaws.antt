@@ -4,13 +4,13 @@ use native.Mathlib.Omega.{arith}
 use mathlib.Core.Path.{_≡_, refl, sym, ap, ap₂, _∙_}
 use mathlib.Core.List.{List, [], _∷_, _++_, map, map-append, append-assoc, head-eq-of-cons-eq, tail-eq-of-cons-eq}
 use mathlib.Core.Bool.{Bool, true, false}
-use mathlib.Core.Logic.{_≢_}
+use mathlib.Core.Logic.{inl, inr, _≢_}
 use lib.Dec.{T}
 use lib.ListN.{length, getD, take, length-append}
 use lib.Seq.{getD-append-seam}
-use Rattle.rules.specs.Lists.{All, Distinct, keep, filter, flat, from}
+use Rattle.rules.specs.Lists.{All, Any, Distinct, keep, filter, flat, from}
 use Rattle.rules.proofs.Booleans.{T-of}
-use Rattle.rules.proofs.Lists.{all-imp, all-both, all-app, all-filter, all-map, all-from}
+use Rattle.rules.proofs.Lists.{all-imp, all-app, all-filter, all-map, all-from}
 
 -- following numbers
 
@@ -66,6 +66,18 @@ map-eq {B} f g h (x ∷ l) = ap₂ (λ (y : B) (r : List B). y ∷ r) (h x) (map
 pub all-each : {A : Type 0} (P : A → Type 0) → ((a : A) → P a) → (l : List A) → All P l
 all-each P f [] = tt
 all-each P f (x ∷ l) = (f x, all-each P f l)
+
+-- two facts of each entry, or a fact of each and one of some entry
+
+module _ {A : Type 0} (P Q R : A → Type 0) (f : (a : A) → P a → Q a → R a) where
+  pub all-zip : (l : List A) → All P l → All Q l → All R l
+  all-zip [] h k = tt
+  all-zip (x ∷ l) h k = (f x (h .0) (k .0), all-zip l (h .1) (k .1))
+
+  pub any-zip : (l : List A) → All P l → Any Q l → Any R l
+  any-zip [] h k = k
+  any-zip (x ∷ l) h (inl k) = inl (f x (h .0) k)
+  any-zip (x ∷ l) h (inr k) = inr (any-zip l (h .1) k)
 
 -- chosen entries
 
@@ -126,7 +138,7 @@ module _ {A B : Type 0} (f : A → B) where
   pub distinct-map : (P : A → Type 0) → ((a b : A) → P a → P b → f a ≡ f b → a ≡ b) → (l : List A) → All P l → Distinct l → Distinct (map f l)
   distinct-map P i [] q h = tt
   distinct-map P i (x ∷ l) q h = (
-    all-map (λ y. f x ≢ y) f l (all-imp (λ b. P b × (x ≢ b)) (λ b. f x ≢ f b) (λ b k e. k .1 (i x b (q .0) (k .0) e)) l (all-both P (λ b. x ≢ b) l (q .1) (h .0))),
+    all-map (λ y. f x ≢ y) f l (all-zip P (λ b. x ≢ b) (λ b. f x ≢ f b) (λ b g j e. j (i x b (q .0) g e)) l (q .1) (h .0)),
     distinct-map P i l (q .1) (h .1),
   )
 

@@ -7,9 +7,9 @@ use mathlib.Core.Bool.{Bool}
 use lib.ListN.{length, getD, length-map, List·getD-map}
 use Rattle.rules.specs.Lists.{All, from}
 use Rattle.rules.specs.Sets.{has}
-use Rattle.rules.proofs.Lists.{all-imp, all-both, all-map, map-all, all-from, from-all}
+use Rattle.rules.proofs.Lists.{all-map, map-all, all-from, from-all}
 use Rattle.rules.proofs.Sets.{number, number-lt, number-zero, number-suc}
-use Rattle.pairing.proofs.ListLaws.{found}
+use Rattle.pairing.proofs.ListLaws.{found, all-zip}
 
 has-number : (b : Bool) (bs : List Bool) (i : ℕ) → i < length bs → has (number bs) i ≡ getD bs i b
 has-number b [] i l = absurd (omega arith)
@@ -31,6 +31,4 @@ module _ {A : Type 0} (num : A → ℕ) (d : A) (atoms : List A) (order : map nu
   set-lt w = subst (λ (c : ℕ). setOf w < 2 ^ c) (length-map atoms w) (number-lt (map w atoms))
 
   pub set-has : (w : A → Bool) → All (λ c. has (setOf w) (num c) ≡ w c) atoms
-  set-has w = all-imp (λ c. (num c < length atoms) × (getD atoms (num c) d ≡ c)) (λ c. has (setOf w) (num c) ≡ w c)
-      (λ c q. has-number (w d) (map w atoms) (num c) (omega (arith, length-map atoms w)) ∙ List·getD-map w atoms (num c) d ∙ ap w (q .1)) atoms
-      (all-both (λ c. num c < length atoms) (λ c. getD atoms (num c) d ≡ c) atoms (of-numbers (λ i. i < length atoms) (λ i l. l)) (found num d [] atoms order))
+  set-has w = all-zip (λ c. num c < length atoms) (λ c. getD atoms (num c) d ≡ c) (λ c. has (setOf w) (num c) ≡ w c) (λ c g k. has-number (w d) (map w atoms) (num c) (omega (arith, length-map atoms w)) ∙ List·getD-map w atoms (num c) d ∙ ap w k) atoms (of-numbers (λ i. i < length atoms) (λ i l. l)) (found num d [] atoms order)

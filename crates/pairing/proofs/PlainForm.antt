@@ -18,7 +18,7 @@ use Rattle.pairing.specs.Atoms.{Atom, original, N, S, D, E, U, originals
 use Rattle.pairing.specs.Steps.{step1, step2, step3, step4, step5, step6, step7, step8, step9, step10, translation}
 use Rattle.pairing.specs.Translated.{translated, translatedRules, numbers}
 use Rattle.pairing.proofs.Quantified.{Each·simp}
-use Rattle.pairing.proofs.ListLaws.{length-from, all-each, distinct-filter, distinct-from, distinct-map, distinct-inj, distinct-map-app, NoImage}
+use Rattle.pairing.proofs.ListLaws.{length-from, all-each, all-zip, distinct-filter, distinct-from, distinct-map, distinct-inj, distinct-map-app, NoImage}
 use Rattle.pairing.proofs.SumLaws.{length-parts}
 use Rattle.pairing.proofs.Fit.{Fit, Inside, fit-of}
 use Rattle.pairing.proofs.Numbering.{order, known}
@@ -126,12 +126,12 @@ module _ (p : Program) (fit : Fit p) where
 
   rule-forms : All (RuleForm Plain (length (declared p))) (translatedRules p)
   unfolding translatedRules
-  rule-forms = simp map-iff (all-imp (λ r. Within Placed r × Single r) _ (λ r q. record {
-    head-form = list-form (r .head) (q .0 .head) (q .1 .head);
-    body-form = list-form (r .body) (q .0 .body) (q .1 .body);
-    nots-form = list-form (r .nots) (q .0 .nots) (q .1 .nots);
+  rule-forms = simp map-iff (all-zip (Within Placed) Single _ (λ r g k. record {
+    head-form = list-form (r .head) (g .head) (k .head);
+    body-form = list-form (r .body) (g .body) (k .body);
+    nots-form = list-form (r .nots) (g .nots) (k .nots);
     no-nots = tt;
-  }) (translation p) (all-both (Within Placed) Single (translation p) (closed p fit Placed placed) single))
+  }) (translation p) (closed p fit Placed placed) single)
 
 pub plain-form : (p : Program) → p .kind ≡ Preference → Form p → Form (translated p)
 unfolding numbers

@@ -13,11 +13,11 @@ use Rattle.rules.specs.Sets.{has, In, Out}
 use Rattle.rules.specs.Rules.{Rule, Holds, Model}
 use Rattle.rules.specs.Preferred.{fixed, OfClass, Beats, Preferred}
 use Rattle.rules.proofs.Booleans.{stable, T-of, T-and, T-and-l, T-and-r, eq→eqb}
-use Rattle.rules.proofs.Lists.{all-imp, all-both, all-any, any-imp, any-with, any-or-none, from-all}
+use Rattle.rules.proofs.Lists.{all-both, all-any, any-or-none, from-all}
 use Rattle.stores.specs.Program.{Program}
 use Rattle.pairing.specs.Atoms.{Atom, original, N, S, D, E, U, originals, classWord, fixed?, unfixed?, declared}
 use Rattle.pairing.specs.Steps.{translation}
-use Rattle.pairing.proofs.ListLaws.{length-from, all-each}
+use Rattle.pairing.proofs.ListLaws.{length-from, all-each, all-zip, any-zip}
 use Rattle.pairing.proofs.Fit.{Fit, Minimised, Inside, minimised-unfixed}
 use Rattle.pairing.proofs.Asked.{Kept, Copied, Steps, to-steps, of-steps}
 use Rattle.pairing.proofs.Numbering.{Declared, of-declared}
@@ -50,11 +50,11 @@ cond-no true u v h = absurd h
 cond-no false u v h = refl
 
 module _ (p : Program) (fit : Fit p) (m : ℕ) (preferred : Preferred (p .words) (p .rules) m) (t : Atom → Bool) (full : Full p (has m) t) where
-  kept : (r : Rule ℕ) → Holds (has m) r × Inside (p .atoms) r → Kept p t t r
-  kept r h o b = none (all-any (λ a. (a < p .atoms) × Out t (original a)) (In (has m)) (r .head) (all-both (λ a. a < p .atoms) (λ a. Out t (original a)) (r .head) (h .1 .head) o)
-      (h .0
-      (all-imp (λ a. (a < p .atoms) × Out t (N a)) (In (has m)) (λ a q. stable (has m a) (λ e. q .1 (full .Ns a (q .0) .1 e))) (r .body) (all-both (λ a. a < p .atoms) (λ a. Out t (N a)) (r .body) (h .1 .body) b))
-      (subst (All (Out (has m))) (sym (h .1 .nots)) tt)))
+  kept : (r : Rule ℕ) → Holds (has m) r → Inside (p .atoms) r → Kept p t t r
+  kept r holds inside o b = none (all-any (λ a. (a < p .atoms) × Out t (original a)) (In (has m)) (r .head) (all-both (λ a. a < p .atoms) (λ a. Out t (original a)) (r .head) (inside .head) o)
+      (holds
+      (all-zip (λ a. a < p .atoms) (λ a. Out t (N a)) (In (has m)) (λ a g k. stable (has m a) (λ e. k (full .Ns a g .1 e))) (r .body) (inside .body) b)
+      (subst (All (Out (has m))) (sym (inside .nots)) tt)))
     where
       none : (a : ℕ) × ((a < p .atoms) × Out t (original a)) × In (has m) a → ⊥
       none q = q .1 .1 (full .originals (q .0) (q .1 .0) .1 (q .2))
@@ -65,7 +65,7 @@ module _ (p : Program) (fit : Fit p) (m : ℕ) (preferred : Preferred (p .words)
       λ o. full .originals a l .1 (stable (has m a) (λ e. o (full .Ns a l .1 e))),
       λ o. full .Ns a l .1 (λ e. o (full .originals a l .1 e)),
     );
-    s2 = all-imp (λ r. Holds (has m) r × Inside (p .atoms) r) (Kept p t t) kept (p .rules) (all-both (Holds (has m)) (Inside (p .atoms)) (p .rules) (preferred .model) (fit .rules));
+    s2 = all-zip (Holds (has m)) (Inside (p .atoms)) (Kept p t t) kept (p .rules) (preferred .model) (fit .rules);
     s3 = all-each (Copied p t t) (λ r o u e. inr (full .Us)) (p .rules);
     s4 = inr (full .Us);
     s5 = λ i l u e. inr (inr (full .Us));
@@ -109,30 +109,24 @@ module _ (p : Program) (fit : Fit p) (m : ℕ) (preferred : Preferred (p .words)
     unfolding s w
     on-unfixed a l e = set-below-has (p .atoms) w a l ∙ cond-no (fixed? p a) (has m a) (x (S a)) e
 
-    s-holds : (r : Rule ℕ) → Copied p t x r × Inside (p .atoms) r → Holds (has s) r
-    s-holds r h b n = step (any-or-none (λ a. fixed? p a && has m a) (r .head))
+    s-holds : (r : Rule ℕ) → Copied p t x r → Inside (p .atoms) r → Holds (has s) r
+    s-holds r copied inside b n = step (any-or-none (λ a. fixed? p a && has m a) (r .head))
       where
-        inside : All (λ a. (a < p .atoms) × In (has s) a) (r .body)
-        inside = all-both (λ a. a < p .atoms) (In (has s)) (r .body) (h .1 .body) b
-
         copies : All (λ a. T (unfixed? p a) → In x (S a)) (r .body)
-        copies = all-imp (λ a. (a < p .atoms) × In (has s) a) (λ a. T (unfixed? p a) → In x (S a)) (λ a q e. T-of (on-unfixed a (q .0) e) (q .1)) (r .body) inside
+        copies = all-zip (λ a. a < p .atoms) (In (has s)) (λ a. T (unfixed? p a) → In x (S a)) (λ a l h e. T-of (on-unfixed a l e) h) (r .body) (inside .body) b
 
         themselves : All (λ a. T (fixed? p a) → In x (original a)) (r .body)
-        themselves = all-imp (λ a. (a < p .atoms) × In (has s) a) (λ a. T (fixed? p a) → In x (original a)) (λ a q e. original-in a (q .0) (T-of (on-fixed a (q .0) e) (q .1))) (r .body) inside
-
-        headed : (P : ℕ → Type 0) → ((a : ℕ) → (a < p .atoms) × P a → In (has s) a) → Any P (r .head) → Any (In (has s)) (r .head)
-        headed P f k = any-imp (λ a. (a < p .atoms) × P a) (In (has s)) f (r .head) (any-with P (λ a. a < p .atoms) (r .head) (h .1 .head) k)
+        themselves = all-zip (λ a. a < p .atoms) (In (has s)) (λ a. T (fixed? p a) → In x (original a)) (λ a l h e. original-in a l (T-of (on-fixed a l e) h)) (r .body) (inside .body) b
 
         step : Any (λ a. T (fixed? p a && has m a)) (r .head) ⊎ All (λ a. T (fixed? p a && has m a) → ⊥) (r .head) → Any (In (has s)) (r .head)
-        step (inl k) = headed (λ a. T (fixed? p a && has m a)) (λ a q. T-of (sym (on-fixed a (q .0) (T-and-l (fixed? p a) (has m a) (q .1)))) (T-and-r (fixed? p a) (has m a) (q .1))) k
-        step (inr k) = headed (λ a. T (unfixed? p a) × In x (S a)) (λ a q. T-of (sym (on-unfixed a (q .0) (q .1 .0))) (q .1 .1))
-            (without-U (h .0
-            (all-imp (λ a. (a < p .atoms) × (T (fixed? p a && has m a) → ⊥)) (λ a. T (fixed? p a) → Out t (original a)) (λ a q e o. q .1 (T-and (fixed? p a) (has m a) e (full .originals a (q .0) .0 o))) (r .head) (all-both (λ a. a < p .atoms) (λ a. T (fixed? p a && has m a) → ⊥) (r .head) (h .1 .head) k))
+        step (inl k) = any-zip (λ a. a < p .atoms) (λ a. T (fixed? p a && has m a)) (In (has s)) (λ a l h. T-of (sym (on-fixed a l (T-and-l (fixed? p a) (has m a) h))) (T-and-r (fixed? p a) (has m a) h)) (r .head) (inside .head) k
+        step (inr k) = any-zip (λ a. a < p .atoms) (λ a. T (unfixed? p a) × In x (S a)) (In (has s)) (λ a l h. T-of (sym (on-unfixed a l (h .0))) (h .1)) (r .head) (inside .head)
+            (without-U (copied
+            (all-zip (λ a. a < p .atoms) (λ a. T (fixed? p a && has m a) → ⊥) (λ a. T (fixed? p a) → Out t (original a)) (λ a l h e o. h (T-and (fixed? p a) (has m a) e (full .originals a l .0 o))) (r .head) (inside .head) k)
             copies themselves))
 
     s-model : Model (p .rules) (has s)
-    s-model = all-imp (λ r. Copied p t x r × Inside (p .atoms) r) (Holds (has s)) s-holds (p .rules) (all-both (Copied p t x) (Inside (p .atoms)) (p .rules) (steps .s3) (fit .rules))
+    s-model = all-zip (Copied p t x) (Inside (p .atoms)) (Holds (has s)) s-holds (p .rules) (steps .s3) (fit .rules)
 
     -- x has E.0 to E.j, and D. of an atom of class j + 1: s beats m
     module _ (j : ℕ) (ends : (i : ℕ) → i ≤ j → In x (E i)) (high : suc j ≤ p .classes) where

@@ -10,12 +10,12 @@ use Rattle.rules.specs.Sets.{has, In, Out, Subset}
 use Rattle.rules.specs.Rules.{Rule}
 use Rattle.rules.specs.Stable.{Stable}
 use Rattle.rules.proofs.Booleans.{T-of, bool-ext}
-use Rattle.rules.proofs.Lists.{all-imp, all-both, any-imp, any-with, all-map, map-all, any-map, map-any}
+use Rattle.rules.proofs.Lists.{all-imp, all-map, map-all, any-map, map-any}
 use Rattle.rules.proofs.Sets.{same-set, has-below}
 use Rattle.rules.proofs.Rules.{Asks, model→asks, asks→model, reduct→asks, asks→reduct}
 use Rattle.rules.proofs.Stable.{proper-lt}
 use Rattle.pairing.specs.Translated.{rename}
-use Rattle.pairing.proofs.ListLaws.{all-each}
+use Rattle.pairing.proofs.ListLaws.{all-each, all-zip, any-zip}
 use Rattle.pairing.proofs.NumberedSets.{to-numbers, setOf, set-lt, set-has}
 
 -- Q holds of every atom of a rule
@@ -29,13 +29,13 @@ module _ {A : Type 0} (x y : A → Bool) where
   Equal c = x c ≡ y c
 
   in-congr : (l : List A) → All Equal l → All (In x) l → All (In y) l
-  in-congr l e h = all-imp (λ c. Equal c × In x c) (In y) (λ c q. T-of (q .0) (q .1)) l (all-both Equal (In x) l e h)
+  in-congr l e h = all-zip Equal (In x) (In y) (λ c g k. T-of g k) l e h
 
   out-congr : (l : List A) → All Equal l → All (Out y) l → All (Out x) l
-  out-congr l e h = all-imp (λ c. Equal c × Out y c) (Out x) (λ c q k. q .1 (T-of (q .0) k)) l (all-both Equal (Out y) l e h)
+  out-congr l e h = all-zip Equal (Out y) (Out x) (λ c g i k. i (T-of g k)) l e h
 
   any-congr : (l : List A) → All Equal l → Any (In x) l → Any (In y) l
-  any-congr l e h = any-imp (λ c. Equal c × In x c) (In y) (λ c q. T-of (q .0) (q .1)) l (any-with (In x) Equal l e h)
+  any-congr l e h = any-zip Equal (In x) (In y) (λ c g k. T-of g k) l e h
 
   pub turn : (l : List A) → All Equal l → All (λ c. y c ≡ x c) l
   turn l e = all-imp Equal (λ c. y c ≡ x c) (λ c q. sym q) l e
@@ -74,15 +74,14 @@ module _ {A : Type 0} (atoms : List A) (rs : List (Rule A)) where
           let y : ℕ = setOf num d atoms order x in
           let same = set-has num d atoms order x in
           let smaller : Subset y t = λ i h. to-numbers num d atoms order (λ i. In (has y) i → In (has t) i)
-          (all-imp (λ c. (at (has y) c ≡ x c) × (In x c → In (at (has t)) c)) (λ c. In (at (has y)) c → In (at (has t)) c) (λ c q h. q .1 (T-of (q .0) h)) atoms (all-both (λ c. at (has y) c ≡ x c) (λ c. In x c → In (at (has t)) c) atoms same sub))
+          (all-zip (λ c. at (has y) c ≡ x c) (λ c. In x c → In (at (has t)) c) (λ c. In (at (has y)) c → In (at (has t)) c) (λ c g k h. k (T-of g h)) atoms same sub)
           i (has-below (length atoms) y i (set-lt num d atoms order x) h) h in
           st .minimal y (record {
             subset = smaller;
             differs = λ e. strict (all-imp (λ c. at (has y) c ≡ x c) (λ c. In (at (has t)) c → In x c) (λ c q h. T-of q (T-of (ap (λ (z : ℕ). has z (num c)) (sym e)) h)) atoms same);
           })
           (asks→reduct (map (rename num) rs) (has t) (has y) (down (has t) (has y)
-          (all-imp (λ r. Within (λ c. x c ≡ at (has y) c) r × Asks (at (has t)) x r) (Asks (at (has t)) (at (has y))) (λ r q. asks-congr (at (has t)) x (at (has y)) r (q .0) (q .1)) rs
-          (all-both (Within (λ c. x c ≡ at (has y) c)) (Asks (at (has t)) x) rs (closed (λ c. x c ≡ at (has y) c) (turn (at (has y)) x atoms same)) asks))));
+          (all-zip (Within (λ c. x c ≡ at (has y) c)) (Asks (at (has t)) x) (Asks (at (has t)) (at (has y))) (λ r g k. asks-congr (at (has t)) x (at (has y)) r g k) rs (closed (λ c. x c ≡ at (has y) c) (turn (at (has y)) x atoms same)) asks)));
     }
 
     -- two sets of the numbered atoms with the same members are one

@@ -11,10 +11,11 @@ use Rattle.rules.specs.Sets.{has, In, Out}
 use Rattle.rules.specs.Rules.{Rule, Holds, Model}
 use Rattle.rules.specs.Preferred.{fixed, OfClass, Beats, Preferred}
 use Rattle.rules.proofs.Booleans.{stable, T-of, T-and, T-and-l, T-and-r, T-not-in, T-not-out, eq→eqb}
-use Rattle.rules.proofs.Lists.{all-imp, all-both, any-imp, any-with, any-or-none}
+use Rattle.rules.proofs.Lists.{all-both, any-or-none}
 use Rattle.stores.specs.Program.{Program}
 use Rattle.pairing.specs.Atoms.{Atom, original, N, S, D, E, U, classWord, fixed?, unfixed?, declared}
 use Rattle.pairing.specs.Steps.{translation}
+use Rattle.pairing.proofs.ListLaws.{all-zip, any-zip}
 use Rattle.pairing.proofs.Fit.{Fit, Inside, fixed-or}
 use Rattle.pairing.proofs.Asked.{Kept, Copied, Steps, to-steps, of-steps}
 use Rattle.pairing.proofs.Numbering.{Declared, to-declared, of-declared}
@@ -92,16 +93,16 @@ module _ (p : Program) (fit : Fit p) (t : Atom → Bool) (st : StableOver (decla
     }
 
     model : Model (p .rules) (has m)
-    model = all-imp (λ r. Kept p t t r × Inside (p .atoms) r) (Holds (has m)) holds (p .rules) (all-both (Kept p t t) (Inside (p .atoms)) (p .rules) (steps .s2) (fit .rules))
+    model = all-zip (Kept p t t) (Inside (p .atoms)) (Holds (has m)) holds (p .rules) (steps .s2) (fit .rules)
       where
-        holds : (r : Rule ℕ) → Kept p t t r × Inside (p .atoms) r → Holds (has m) r
-        holds r h b n = step (any-or-none (has m) (r .head))
+        holds : (r : Rule ℕ) → Kept p t t r → Inside (p .atoms) r → Holds (has m) r
+        holds r kept inside b n = step (any-or-none (has m) (r .head))
           where
             step : Any (In (has m)) (r .head) ⊎ All (Out (has m)) (r .head) → Any (In (has m)) (r .head)
             step (inl k) = k
-            step (inr k) = absurd (h .0
-                (all-imp (λ a. (a < p .atoms) × Out (has m) a) (λ a. Out t (original a)) (λ a q i. q .1 (m-of a (q .0) i)) (r .head) (all-both (λ a. a < p .atoms) (Out (has m)) (r .head) (h .1 .head) k))
-                (all-imp (λ a. (a < p .atoms) × In (has m) a) (λ a. Out t (N a)) (λ a q. n-out a (q .0) (of-m a (q .0) (q .1))) (r .body) (all-both (λ a. a < p .atoms) (In (has m)) (r .body) (h .1 .body) b)))
+            step (inr k) = absurd (kept
+                (all-zip (λ a. a < p .atoms) (Out (has m)) (λ a. Out t (original a)) (λ a g k i. k (m-of a g i)) (r .head) (inside .head) k)
+                (all-zip (λ a. a < p .atoms) (In (has m)) (λ a. Out t (N a)) (λ a g k. n-out a g (of-m a g k)) (r .body) (inside .body) b))
 
     module _ (s : ℕ) (b : Beats (p .words) (p .rules) s m) where
       abbrev x : Atom → Bool
@@ -113,19 +114,17 @@ module _ (p : Program) (fit : Fit p) (t : Atom → Bool) (st : StableOver (decla
       is-fixed : (a : ℕ) → a < p .atoms → T (fixed? p a) → OfClass (p .words) fixed a
       is-fixed a l f = of-class a fixed l (eqb→eq (classWord p a) fixed f)
 
-      copied : (r : Rule ℕ) → Holds (has s) r × Inside (p .atoms) r → Copied p t x r
-      copied r h o u f = inl (any-imp (λ a. ((a < p .atoms) × (T (fixed? p a) → Out t (original a))) × In (has s) a) (λ a. T (unfixed? p a) × In (has s) a) (λ a q. up a (q .0 .0) (q .0 .1) (q .1) (fixed-or p a)) (r .head)
-          (any-with (In (has s)) (λ a. (a < p .atoms) × (T (fixed? p a) → Out t (original a))) (r .head) (all-both (λ a. a < p .atoms) (λ a. T (fixed? p a) → Out t (original a)) (r .head) (h .1 .head) o) headed))
+      copied : (r : Rule ℕ) → Holds (has s) r → Inside (p .atoms) r → Copied p t x r
+      copied r holds inside o u f = inl (any-zip (λ a. (a < p .atoms) × (T (fixed? p a) → Out t (original a))) (In (has s)) (λ a. T (unfixed? p a) × In (has s) a) (λ a g k. up a (g .0) (g .1) k (fixed-or p a)) (r .head) (all-both (λ a. a < p .atoms) (λ a. T (fixed? p a) → Out t (original a)) (r .head) (inside .head) o) headed)
         where
           down : (a : ℕ) → a < p .atoms → (T (unfixed? p a) → In (has s) a) → (T (fixed? p a) → In t (original a)) → T (fixed? p a) ⊎ T (unfixed? p a) → In (has s) a
           down a l v w (inl k) = b .agrees a (is-fixed a l k) .1 (m-of a l (w k))
           down a l v w (inr k) = v k
 
           headed : Any (In (has s)) (r .head)
-          headed = h .0
-              (all-imp (λ a. (a < p .atoms) × ((T (unfixed? p a) → In (has s) a) × (T (fixed? p a) → In t (original a)))) (In (has s)) (λ a q. down a (q .0) (q .1 .0) (q .1 .1) (fixed-or p a)) (r .body)
-              (all-both (λ a. a < p .atoms) (λ a. (T (unfixed? p a) → In (has s) a) × (T (fixed? p a) → In t (original a))) (r .body) (h .1 .body) (all-both (λ a. T (unfixed? p a) → In (has s) a) (λ a. T (fixed? p a) → In t (original a)) (r .body) u f)))
-              (subst (All (Out (has s))) (sym (h .1 .nots)) tt)
+          headed = holds
+              (all-zip (λ a. a < p .atoms) (λ a. (T (unfixed? p a) → In (has s) a) × (T (fixed? p a) → In t (original a))) (In (has s)) (λ a g k. down a g (k .0) (k .1) (fixed-or p a)) (r .body) (inside .body) (all-both (λ a. T (unfixed? p a) → In (has s) a) (λ a. T (fixed? p a) → In t (original a)) (r .body) u f))
+              (subst (All (Out (has s))) (sym (inside .nots)) tt)
 
           up : (a : ℕ) → a < p .atoms → (T (fixed? p a) → Out t (original a)) → In (has s) a → T (fixed? p a) ⊎ T (unfixed? p a) → T (unfixed? p a) × In (has s) a
           up a l v h (inl k) = absurd (v k (of-m a l (b .agrees a (is-fixed a l k) .0 h)))
@@ -172,7 +171,7 @@ module _ (p : Program) (fit : Fit p) (t : Atom → Bool) (st : StableOver (decla
       x-steps = record {
         s1 = λ a l. (steps .s1 a l .0, λ o. T-not-in (t (original a)) o);
         s2 = steps .s2;
-        s3 = all-imp (λ r. Holds (has s) r × Inside (p .atoms) r) (Copied p t x) copied (p .rules) (all-both (Holds (has s)) (Inside (p .atoms)) (p .rules) (b .model) (fit .rules));
+        s3 = all-zip (Holds (has s)) (Inside (p .atoms)) (Copied p t x) copied (p .rules) (b .model) (fit .rules);
         s4 = inl (lt→ltb 0 (b .class) (let i = b .is-class in omega arith));
         s5 = λ i l u. class-step i;
         s6 = λ a l c. (

@@ -8,33 +8,33 @@ use Rattle.stores.specs.Program.{Program}
 use Rattle.pairing.specs.Atoms.{Atom, original, N, S, D, E, U, originals, classWord, fixed?, unfixed?, minimisedAtoms, unfixedAtoms}
 
 module _ (p : Program) where
-  -- a if not N.a; N.a if not a; for each atom
+  -- Step 1: a if not N.a; N.a if not a; for each atom
   unfoldable pub step1 : List (Rule Atom)
   step1 = flat (λ a.
       rule (original a ∷ []) [] (N a ∷ [])
       ∷ rule (N a ∷ []) [] (original a ∷ [])
       ∷ []) (originals p)
 
-  -- for each rule: no head; not its head atoms, then not N. of its body atoms
+  -- Step 2: for each rule: no head; not its head atoms, then not N. of its body atoms
   unfoldable pub step2 : List (Rule Atom)
   step2 = map (λ r. rule [] [] (map original (r .head) ++ map N (r .body))) (p .rules)
 
-  -- for each rule: S. of its unfixed head atoms, U last; body S. of the unfixed, the fixed themselves; not its fixed head atoms
+  -- Step 3: for each rule: S. of its unfixed head atoms, U last; body S. of the unfixed, the fixed themselves; not its fixed head atoms
   unfoldable pub step3 : List (Rule Atom)
   step3 = map (λ r. rule
       (map S (filter (unfixed? p) (r .head)) ++ (U ∷ []))
       (map S (filter (unfixed? p) (r .body)) ++ map original (filter (fixed? p) (r .body)))
       (map original (filter (fixed? p) (r .head)))) (p .rules)
 
-  -- E.0 or U
+  -- Step 4: E.0 or U
   unfoldable pub step4 : List (Rule Atom)
   step4 = rule (E 0 ∷ U ∷ []) [] [] ∷ []
 
-  -- for each class i: the D. of its atoms, E.i or U, if E.(i−1)
+  -- Step 5: for each class i: the D. of its atoms, E.i or U, if E.(i−1)
   unfoldable pub step5 : List (Rule Atom)
   step5 = map (λ i. rule (map D (ofClass (p .words) i) ++ (E i ∷ U ∷ [])) (E (i - 1) ∷ []) []) (from 1 (p .classes))
 
-  -- for each minimised a of class i: U if D.a, not a; U if D.a and S.a; U if E.(i−1) and S.a, not a; S.a or U if E.i, not N.a
+  -- Step 6: for each minimised a of class i: U if D.a, not a; U if D.a and S.a; U if E.(i−1) and S.a, not a; S.a or U if E.i, not N.a
   unfoldable pub step6 : List (Rule Atom)
   step6 = flat (λ a.
       rule (U ∷ []) (D a ∷ []) (original a ∷ [])
@@ -43,19 +43,19 @@ module _ (p : Program) where
       ∷ rule (S a ∷ U ∷ []) (E (classWord p a) ∷ []) (N a ∷ [])
       ∷ []) (minimisedAtoms p)
 
-  -- S.a if U, each unfixed
+  -- Step 7: S.a if U, each unfixed
   unfoldable pub step7 : List (Rule Atom)
   step7 = map (λ a. rule (S a ∷ []) (U ∷ []) []) (unfixedAtoms p)
 
-  -- D.a if U, each minimised
+  -- Step 8: D.a if U, each minimised
   unfoldable pub step8 : List (Rule Atom)
   step8 = map (λ a. rule (D a ∷ []) (U ∷ []) []) (minimisedAtoms p)
 
-  -- E.j if U, j from 0 to k
+  -- Step 9: E.j if U, j from 0 to k
   unfoldable pub step9 : List (Rule Atom)
   step9 = map (λ j. rule (E j ∷ []) (U ∷ []) []) (from 0 (suc (p .classes)))
 
-  -- U if E.k; then no head, not U
+  -- Step 10: U if E.k; then no head, not U
   unfoldable pub step10 : List (Rule Atom)
   step10 = rule (U ∷ []) (E (p .classes) ∷ []) [] ∷ rule [] [] (U ∷ []) ∷ []
 
