@@ -1,2 +1,4 @@
 pub mod Examples
 pub mod LineText
+pub mod NameText
+pub mod FormText
