@@ -2,3 +2,5 @@ pub mod Examples
 pub mod LineText
 pub mod NameText
 pub mod FormText
+pub mod NameNumbers
+pub mod ClassParts
