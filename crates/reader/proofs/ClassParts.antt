@@ -117,7 +117,7 @@ module _ {A : Type 0} where
       go true h = omega arith
       go false h = omega arith
 
-all-replicate : (P : ℕ → Type 0) (c v : ℕ) → P v → All P (replicate c v)
+pub all-replicate : (P : ℕ → Type 0) (c v : ℕ) → P v → All P (replicate c v)
 all-replicate P zero v h = tt
 all-replicate P (suc c) v h = (h, all-replicate P c v h)
 

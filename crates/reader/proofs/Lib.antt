@@ -4,3 +4,5 @@ pub mod NameText
 pub mod FormText
 pub mod NameNumbers
 pub mod ClassParts
+pub mod LineSteps
+pub mod Progress
