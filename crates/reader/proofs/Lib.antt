@@ -6,3 +6,5 @@ pub mod NameNumbers
 pub mod ClassParts
 pub mod LineSteps
 pub mod Progress
+pub mod WrittenLines
+pub mod RoundTrip
