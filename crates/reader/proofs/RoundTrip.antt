@@ -25,7 +25,7 @@ use Rattle.reader.specs.Said.{accepted, refused, start, readLines, said,
 use Rattle.reader.proofs.LineText.{joined-lines}
 use Rattle.reader.proofs.FormText.{is-true}
 use Rattle.reader.proofs.Progress.{state, AllSaid, lines-said, start-said, text-said}
-use Rattle.reader.proofs.WrittenLines.{Reads, reads-then, reads-rules, reads-declarations}
+use Rattle.reader.proofs.WrittenLines.{Reads, counted, reads-then, reads-rules, reads-declarations}
 
 -- an accepted text
 
@@ -37,9 +37,11 @@ accepted-text text st e = go (leb (length text) textLimit) (leb→le (length tex
     go true f i = (f tt, subst (AllSaid st) (joined-lines text) (lines-said 1 (start text) (lines text) [] (start-said text) i))
     go false f i = absurd (let z : _≡_ {A = ℕ} 0 1 = cc in omega arith)
 
+-- document 01: the writer gives for an accepted text's stores the same text
 pub read-write : (text : List ℕ) (st : State) → said text ≡ accepted st → textOf (programOf st) (st .names) ≡ text
 read-write text st e = text-said (accepted-text text st e .1)
 
+-- they are of the form, and the names fit
 pub accepted-form : (text : List ℕ) (st : State) → said text ≡ accepted st → Form (programOf st) × NamesForm (st .kind) (length (st .names)) (st .names)
 accepted-form text st e = let s = accepted-text text st e .1 .so-far in (s .form, s .names-form)
 
@@ -82,14 +84,14 @@ stateOf p names = state (p .kind) Ruling (p .classes) (p .words) names (p .rules
 reads-program : (p : Program) (names : List (List ℕ)) → Form p → NamesForm (p .kind) (p .atoms) names → Reads (state (p .kind) Declaring 0 [] [] []) (textOf p names) (stateOf p names)
 unfolding textOf
 reads-program p names f g =
-    let h : NamesForm (p .kind) (length names) names = record { count = refl; all-allowed = g .all-allowed; different = g .different } in
     reads-then (reads-declarations (p .kind) p names (f .classes-form) g (f .atoms-fit))
-    (reads-rules (p .kind) (p .classes) (p .words) names h [] (p .rules) (subst (λ n. All (RuleForm (p .kind) n) (p .rules)) (sym (g .count)) (f .rule-forms)) (f .rules-fit) (f .occurrences-fit))
+    (reads-rules (p .kind) (p .classes) (p .words) names (counted g) [] (p .rules) (subst (λ n. All (RuleForm (p .kind) n) (p .rules)) (sym (g .count)) (f .rule-forms)) (f .rules-fit) (f .occurrences-fit))
 
 start-program : (p : Program) (names : List (List ℕ)) → start (textOf p names) ≡ state (p .kind) Declaring 0 [] [] []
 unfolding textOf
 start-program p names = start-is (p .kind) p names (flat (ruleText names) (p .rules))
 
+-- stores of the form are written to a text that is accepted and gives them back
 pub write-read : (p : Program) (names : List (List ℕ)) → Form p → NamesForm (p .kind) (p .atoms) names → length (textOf p names) ≤ textLimit → (st : State) × (said (textOf p names) ≡ accepted st) × (programOf st ≡ p) × (st .names ≡ names)
 write-read p names f g short = (
   stateOf p names,

@@ -87,6 +87,9 @@ reads-rule {st} {hs} {bs} {ns} d =
     let n = allowed-names (st .kind) ns (d .nots-listed .all-allowed) in
     reads-line (ruleLine hs bs ns) (rule-whole hs bs ns h b n) (ap (stepForm st) (rule-line-form hs bs ns h b n) ∙ rule-says st hs bs ns d)
 
+pub counted : {kind : Kind} {n : ℕ} {names : List (List ℕ)} → NamesForm kind n names → NamesForm kind (length names) names
+counted f = record { count = refl; all-allowed = f .all-allowed; different = f .different }
+
 -- the rules
 
 not-filled : (kind : Kind) (names : List (List ℕ)) (xs : List ℕ) → NotForm kind xs → T (filled kind (named names xs)) → ⊥
@@ -230,10 +233,8 @@ module _ (k : ℕ) (words : List ℕ) (names : List (List ℕ)) (few : k ≤ cla
 pub reads-declarations : (kind : Kind) (p : Program) (names : List (List ℕ)) → ClassesForm kind (p .atoms) (p .classes) (p .words) → NamesForm kind (p .atoms) names → p .atoms ≤ atomLimit kind
     → Reads (state kind Declaring 0 [] [] []) (declarations kind p names) (state kind Ruling (p .classes) (p .words) names [])
 reads-declarations Plain p names c f room =
-    let g : NamesForm Plain (length names) names = record { count = refl; all-allowed = f .all-allowed; different = f .different } in
     let n : length names ≡ p .atoms = f .count in
-    subst₂ (λ k ws. Reads (state Plain Declaring 0 [] [] []) (listLine (wordOf atoms) names) (state Plain Ruling k ws names [])) (sym (c .0)) (sym (c .1)) (reads-atoms names g (omega arith))
+    subst₂ (λ k ws. Reads (state Plain Declaring 0 [] [] []) (listLine (wordOf atoms) names) (state Plain Ruling k ws names [])) (sym (c .0)) (sym (c .1)) (reads-atoms names (counted f) (omega arith))
 reads-declarations Preference p names c f room =
-    let g : NamesForm Preference (length names) names = record { count = refl; all-allowed = f .all-allowed; different = f .different } in
     let n : length names ≡ p .atoms = f .count in
-    reads-classes (p .classes) (p .words) names (c .0) (c .1 ∙ sym n) (c .2) (c .3) g (omega arith) (p .atoms) (p .rules)
+    reads-classes (p .classes) (p .words) names (c .0) (c .1 ∙ sym n) (c .2) (c .3) (counted f) (omega arith) (p .atoms) (p .rules)
