@@ -19,7 +19,7 @@ use Rattle.stores.specs.Names.{allowed}
 use Rattle.stores.specs.NameStore.{sameBytes}
 use Rattle.reader.specs.Forms.{Word}
 use Rattle.reader.specs.Faults.{State, Step, next, expects, ruling?, classesAfter, twice, refusedName, undeclared, anyOf, first, declared, declare, numbered, with-rule, filled, addRule}
-use Rattle.reader.proofs.NameNumbers.{Declared, declared-law, some-none, twice-free, free-twice}
+use Rattle.reader.proofs.NumberedNames.{Declared, declared-law, some-none, twice-free, free-twice}
 
 -- one test after another
 

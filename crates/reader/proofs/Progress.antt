@@ -28,7 +28,7 @@ use Rattle.reader.specs.Faults.{State, Step, next, fault, expects, rulin
 use Rattle.reader.specs.Said.{accepted, refused, start, onStep, readLines, programOf}
 use Rattle.reader.proofs.LineText.{joined}
 use Rattle.reader.proofs.FormText.{wordOf, LineOf, form-line}
-use Rattle.reader.proofs.NameNumbers.{Declared, number-below, names-of-numbers, numbers-differ, twice-free}
+use Rattle.reader.proofs.NumberedNames.{Declared, number-below, names-of-numbers, numbers-differ, twice-free}
 use Rattle.reader.proofs.ClassParts.{classNames, words-fit, class-kept, class-new, all-replicate, rising-app, role-more, role-new}
 use Rattle.reader.proofs.LineSteps.{Declares, declare-said, Listed, Adds, rule-said}
 

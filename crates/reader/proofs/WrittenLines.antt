@@ -33,7 +33,7 @@ use Rattle.reader.specs.Said.{onStep, readLines}
 use Rattle.reader.proofs.LineText.{WholeLine, lines-cons}
 use Rattle.reader.proofs.NameText.{IsName}
 use Rattle.reader.proofs.FormText.{wordOf, list-form, list-whole, rule-line-form, rule-whole}
-use Rattle.reader.proofs.NameNumbers.{Declared, all-at, declared-at, numbers-of-names, names-differ, free-twice}
+use Rattle.reader.proofs.NumberedNames.{Declared, all-at, declared-at, numbers-of-names, names-differ, free-twice}
 use Rattle.reader.proofs.ClassParts.{chosen, is, upTo, classNames, class-chosen, chosen-none, chosen-every, all-chosen, distinct-chosen, length-chosen, chosen-words, Next, chosen-next, role-parts}
 use Rattle.reader.proofs.LineSteps.{Declares, declare-says, Listed, Adds, rule-says}
 use Rattle.reader.proofs.Progress.{state, sum-app}
