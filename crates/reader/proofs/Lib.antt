@@ -1,1 +1,10 @@
 pub mod Examples
+pub mod LineText
+pub mod NameText
+pub mod FormText
+pub mod NumberedNames
+pub mod ClassParts
+pub mod LineSteps
+pub mod Progress
+pub mod WrittenLines
+pub mod RoundTrip
