@@ -1,41 +1,41 @@
 -- Demand 3, from the round trips of reader and writer, the pairing and the form of the translation.
-use Prim.Native.Nat.{ℕ, _+_, _≤_, _<_, _^_}
+use Prim.Native.Nat.{ℕ, _≤_}
 use mathlib.Core.Path.{_≡_, refl, sym, ap, ap₂, subst, _∙_}
 use mathlib.Core.Bool.{Bool, true, false, cond, _&&_}
-use mathlib.Core.List.{List, [], _∷_, _++_}
+use mathlib.Core.List.{List}
 use native.Mathlib.Omega.{arith}
 use lib.Dec.{T, leb, leb→le}
 use lib.ListN.{length, take, drop}
 use lib.Seq.{take-append-seam}
 use borrow.Author.Tests.{le-leb}
-use Rattle.kinds.specs.Limits.{textLimit}
 use Rattle.kinds.specs.declared.limits.Kind.{Kind}
 use Rattle.kinds.specs.declared.limits.Kind.the-variants.{Plain, Preference}
 use Rattle.rules.specs.Lists.{sum}
 use Rattle.rules.specs.Rules.{occurrences}
 use Rattle.rules.proofs.Booleans.{T-and-l, T-and-r}
 use Rattle.stores.specs.Program.{Program, Form}
-use Rattle.stores.specs.RuleStore.{encode, decode, StoreOf, ruleStore, isOf}
-use Rattle.stores.specs.NameStore.{encodeNames, decodeNames, names?, NamesForm, NamesOf}
+use Rattle.stores.specs.RuleStore.{encode, decode, ruleStore, isOf}
+use Rattle.stores.specs.NameStore.{encodeNames, names?, NamesForm}
 use Rattle.stores.proofs.RuleStores.{decode-encode, kind-answered}
 use Rattle.stores.proofs.NameStores.{decode-names, names-law}
 use Rattle.writer.specs.declared.Written.{Written}
 use Rattle.writer.specs.declared.Written.the-variants.{Text, Refused as NotWritten}
 use Rattle.writer.specs.Text.{textOf}
-use Rattle.writer.specs.Answers.{over, fitted, writtenBytes}
+use Rattle.writer.specs.Answers.{over, fitted}
 use Rattle.writer.proofs.TextLength.{text-fits}
 use Rattle.reader.specs.declared.answers.Read.{Read}
 use Rattle.reader.specs.declared.answers.Read.the-variants.{Accepted, Refused as NotRead}
 use Rattle.reader.specs.Faults.{State}
 use Rattle.reader.specs.Said.{Said, accepted, refused, said, programOf}
-use Rattle.reader.specs.Answers.{readAnswer, readRules, readNames, ruleWordsOf, nameBytesOf, answerOf, writtenIf}
+use Rattle.reader.proofs.RoundTrip.{accepted-form, write-read}
+use Rattle.reader.specs.Answers.{readAnswer, readRules, readNames, ruleWordsOf, nameBytesOf, answerOf}
 use Rattle.pairing.specs.Translated.{translated, translatedNames}
 use Rattle.pairing.proofs.Paired.{paired, only-one}
 use Rattle.pairing.proofs.Sums.{atoms-sum, rules-sum, occurrences-sum}
 use Rattle.pairing.proofs.PlainForm.{plain-form}
 use Rattle.pairing.proofs.PlainNames.{plain-names, file-names}
 use Rattle.translation.specs.Answers.{translationText, storesTranslation, translateAnswer, translateOutput}
-use Rattle.rigtomato.specs.Demand3.{Handed, delivered, ReadsAs, Demand3}
+use Rattle.rigtomato.specs.Demand3.{Handed, delivered, ReadsAs, Demand3, Demand3Holds}
 
 true-of : (b : Bool) → T b → b ≡ true
 true-of true t = refl
@@ -129,87 +129,86 @@ module _ (p : Program) (form : Form p) (names : List (List ℕ)) (fit : NamesFor
   unfolding translateOutput
   output-is out size e = rw (e, stores-text)
 
-module _
-    (accepted-form : (text : List ℕ) (st : State) → said text ≡ accepted st → Form (programOf st) × NamesForm (st .kind) (length (st .names)) (st .names))
-    (write-read : (p : Program) (names : List (List ℕ)) → Form p → NamesForm (p .kind) (p .atoms) names → length (textOf p names) ≤ textLimit
-    → (st : State) × (said (textOf p names) ≡ accepted st) × (programOf st ≡ p) × (st .names ≡ names)) where
-  module _ (text rules names out : List ℕ) (h : Handed text rules names out) where
-    read-as : Filled text (length rules) (length names) (h .words) (h .bytes)
-    read-as = filled text (length rules) (length names) (h .words) (h .bytes) (h .read)
+module _ (text rules names out : List ℕ) (h : Handed text rules names out) where
+  read-as : Filled text (length rules) (length names) (h .words) (h .bytes)
+  read-as = filled text (length rules) (length names) (h .words) (h .bytes) (h .read)
 
-    abbrev file : State
-    file = read-as .file
+  abbrev file : State
+  file = read-as .file
 
-    abbrev p : Program
-    p = programOf file
+  abbrev p : Program
+  p = programOf file
 
-    form : Form p
-    form = accepted-form text file (read-as .lines) .0
+  form : Form p
+  form = accepted-form text file (read-as .lines) .0
 
-    fit : NamesForm (p .kind) (p .atoms) (file .names)
-    fit = accepted-form text file (read-as .lines) .1
+  fit : NamesForm (p .kind) (p .atoms) (file .names)
+  fit = accepted-form text file (read-as .lines) .1
 
-    rules-handed : take (h .words) (readRules text rules names) ≡ encode p
-    rules-handed =
-        ap₂ take (read-as .words-are) (reads-as text file (read-as .lines) .rules-filled rules names (read-as .rules-room) (read-as .names-room))
-        ∙ front (encode p) rules
+  rules-handed : take (h .words) (readRules text rules names) ≡ encode p
+  rules-handed =
+      ap₂ take (read-as .words-are) (reads-as text file (read-as .lines) .rules-filled rules names (read-as .rules-room) (read-as .names-room))
+      ∙ front (encode p) rules
 
-    names-handed : take (h .bytes) (readNames text rules names) ≡ encodeNames (file .names)
-    names-handed =
-        ap₂ take (read-as .bytes-are) (reads-as text file (read-as .lines) .names-filled rules names (read-as .rules-room) (read-as .names-room))
-        ∙ front (encodeNames (file .names)) names
+  names-handed : take (h .bytes) (readNames text rules names) ≡ encodeNames (file .names)
+  names-handed =
+      ap₂ take (read-as .bytes-are) (reads-as text file (read-as .lines) .names-filled rules names (read-as .rules-room) (read-as .names-room))
+      ∙ front (encodeNames (file .names)) names
 
-    written : translateAnswer (encode p) (encodeNames (file .names)) (length out) ≡ Text (h .size)
-    written = ap₂ (λ (r n : List ℕ). translateAnswer r n (length out)) (sym rules-handed) (sym names-handed) ∙ h .written
+  written : translateAnswer (encode p) (encodeNames (file .names)) (length out) ≡ Text (h .size)
+  written = ap₂ (λ (r n : List ℕ). translateAnswer r n (length out)) (sym rules-handed) (sym names-handed) ∙ h .written
 
-    sent : Translated p form (file .names) fit (length out) (h .size)
-    sent = translated-only p form (file .names) fit (length out) (h .size) written
+  sent : Translated p form (file .names) fit (length out) (h .size)
+  sent = translated-only p form (file .names) fit (length out) (h .size) written
 
-    kind : p .kind ≡ Preference
-    kind = sent .kind
+  kind : p .kind ≡ Preference
+  kind = sent .kind
 
-    delivered-is : delivered h ≡ translationText p (file .names)
-    delivered-is =
-        ap₂ take (sent .size-is) (ap₂ (λ (r n : List ℕ). translateOutput r n out) rules-handed names-handed ∙ output-is p form (file .names) fit out (h .size) written)
-        ∙ front (translationText p (file .names)) out
+  delivered-is : delivered h ≡ translationText p (file .names)
+  delivered-is =
+      ap₂ take (sent .size-is) (ap₂ (λ (r n : List ℕ). translateOutput r n out) rules-handed names-handed ∙ output-is p form (file .names) fit out (h .size) written)
+      ∙ front (translationText p (file .names)) out
 
-    plain-fit : NamesForm Plain (translated p .atoms) (translatedNames p (file .names))
-    plain-fit = plain-names p kind form (file .names) (subst (λ (c : Kind). NamesForm c (p .atoms) (file .names)) kind fit)
+  plain-fit : NamesForm Plain (translated p .atoms) (translatedNames p (file .names))
+  plain-fit = plain-names p kind form (file .names) (subst (λ (c : Kind). NamesForm c (p .atoms) (file .names)) kind fit)
 
-    read-again : (st : State) × (said (textOf (translated p) (translatedNames p (file .names))) ≡ accepted st) × (programOf st ≡ translated p) × (st .names ≡ translatedNames p (file .names))
-    read-again = write-read (translated p) (translatedNames p (file .names)) (plain-form p kind form) plain-fit (text-fits (plain-form p kind form) plain-fit)
+  read-again : (st : State) × (said (textOf (translated p) (translatedNames p (file .names))) ≡ accepted st) × (programOf st ≡ translated p) × (st .names ≡ translatedNames p (file .names))
+  read-again = write-read (translated p) (translatedNames p (file .names)) (plain-form p kind form) plain-fit (text-fits (plain-form p kind form) plain-fit)
 
-    abbrev plain : State
-    plain = read-again .0
+  abbrev plain : State
+  plain = read-again .0
 
-    plain-said : said (delivered h) ≡ accepted plain
-    unfolding translationText
-    plain-said = ap said delivered-is ∙ read-again .1
+  plain-said : said (delivered h) ≡ accepted plain
+  unfolding translationText
+  plain-said = ap said delivered-is ∙ read-again .1
 
-    program : programOf plain ≡ translated p
-    program = read-again .2
+  program : programOf plain ≡ translated p
+  program = read-again .2
 
-    atoms-are : length (plain .names) ≡ translated p .atoms
-    atoms-are = ap (λ (q : Program). q .atoms) program
+  atoms-are : length (plain .names) ≡ translated p .atoms
+  atoms-are = ap (λ (q : Program). q .atoms) program
 
-    rules-are : plain .program-rules ≡ translated p .rules
-    rules-are = ap (λ (q : Program). q .rules) program
+  rules-are : plain .program-rules ≡ translated p .rules
+  rules-are = ap (λ (q : Program). q .rules) program
 
-    pub demand3 : Demand3 text (delivered h)
-    demand3 = record {
-      file = file;
-      plain = plain;
-      file-read = reads-as text file (read-as .lines);
-      plain-read = reads-as (delivered h) plain plain-said;
-      file-kind = kind;
-      plain-kind = ap (λ (q : Program). q .kind) program;
-      steps = delivered-is;
-      program = program;
-      names = read-again .3;
-      own-names = ap (take (length (file .names))) (read-again .3) ∙ file-names p kind form (file .names) (subst (λ (c : Kind). NamesForm c (p .atoms) (file .names)) kind fit);
-      paired = λ s l. rw (atoms-are, rules-are) (paired p kind form s l);
-      only-one = λ t u lt lu st su e. only-one p kind form t u (rw atoms-are at lt) (rw atoms-are at lu) (rw rules-are at st) (rw rules-are at su) e;
-      atoms = atoms-are ∙ atoms-sum p kind form;
-      rules = ap length rules-are ∙ rules-sum p kind form;
-      places = ap (λ r. sum occurrences r) rules-are ∙ occurrences-sum p kind form;
-    }
+  pub demand3 : Demand3 text (delivered h)
+  demand3 = record {
+    file = file;
+    plain = plain;
+    file-read = reads-as text file (read-as .lines);
+    plain-read = reads-as (delivered h) plain plain-said;
+    file-kind = kind;
+    plain-kind = ap (λ (q : Program). q .kind) program;
+    steps = delivered-is;
+    program = program;
+    names = read-again .3;
+    own-names = ap (take (length (file .names))) (read-again .3) ∙ file-names p kind form (file .names) (subst (λ (c : Kind). NamesForm c (p .atoms) (file .names)) kind fit);
+    paired = λ s l. rw (atoms-are, rules-are) (paired p kind form s l);
+    only-one = λ t u lt lu st su e. only-one p kind form t u (rw atoms-are at lt) (rw atoms-are at lu) (rw rules-are at st) (rw rules-are at su) e;
+    atoms = atoms-are ∙ atoms-sum p kind form;
+    rules = ap length rules-are ∙ rules-sum p kind form;
+    places = ap (λ r. sum occurrences r) rules-are ∙ occurrences-sum p kind form;
+  }
+
+pub demand-3 : Demand3Holds
+demand-3 text rules names out h = demand3 text rules names out h

@@ -10,9 +10,6 @@ use Rattle.rules.specs.Sets.{cut}
 use Rattle.rules.specs.Rules.{occurrences}
 use Rattle.rules.specs.Stable.{Stable}
 use Rattle.rules.specs.Preferred.{Preferred}
-use Rattle.stores.specs.Program.{Program}
-use Rattle.stores.specs.RuleStore.{encode}
-use Rattle.stores.specs.NameStore.{encodeNames}
 use Rattle.writer.specs.declared.Written.the-variants.{Text}
 use Rattle.writer.specs.Answers.{over}
 use Rattle.reader.specs.declared.answers.Read.the-variants.{Accepted}

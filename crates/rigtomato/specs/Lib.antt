@@ -2,3 +2,4 @@
 pub mod Demand3
 pub mod Printed
 pub mod Fields
+pub mod Sheet

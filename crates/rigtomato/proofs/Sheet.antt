@@ -1,0 +1,36 @@
+-- The marked cases, by computation.
+use mathlib.Core.Path.{refl}
+use Rattle.stores.specs.Names.{nameClass, house?, classNumber?, allowed}
+use Rattle.stores.specs.NameStore.{sameBytes}
+use Rattle.writer.specs.Text.{listLine, openText}
+use Rattle.reader.specs.Lines.{lines, linesFrom, lineLength}
+use Rattle.reader.specs.Items.{items, itemsFrom, run, span}
+use Rattle.reader.specs.Forms.{cutNames, cutList, declaredForm, ruleForm, formOf}
+use Rattle.reader.specs.Faults.{twice, numberOf, declare, addRule}
+use Rattle.reader.specs.Said.{start, readLines, said}
+use Rattle.pairing.specs.Atoms.{declared}
+use Rattle.pairing.specs.Steps.{step1, step2, step3, step4, step5, step6, step7, step8, step9, step10, translation}
+use Rattle.pairing.specs.Translated.{translatedRules}
+use Rattle.verdicts.specs.Walk.{preferredWalk, candidates, search, capped, preferredNeeds, preferredVerdict, firstState, cappedNext, nextVerdict}
+use Rattle.rigtomato.specs.Printed.{digits, stateLine, totalLine, listing, printed, statesOf, statesPrinted}
+use Rattle.rigtomato.specs.Sheet.{fileA, oneClass, lampFirst, darkFixed, nothing, emptyRule, oneRule, listingA, Sheet}
+
+pub sheet : Sheet
+unfolding fileA oneClass lampFirst darkFixed nothing emptyRule oneRule listingA nameClass house? classNumber? allowed sameBytes listLine openText lines linesFrom lineLength items itemsFrom run span cutNames cutList declaredForm ruleForm formOf twice numberOf declare addRule start readLines said declared step1 step2 step3 step4 step5 step6 step7 step8 step9 step10 translation translatedRules preferredWalk candidates search capped preferredNeeds preferredVerdict firstState cappedNext nextVerdict digits stateLine totalLine listing printed statesOf statesPrinted
+sheet = record {
+  a-6 = refl;
+  a-1 = refl;
+  a-0 = refl;
+  a-2 = refl;
+  a-1-spent = refl;
+  a-1-enough = refl;
+  a-listed = refl;
+  one-class = refl;
+  lamp-first = refl;
+  dark-fixed = refl;
+  dark-fixed-1 = refl;
+  one-empty-state = refl;
+  nothing-counts = refl;
+  no-state = refl;
+  one-rule-counts = refl;
+}
