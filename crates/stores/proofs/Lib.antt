@@ -7,3 +7,4 @@ pub mod NamePlaces
 pub mod NameChains
 pub mod NameEntries
 pub mod NameChecks
+pub mod NameClauses
