@@ -1,3 +1,4 @@
 -- Demand 3, proved.
 pub mod Demand3
 pub mod Sheet
+pub mod PrintedLines
