@@ -1,0 +1,2 @@
+// The two verdicts and the next state over a rule store (document 01, "Verdicts").
+pub mod answers;
