@@ -1,5 +1,10 @@
 -- The laws of the walks and the answers.
 pub mod Searches
 pub mod Meanings
+pub mod Bits
+pub mod Stepping
+pub mod Subsets
 pub mod Filters
+pub mod Steps
+pub mod MaskBits
 pub mod Listing

@@ -1,3 +1,5 @@
 -- The walks, their units and the answers (document 01, "Verdicts").
 pub mod Walk
 pub mod Answers
+pub mod Masks
+pub mod Subsets
