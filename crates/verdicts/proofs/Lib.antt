@@ -7,4 +7,7 @@ pub mod Subsets
 pub mod Filters
 pub mod Steps
 pub mod MaskBits
+pub mod RuleMasks
+pub mod ClassMasks
+pub mod VerdictMasks
 pub mod Listing

@@ -1,6 +1,6 @@
 -- Masks by their members: what the tests of two masks say of atoms, and the mask of a list.
-use Prim.Native.Nat.{ℕ, zero, suc, _/_, _%_, _^_, _≤_, _<_, min, max}
-use mathlib.Core.Path.{_≡_, refl, sym, ap, ap₂, _∙_, subst}
+use Prim.Native.Nat.{ℕ, zero, suc, _/_, _%_, _^_, min, max}
+use mathlib.Core.Path.{_≡_, refl, sym, ap, _∙_, subst}
 use mathlib.Core.Logic.{_⊎_, inl, inr, _↔_}
 use mathlib.Core.Bool.{Bool, true, false, not, _&&_, _||_}
 use mathlib.Core.List.{List, [], _∷_}
@@ -10,7 +10,7 @@ use lib.Dec.{T, eqb, eqb→eq}
 use lib.Bits.{bitAnd, bitOr}
 use Rattle.rules.specs.Lists.{every, some}
 use Rattle.rules.specs.Sets.{has}
-use Rattle.rules.proofs.Booleans.{decide, bool-ext, eq→eqb, T-of, T-and, T-and-l, T-and-r, T-or, T-or-out, T-not-in, T-not-out}
+use Rattle.rules.proofs.Booleans.{bool-ext, eq→eqb, T-of, T-and, T-and-l, T-and-r, T-or, T-or-out, T-not-in, T-not-out}
 use Rattle.rules.proofs.Sets.{set-ext}
 use Rattle.verdicts.specs.Masks.{maskOf}
 use Rattle.verdicts.proofs.Bits.{bit, bit-zero, bit-suc, bit-lt, bit-of-zero, bit-and, bit-or}
@@ -97,20 +97,8 @@ some-mask p xs = let r = every-mask (λ a. not (p a)) xs in let e = none xs in (
 -- the tests of masks
 
 module _ (x y : ℕ) where
-  same-members : T (eqb x y) ↔ ((i : ℕ) → has x i ≡ has y i)
+  pub same-members : T (eqb x y) ↔ ((i : ℕ) → has x i ≡ has y i)
   same-members = (λ h i. ap (λ (z : ℕ). has z i) (eqb→eq x y h), λ h. eq→eqb x y (set-ext x y h))
-
--- s has all of b
-pub covers : (s b : ℕ) → T (eqb (bitAnd s b) b) ↔ ((i : ℕ) → T (has b i) → T (has s i))
-covers s b = let r = same-members (bitAnd s b) b in (
-  λ h i t. T-and-l (has s i) (has b i) (T-of (sym (r .0 h i) ∙ has-and s b i) t),
-  λ h. r .1 (λ i. has-and s b i ∙ absorb (has s i) (has b i) (h i)),
-)
-  where
-    absorb : (p q : Bool) → (T q → T p) → (p && q) ≡ q
-    absorb true q f = refl
-    absorb false true f = absurd (f tt)
-    absorb false false f = refl
 
 -- s has none of h
 pub disjoint : (s h : ℕ) → T (eqb (bitAnd s h) 0) ↔ ((i : ℕ) → T (has h i) → T (has s i) → ⊥)
@@ -143,15 +131,21 @@ agrees s m c = let r = same-members (bitAnd s c) (bitAnd m c) in (
     into false true false f = refl
     into false false false f = refl
 
--- what s has of c is in m
-pub part-of : (s m c : ℕ) → T (eqb (bitAnd (bitAnd s c) m) (bitAnd s c)) ↔ ((i : ℕ) → T (has c i) → T (has s i) → T (has m i))
-part-of s m c = let r = same-members (bitAnd (bitAnd s c) m) (bitAnd s c) in (
-  λ e i t k. T-and-r (has (bitAnd s c) i) (has m i) (T-of (sym (r .0 e i) ∙ has-and (bitAnd s c) m i) (T-of (sym (has-and s c i)) (T-and (has s i) (has c i) k t))),
-  λ f. r .1 (λ i. has-and (bitAnd s c) m i ∙ absorb (has (bitAnd s c) i) (has m i)
-      (λ t. let b = T-of (has-and s c i) t in f i (T-and-r (has s i) (has c i) b) (T-and-l (has s i) (has c i) b))),
+-- x is within y
+pub inside : (x y : ℕ) → T (eqb (bitAnd x y) x) ↔ ((i : ℕ) → T (has x i) → T (has y i))
+inside x y = let r = same-members (bitAnd x y) x in (
+  λ e i t. T-and-r (has x i) (has y i) (T-of (sym (r .0 e i) ∙ has-and x y i) t),
+  λ f. r .1 (λ i. has-and x y i ∙ absorb (has x i) (has y i) (f i)),
 )
   where
     absorb : (p q : Bool) → (T p → T q) → (p && q) ≡ p
     absorb true true f = refl
     absorb true false f = absurd (f tt)
     absorb false q f = refl
+
+-- what s has of c is in m
+pub part-of : (s m c : ℕ) → T (eqb (bitAnd (bitAnd s c) m) (bitAnd s c)) ↔ ((i : ℕ) → T (has c i) → T (has s i) → T (has m i))
+part-of s m c = let r = inside (bitAnd s c) m in (
+  λ e i t k. r .0 e i (T-of (sym (has-and s c i)) (T-and (has s i) (has c i) k t)),
+  λ f. r .1 (λ i t. let b = T-of (has-and s c i) t in f i (T-and-r (has s i) (has c i) b) (T-and-l (has s i) (has c i) b)),
+)

@@ -1,12 +1,12 @@
 -- Stepping through the sets that agree on a mask. A set s that agrees with m on the mask f stands as y = s with all of f in;
 -- y = s + d, where d is what f has and m lacks, and the next such y is (y + 1) | f.
-use mathlib.Core.Path.{_≡_, refl, sym, ap, ap₂, _∙_, subst}
+use mathlib.Core.Path.{_≡_, refl, sym, ap, _∙_}
 use mathlib.Core.Logic.{_⊎_, inl, inr, ⊎-elim}
-use Prim.Native.Nat.{ℕ, zero, suc, _+_, _-_, _*_, _/_, _%_, _^_, _≤_, _<_, min, max}
+use Prim.Native.Nat.{ℕ, zero, suc, _+_, _-_, _/_, _%_, _^_, _≤_, _<_, min, max}
 use native.Mathlib.Nat.{mod-lt, zero-lt-suc}
 use native.Mathlib.Omega.{arith}
 use lib.Arith.{bin-ind}
-use lib.Bits.{bitAnd, bitOr, bitXor, or-step, or-zero-r, or-add-and, xor-add-and, and-le-r, and-le-l, and-comm, or-lt}
+use lib.Bits.{bitAnd, bitOr, bitXor, or-step, or-zero-r, or-add-and, xor-add-and, and-le-r, and-comm, or-lt}
 use Rattle.verdicts.proofs.Bits.{bit, bit-and, bit-or, bit-xor, bit-lt, ext}
 
 pub below-two : (n : ℕ) → n < 2 → (n ≡ 0) ⊎ (n ≡ 1)

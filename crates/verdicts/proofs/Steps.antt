@@ -1,6 +1,6 @@
 -- A walk from one set that is tried to the next, as a loop goes.
 use Prim.Native.Nat.{ℕ, suc, _+_, _-_, _≤_, _<_}
-use mathlib.Core.Path.{_≡_, refl, sym, ap, _∙_}
+use mathlib.Core.Path.{_≡_, ap, _∙_}
 use mathlib.Core.Bool.{Bool, true, false, cond}
 use mathlib.Core.List.{List, [], _∷_}
 use native.Mathlib.Numerals.{add-one}
@@ -8,7 +8,6 @@ use native.Mathlib.Omega.{arith}
 use lib.Dec.{T}
 use Rattle.rules.specs.Lists.{filter, from}
 use Rattle.verdicts.specs.Walk.{search, capped}
-use Rattle.verdicts.specs.declared.answers.Verdict.{Verdict}
 use Rattle.verdicts.specs.declared.answers.Verdict.the-variants.{Yes, Beaten, Spent}
 use Rattle.verdicts.proofs.Filters.{upTo, passed-over, none-left, taken}
 use Rattle.verdicts.proofs.Searches.{unitsOf, walked-answered, search-walked, capped-within, capped-over}
@@ -74,5 +73,5 @@ module _ (t b : ℕ → Bool) where
   walk-spent top s c l ht =
       ap (λ (x : List ℕ). capped c (search b x c)) (taken t top s l ht)
       ∙ capped-over c (search b (s ∷ upTo t top (suc s)) c)
-          (walked-answered (search b (s ∷ upTo t top (suc s)) c) (search-walked b (λ x. T (b x)) (λ x. (λ h. h, λ h. h)) (s ∷ upTo t top (suc s)) c))
-          (unit-spent s (upTo t top (suc s)) c)
+      (walked-answered (search b (s ∷ upTo t top (suc s)) c) (search-walked b (λ x. T (b x)) (λ x. (λ h. h, λ h. h)) (s ∷ upTo t top (suc s)) c))
+      (unit-spent s (upTo t top (suc s)) c)

@@ -5,7 +5,7 @@ use mathlib.Core.List.{List, [], _∷_, _++_, map}
 use lib.Dec.{eqb}
 use lib.Bits.{bitAnd, bitOr}
 use lib.ListN.{length, drop}
-use Rattle.rules.specs.Lists.{filter, from}
+use Rattle.rules.specs.Lists.{keep, filter, from}
 use Rattle.rules.specs.Rules.{Rule, countIf}
 use Rattle.rules.specs.Preferred.{ofClass}
 use Rattle.verdicts.specs.Walk.{search}
@@ -71,3 +71,14 @@ subsetM m s = eqb (bitAnd s m) s
 
 unfoldable pub stableWalkM : List ℕ → List ℕ → ℕ → Verdict
 stableWalkM cs ws m = search (modelM cs ws) (filter (subsetM m) (from 0 m)) 0
+
+-- the rules that some set breaks, without the others
+unfoldable pub gatherCare : List ℕ → List ℕ → List ℕ
+gatherCare [] ws = []
+gatherCare (c ∷ cs) [] = []
+gatherCare (c ∷ cs) (w ∷ ws) = keep (eqb (bitAnd w c) w) c (gatherCare cs ws)
+
+unfoldable pub gatherWant : List ℕ → List ℕ → List ℕ
+gatherWant [] ws = []
+gatherWant (c ∷ cs) [] = []
+gatherWant (c ∷ cs) (w ∷ ws) = keep (eqb (bitAnd w c) w) w (gatherWant cs ws)
