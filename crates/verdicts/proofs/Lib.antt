@@ -10,4 +10,6 @@ pub mod MaskBits
 pub mod RuleMasks
 pub mod ClassMasks
 pub mod VerdictMasks
+pub mod MaskLoops
+pub mod RowLaws
 pub mod Listing

@@ -3,3 +3,4 @@ pub mod Walk
 pub mod Answers
 pub mod Masks
 pub mod Subsets
+pub mod Rows

@@ -1,2 +1,3 @@
 // The two verdicts and the next state over a rule store (document 01, "Verdicts").
 pub mod answers;
+pub mod masks;
