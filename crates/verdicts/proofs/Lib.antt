@@ -12,4 +12,6 @@ pub mod ClassMasks
 pub mod VerdictMasks
 pub mod MaskLoops
 pub mod RowLaws
+pub mod AgreeingSets
+pub mod ProperSubsets
 pub mod Listing

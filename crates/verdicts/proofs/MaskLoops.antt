@@ -1,7 +1,7 @@
 -- What the loops over masks keep.
-use Prim.Native.Nat.{ℕ, zero, suc, _+_, _-_, _*_, _%_, _^_, _≤_, _<_, max}
-use mathlib.Core.Path.{_≡_, refl, sym, ap, ap₂, _∙_, subst}
-use mathlib.Core.Bool.{Bool, true, false, not, cond, _&&_}
+use Prim.Native.Nat.{ℕ, suc, _+_, _-_, _*_, _%_, _^_, _≤_, _<_, max}
+use mathlib.Core.Path.{_≡_, refl, sym, ap, ap₂, _∙_}
+use mathlib.Core.Bool.{Bool, false, not, cond, _&&_}
 use mathlib.Core.List.{List, [], _∷_, _++_, append-nil}
 use native.Mathlib.Nat.{add-zero, sub-zero, mod-eq-of-lt, one-mul}
 use native.Mathlib.Numerals.{add-one}
@@ -9,12 +9,12 @@ use native.Mathlib.Omega.{arith}
 use lib.Dec.{eqb}
 use lib.Pow.{pow-lt, pow-pos}
 use lib.Bits.{bitAnd, bitOr, or-zero-l, or-zero-r}
-use lib.ListN.{length, getD, take, drop, set, length-set, length-take, drop-of-length-le}
+use lib.ListN.{length, getD, take, drop, set, length-set, drop-of-length-le}
 use lib.Seq.{drop-cons, drop-drop, getD-drop, drop-set-lt, take-suc-set, append-snoc}
 use borrow.Author.Tests.{ne-eqb, eq-eqb}
 use Rattle.rules.specs.Lists.{keep}
 use Rattle.rules.specs.Rules.{countIf}
-use Rattle.verdicts.specs.Masks.{maskOf, live, firstM, modelM, agreeM, withinM, sparesM, gatherCare, gatherWant}
+use Rattle.verdicts.specs.Masks.{maskOf, live, firstM, agreeM, withinM, sparesM, gatherCare, gatherWant}
 use Rattle.verdicts.proofs.Bits.{bit, bit-or, ext}
 
 -- 1 << n in a u64

@@ -9,7 +9,6 @@ use native.Mathlib.Omega.{arith}
 use lib.Bits.{bitOr}
 use lib.ListN.{length, getD, take, drop, set, length-set, length-map}
 use lib.Seq.{drop-cons, drop-drop, getD-drop, set-at, length-take-le, append-snoc, take-suc, take-all, take-at}
-use Rattle.kinds.specs.Limits.{walkAtoms}
 use Rattle.rules.specs.Rules.{Rule, rule}
 use Rattle.stores.specs.RuleStore.{heads, bodies, nots, places, ruleAt, rulesFrom}
 use Rattle.verdicts.specs.Masks.{maskOf, live, careOf, wantOf, filled}

@@ -1,3 +1,6 @@
 // The two verdicts and the next state over a rule store (document 01, "Verdicts").
 pub mod answers;
 pub mod masks;
+pub mod preferred;
+pub mod stable;
+pub mod next;

@@ -1,6 +1,4 @@
 // The masks of a checked store: two for each rule, one for each class, one for the fixed atoms.
-use stores::roles::Role;
-use stores::roles::role_of;
 ghost use mathlib.Core.Path.{_≡_};
 ghost use mathlib.Core.List.{map};
 ghost use mathlib.Core.Bool.{cond};

@@ -1,0 +1,91 @@
+use borrow.Author.Needs.{needs}
+use Rattle.verdicts.proofs.next.candidate.Statement.{statement}
+use Rattle.verdicts.proofs.next.candidate.Tie as tie
+use Rattle.verdicts.proofs.next.candidate.Reads as reads
+use Rattle.verdicts.proofs.next.candidate.Lts as lts
+use Rattle.verdicts.proofs.preferred.preferred_masks.Reads as preferred-masks-reads
+
+-- src/next.rt:31:9
+returns : tie.Need-returns
+returns c = ?
+
+-- src/next.rt:33:16
+add-used : tie.Need-add-used
+add-used c = search needs
+
+-- src/next.rt:34:71
+sub-preferred-masks : tie.Need-sub-preferred-masks
+sub-preferred-masks c = search needs
+
+-- src/next.rt:34:9
+preferred-masks-requires : tie.Need-preferred-masks-requires
+preferred-masks-requires c κs = search needs
+
+-- src/next.rt:36:31
+enum-known-verdict : tie.Need-enum-known-verdict
+enum-known-verdict c = search needs
+
+-- src/next.rt:38:20
+add-t16 : tie.Need-add-t16
+add-t16 c = ?
+
+-- src/next.rt:40:40
+enum-told : tie.Need-enum-told
+enum-told c = search needs
+
+-- src/next.rt:41:42
+enum-known-verdict-2 : tie.Need-enum-known-verdict-2
+enum-known-verdict-2 c = search needs
+
+-- src/next.rt:41:80
+add-t17 : tie.Need-add-t17
+add-t17 c = ?
+
+-- src/next.rt:42:40
+enum-told-2 : tie.Need-enum-told-2
+enum-told-2 c = search needs
+
+-- src/next.rt:43:44
+enum-told-3 : tie.Need-enum-told-3
+enum-told-3 c = search needs
+
+-- src/next.rt:14:1
+returns-2 : tie.Need-returns-2
+returns-2 c = ?
+
+-- src/next.rt:14:1
+returns-3 : tie.Need-returns-3
+returns-3 c = ?
+
+-- src/next.rt:14:1
+returns-4 : tie.Need-returns-4
+returns-4 c = ?
+
+-- src/next.rt:14:1
+returns-5 : tie.Need-returns-5
+returns-5 c = ?
+
+-- src/next.rt:14:1
+returns-6 : tie.Need-returns-6
+returns-6 c = ?
+
+pub candidate-spec : {M : Type 1} → statement M
+candidate-spec =
+    tie.close
+    (tie.spec
+    returns
+    add-used
+    sub-preferred-masks
+    preferred-masks-requires
+    enum-known-verdict
+    add-t16
+    enum-told
+    enum-known-verdict-2
+    add-t17
+    enum-told-2
+    enum-told-3
+    returns-2
+    returns-3
+    returns-4
+    returns-5
+    returns-6)

@@ -1,0 +1,75 @@
+// The next state: the least preferred set from a start on.
+use crate::answers::NextState;
+use crate::answers::Verdict;
+use crate::preferred::preferred_masks;
+ghost use mathlib.Core.Path.{_≡_};
+ghost use Prim.Native.Nat.{_-_, _<_, _≤_, _^_};
+ghost use lib.ListN.{length};
+ghost use Rattle.rules.specs.Lists.{from};
+ghost use Rattle.verdicts.specs.Walk.{after, firstState, cappedNext};
+ghost use Rattle.verdicts.specs.Masks.{preferredM};
+ghost use Rattle.verdicts.specs.declared.answers.NextState.the-variants.{Nothing};
+
+// One candidate after `units` units: the state that it is, or nothing with the units so far.
+fn candidate(
+    care: &[u64],
+    want: &[u64],
+    classes: &[u64],
+    fixed: u64,
+    n: u32,
+    set: u64,
+    units: u64,
+    budget: u64,
+) -> NextState
+    requires { ⌜ length (now want) ≡ length (now care) ⌝ }
+    requires { ⌜ n ≤ 60 ⌝ }
+    requires { ⌜ fixed < 2 ^ n ⌝ }
+    requires { ⌜ units ≤ budget ⌝ }
+    ensures { λ r. ⌜ r ≡ cappedNext budget (after (preferredM (now (care .entry)) (now (want .entry)) (now (classes .entry)) fixed n set) set units Nothing) ⌝ }
+{
+    if units == budget {
+        return NextState::Spent { units: budget };
+    }
+    let used = units + 1;
+    let verdict = preferred_masks(care, want, classes, fixed, n, set, budget - used);
+    match verdict {
+        Verdict::Yes { units: more } => NextState::State {
+            set: set,
+            units: used + more,
+        },
+        Verdict::Broken { rule: _ } => NextState::Nothing { units: used },
+        Verdict::Beaten { set: _, units: more } => NextState::Nothing { units: used + more },
+        Verdict::Spent { units: _ } => NextState::Spent { units: budget },
+        Verdict::Refused { refusal: _ } => NextState::Spent { units: budget },
+    }
+}
+
+// The next state over masks; `units` never passes the budget.
+fn next_masks(
+    care: &[u64],
+    want: &[u64],
+    classes: &[u64],
+    fixed: u64,
+    n: u32,
+    start: u64,
+    budget: u64,
+) -> NextState
+    requires { ⌜ length (now want) ≡ length (now care) ⌝ }
+    requires { ⌜ n ≤ 60 ⌝ }
+    requires { ⌜ fixed < 2 ^ n ⌝ }
+    requires { ⌜ start ≤ 2 ^ n ⌝ }
+    ensures { λ r. ⌜ r ≡ cappedNext budget (firstState (preferredM (now (care .entry)) (now (want .entry)) (now (classes .entry)) fixed n) (from start (2 ^ n - start)) 0) ⌝ }
+{
+    let end = 1u64 << n;
+    let mut s = start;
+    let mut units: u64 = 0;
+    while s < end {
+        let step = candidate(care, want, classes, fixed, n, s, units, budget);
+        let NextState::Nothing { units: more } = step else {
+            return step;
+        };
+        units = more;
+        s += 1;
+    }
+    NextState::Nothing { units: units }
+}

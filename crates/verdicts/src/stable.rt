@@ -1,0 +1,53 @@
+// The stable verdict: the walk over the proper subsets.
+use crate::answers::Verdict;
+use crate::masks::first_broken;
+ghost use mathlib.Core.Path.{_≡_};
+ghost use Prim.Native.Nat.{_<_, _^_};
+ghost use lib.Bits.{bitAnd};
+ghost use lib.ListN.{length};
+ghost use Rattle.verdicts.specs.Walk.{capped};
+ghost use Rattle.verdicts.specs.Masks.{stableWalkM};
+ghost use Rattle.verdicts.specs.Subsets.{rank, NextSub};
+
+// How many proper subsets a set has.
+fn proper_subsets(set: u64) -> u64
+    requires { ⌜ set < 2 ^ 60 ⌝ }
+    ensures { λ r. ⌜ r ≡ rank 64 set set ⌝ }
+{
+    (1u64 << u64::count_ones(set)) - 1
+}
+
+// The next subset of `set` after its proper subset s, by rising number: the lowest atom that is out goes in, those below go out.
+fn next_subset(set: u64, s: u64) -> u64
+    requires { ⌜ set < 2 ^ 60 ⌝ }
+    requires { ⌜ bitAnd s set ≡ s ⌝ }
+    requires { ⌜ (s ≡ set → ⊥) ⌝ }
+    ensures { λ r. ⌜ NextSub set s r ⌝ }
+{
+    let a = u64::trailing_zeros(set ^ s);
+    ((s >> a) + 1) << a
+}
+
+fn stable_walk(care: &[u64], want: &[u64], set: u64, budget: u64) -> Verdict
+    requires { ⌜ length (now want) ≡ length (now care) ⌝ }
+    requires { ⌜ set < 2 ^ 60 ⌝ }
+    ensures { λ r. ⌜ r ≡ capped budget (stableWalkM (now (care .entry)) (now (want .entry)) set) ⌝ }
+{
+    let proper = proper_subsets(set);
+    let mut s: u64 = 0;
+    let mut units: u64 = 0;
+    while units < proper {
+        if units == budget {
+            return Verdict::Spent { units: budget };
+        }
+        units += 1;
+        if first_broken(care, want, s) == care.len() {
+            return Verdict::Beaten {
+                set: s,
+                units: units,
+            };
+        }
+        s = next_subset(set, s);
+    }
+    Verdict::Yes { units: units }
+}
