@@ -13,7 +13,9 @@ use Rattle.verdicts.specs.Walk.{search, capped}
 use Rattle.verdicts.specs.Masks.{firstM, modelM, agreeM, sparesM, beatsM, preferredWalkM, preferredM}
 use Rattle.verdicts.specs.declared.answers.Verdict.{Verdict}
 use Rattle.verdicts.specs.declared.answers.Verdict.the-variants.{Yes, Broken, Beaten, Spent}
+use Rattle.rules.specs.Lists.{filter, from}
 use Rattle.verdicts.proofs.Filters.{upTo}
+use Rattle.verdicts.proofs.Searches.{Answered, walked-answered, search-walked}
 use Rattle.verdicts.proofs.Steps.{walk-first, walk-found, walk-next, walk-last, walk-spent, capped-yes, capped-beaten}
 use Rattle.verdicts.proofs.Stepping.{lacks, stands, stands-agrees, gap, gap-last, or-again, le-or, agrees-sum}
 
@@ -124,3 +126,12 @@ module _ (cs ws ks : List ℕ) (f n m budget : ℕ) where
   pub a-model : (r : ℕ) (v : Verdict) → r ≡ firstM m cs ws → r ≡ length cs → v ≡ capped budget (preferredWalkM cs ws ks f n m) → v ≡ capped budget (preferredM cs ws ks f n m)
   unfolding preferredM modelM
   a-model r v e h q = q ∙ ap (λ (p : Bool). capped budget (cond p (preferredWalkM cs ws ks f n m) (Broken (firstM m cs ws)))) (sym (eq-eqb (firstM m cs ws) (length cs) (sym e ∙ h)))
+
+pub preferred-answered-mask : (cs ws ks : List ℕ) (f n m : ℕ) → Answered (preferredM cs ws ks f n m)
+unfolding preferredM preferredWalkM
+preferred-answered-mask cs ws ks f n m = step (modelM cs ws m)
+  where
+    step : (p : Bool) → Answered (cond p (search (beatsM cs ws ks m) (filter (λ s. agreeM m s f) (from 0 (2 ^ n))) 0) (Broken (firstM m cs ws)))
+    step true = walked-answered (search (beatsM cs ws ks m) (filter (λ s. agreeM m s f) (from 0 (2 ^ n))) 0)
+        (search-walked (beatsM cs ws ks m) (λ s. T (beatsM cs ws ks m s)) (λ s. (λ h. h, λ h. h)) (filter (λ s. agreeM m s f) (from 0 (2 ^ n))) 0)
+    step false = tt

@@ -15,3 +15,4 @@ pub mod RowLaws
 pub mod AgreeingSets
 pub mod ProperSubsets
 pub mod Listing
+pub mod Candidates
