@@ -12,6 +12,7 @@ pub mod ClassMasks
 pub mod VerdictMasks
 pub mod MaskLoops
 pub mod RowLaws
+pub mod ClassFill
 pub mod AgreeingSets
 pub mod ProperSubsets
 pub mod Listing

@@ -1,10 +1,11 @@
 -- The verdicts over masks: a list of atoms is the number of its set, and a rule is two masks.
-use Prim.Native.Nat.{ℕ, zero, suc, _^_}
+use Prim.Native.Nat.{ℕ, _-_, _^_}
 use mathlib.Core.Bool.{Bool, true, false, not, cond, _&&_}
 use mathlib.Core.List.{List, [], _∷_, _++_, map}
-use lib.Dec.{eqb}
+use lib.Dec.{eqb, leb}
 use lib.Bits.{bitAnd, bitOr}
-use lib.ListN.{length, drop}
+use lib.ListN.{length, getD, set, drop}
+use Rattle.kinds.specs.Limits.{classLimit}
 use Rattle.rules.specs.Lists.{keep, filter, from}
 use Rattle.rules.specs.Rules.{Rule, countIf}
 use Rattle.rules.specs.Preferred.{ofClass}
@@ -43,6 +44,10 @@ modelM cs ws s = eqb (firstM s cs ws) (length cs)
 -- the masks of the classes from class i on, k of them
 abbrev pub classMasks : List ℕ → ℕ → ℕ → List ℕ
 classMasks ws i k = map (λ c. maskOf (ofClass ws c)) (from i k)
+
+-- the class masks with the atom of mask `bit` put into the class that its class word names
+unfoldable pub noted : ℕ → ℕ → List ℕ → List ℕ
+noted w bit ks = cond (leb 1 w && leb w classLimit) (set ks (w - 1) (bitOr (getD ks (w - 1) 0) bit)) ks
 
 unfoldable pub agreeM : ℕ → ℕ → ℕ → Bool
 agreeM m s c = eqb (bitAnd s c) (bitAnd m c)

@@ -1,12 +1,16 @@
 // The masks of a checked store: two for each rule, one for each class, one for the fixed atoms.
+use stores::roles::Role;
+use stores::roles::role_of;
 ghost use mathlib.Core.Path.{_≡_};
 ghost use mathlib.Core.List.{map};
 ghost use mathlib.Core.Bool.{cond};
 ghost use Prim.Native.Nat.{ℕ, _+_, _<_, _≤_};
-ghost use lib.Bits.{bitOr};
-ghost use lib.ListN.{length, getD, take, drop};
+ghost use lib.Dec.{eqb};
+ghost use lib.ListN.{length, getD, take, drop, replicate};
+ghost use Rattle.kinds.specs.Limits.{classLimit, walkAtoms};
+ghost use Rattle.rules.specs.Preferred.{fixed as fixedWord, ofClass};
 ghost use Rattle.stores.specs.RuleStore.{rulesFrom};
-ghost use Rattle.verdicts.specs.Masks.{maskOf, live, careOf, wantOf, filled, firstM, gatherCare, gatherWant};
+ghost use Rattle.verdicts.specs.Masks.{maskOf, live, careOf, wantOf, filled, noted, classMasks, firstM, gatherCare, gatherWant};
 ghost use Rattle.verdicts.specs.Rows.{Row, Rows, ReadRule};
 
 pub struct RuleMasks {
@@ -139,4 +143,41 @@ pub fn first_broken(care: &[u64], want: &[u64], set: u64) -> usize
         i += 1;
     }
     i
+}
+
+// Puts an atom into the mask of its class; answers its bit where it is fixed.
+fn note_role(word: u16, bit: u64, classes: &mut [u64]) -> u64
+    requires { ⌜ length (now classes) ≡ classLimit ⌝ }
+    ensures { λ r. ⌜ now (classes .exit) ≡ noted word bit (now (classes .entry)) ⌝ }
+    ensures { λ r. ⌜ r ≡ cond (eqb word fixedWord) bit 0 ⌝ }
+{
+    let role = role_of(word);
+    match role {
+        Role::Minimised(class) => {
+            let place = class - 1;
+            classes[place] |= bit;
+            0
+        }
+        Role::Varying => 0,
+        Role::Fixed => bit,
+        Role::Unknown => 0,
+    }
+}
+
+// Fills the mask of each class from the class words of n atoms; answers the mask of the fixed atoms.
+pub fn fill_classes(words: &[u16], n: usize, classes: &mut [u64]) -> u64
+    requires { ⌜ 4 + n ≤ length (now words) ⌝ }
+    requires { ⌜ n ≤ walkAtoms ⌝ }
+    requires { ⌜ now classes ≡ replicate classLimit 0 ⌝ }
+    ensures { λ r. ⌜ now (classes .exit) ≡ classMasks (take n (drop 4 (now (words .entry)))) 1 classLimit ⌝ }
+    ensures { λ r. ⌜ r ≡ maskOf (ofClass (take n (drop 4 (now (words .entry)))) fixedWord) ⌝ }
+{
+    let mut fixed: u64 = 0;
+    let mut i = 0;
+    while i < n {
+        let at = 4 + i;
+        fixed |= note_role(words[at], 1u64 << i, classes);
+        i += 1;
+    }
+    fixed
 }
