@@ -75,7 +75,7 @@ module _ (ws : List ℕ) (s m : ℕ) where
       ap (λ (n : ℕ). spares? ws (from 1 n) s m) e ∙ fewer 1 k (classLimit - k) (λ c a b. h c (omega arith) (omega arith)) ∙ spares-mask 1 k
 
 -- no word names a class above k
-all-at : (P : ℕ → Type 0) (ws : List ℕ) (i : ℕ) → All P ws → i < length ws → P (getD ws i 0)
+pub all-at : (P : ℕ → Type 0) (ws : List ℕ) (i : ℕ) → All P ws → i < length ws → P (getD ws i 0)
 all-at P [] i h l = absurd (omega arith)
 all-at P (w ∷ ws) zero h l = h .0
 all-at P (w ∷ ws) (suc i) h l = all-at P ws i (h .1) (omega arith)

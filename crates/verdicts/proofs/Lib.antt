@@ -13,6 +13,7 @@ pub mod VerdictMasks
 pub mod MaskLoops
 pub mod RowLaws
 pub mod ClassFill
+pub mod CheckedStore
 pub mod AgreeingSets
 pub mod ProperSubsets
 pub mod Listing

@@ -10,24 +10,16 @@ use lib.Bits.{bitOr}
 use lib.ListN.{length, getD, take, drop, set, length-set, length-map}
 use lib.Seq.{drop-cons, drop-drop, getD-drop, set-at, length-take-le, append-snoc, take-suc, take-all, take-at}
 use Rattle.rules.specs.Rules.{Rule, rule}
-use Rattle.stores.specs.RuleStore.{heads, bodies, nots, places, ruleAt, rulesFrom}
+use Rattle.stores.specs.RuleStore.{places, ruleAt, rulesFrom}
+use Rattle.stores.proofs.RulePlace.{places-at, rule-at}
 use Rattle.verdicts.specs.Masks.{maskOf, live, careOf, wantOf, filled}
 use Rattle.verdicts.specs.Rows.{Row, Rows, ReadRule}
 
 module _ (ws : List ℕ) (at : ℕ) where
-  heads-at : heads (drop at ws) ≡ getD ws at 0
-  heads-at = getD-drop at ws 0 0 ∙ ap (λ (i : ℕ). getD ws i 0) (add-zero at)
-
-  bodies-at : bodies (drop at ws) ≡ getD ws (at + 1) 0
-  bodies-at = getD-drop at ws 1 0
-
-  nots-at : nots (drop at ws) ≡ getD ws (at + 2) 0
-  nots-at = getD-drop at ws 2 0
-
   -- a rule's three counts as they were read
   module _ (h b n : ℕ) (eh : h ≡ getD ws at 0) (eb : b ≡ getD ws (at + 1) 0) (en : n ≡ getD ws (at + 2) 0) where
     next-at : at + 3 + h + b + n ≡ at + (3 + places (drop at ws))
-    next-at = let p = heads-at in let q = bodies-at in let r = nots-at in omega arith
+    next-at = omega (arith, places-at ws at)
 
     pub row-room : Row ws at → at + 3 + h + b + n ≤ length ws
     row-room w = let e = next-at in let r = w .room in omega arith
@@ -36,17 +28,9 @@ module _ (ws : List ℕ) (at : ℕ) where
     row-atoms w k l u = let e = next-at in w .atoms k l (omega arith)
 
     rule-is : ruleAt (drop at ws) ≡ rule (take h (drop (at + 3) ws)) (take b (drop (at + 3 + h) ws)) (take n (drop (at + 3 + h + b) ws))
-    unfolding ruleAt
     rule-is =
-        let p : heads (drop at ws) ≡ h = heads-at ∙ sym eh in
-        let q : bodies (drop at ws) ≡ b = bodies-at ∙ sym eb in
-        let r : nots (drop at ws) ≡ n = nots-at ∙ sym en in
-        let x : at + (3 + heads (drop at ws)) ≡ at + 3 + h = omega arith in
-        let y : at + (3 + heads (drop at ws) + bodies (drop at ws)) ≡ at + 3 + h + b = omega arith in
-        parts (ap₂ take p (drop-drop 3 at ws)) (ap₂ take q (drop-drop (3 + heads (drop at ws)) at ws ∙ ap (λ (i : ℕ). drop i ws) x)) (ap₂ take r (drop-drop (3 + heads (drop at ws) + bodies (drop at ws)) at ws ∙ ap (λ (i : ℕ). drop i ws) y))
-      where
-        parts : {x x′ y y′ z z′ : List ℕ} → x ≡ x′ → y ≡ y′ → z ≡ z′ → rule x y z ≡ rule x′ y′ z′
-        parts e f g = λ i. rule (e i) (f i) (g i)
+        rule-at ws at
+        ∙ λ i. rule (take (sym eh i) (drop (at + 3) ws)) (take (sym eb i) (drop (at + 3 + sym eh i) ws)) (take (sym en i) (drop (at + 3 + sym eh i + sym eb i) ws))
 
     module _ (m hm bm nm : ℕ) (ehm : hm ≡ maskOf (take h (drop (at + 3) ws))) (ebm : bm ≡ maskOf (take b (drop (at + 3 + h) ws))) (enm : nm ≡ maskOf (take n (drop (at + 3 + h + b) ws))) (p : Bool) (ep : p ≡ live m hm bm nm) where
       care-is : careOf m (ruleAt (drop at ws)) ≡ cond p (bitOr hm bm) 0
