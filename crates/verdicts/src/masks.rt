@@ -20,7 +20,7 @@ pub struct RuleMasks {
     pub next: usize,
 }
 
-fn wide(x: u16) -> usize
+pub fn wide(x: u16) -> usize
     ensures { λ r. ⌜ r ≡ x ⌝ }
 {
     x as usize

@@ -1,12 +1,19 @@
 // The next state: the least preferred set from a start on.
 use crate::answers::NextState;
 use crate::answers::Verdict;
+use crate::masks::fill_classes;
+use crate::masks::fill_rules;
+use crate::masks::wide;
 use crate::preferred::preferred_masks;
+use kinds::limits::Preference;
 ghost use mathlib.Core.Path.{_≡_};
 ghost use Prim.Native.Nat.{_-_, _<_, _≤_, _^_};
 ghost use lib.ListN.{length};
+ghost use Rattle.kinds.specs.Limits.{walkAtoms};
+ghost use Rattle.kinds.specs.declared.limits.Kind.the-variants.{Preference as KindPreference};
+ghost use Rattle.stores.specs.RuleStore.{StoreOf, decode};
 ghost use Rattle.rules.specs.Lists.{from};
-ghost use Rattle.verdicts.specs.Walk.{after, firstState, cappedNext};
+ghost use Rattle.verdicts.specs.Walk.{after, firstState, cappedNext, nextVerdict};
 ghost use Rattle.verdicts.specs.Masks.{preferredM};
 ghost use Rattle.verdicts.specs.declared.answers.NextState.the-variants.{Nothing};
 
@@ -72,4 +79,32 @@ fn next_masks(
         s += 1;
     }
     NextState::Nothing { units: units }
+}
+
+// The next state over the words of a checked preference store.
+fn next_of(words: &[u16], start: u64, budget: u64) -> NextState
+    requires { ⌜ StoreOf (now words) (decode (now words)) ⌝ }
+    requires { ⌜ decode (now words) .atoms ≤ walkAtoms ⌝ }
+    requires { ⌜ decode (now words) .kind ≡ KindPreference ⌝ }
+    requires { ⌜ start ≤ 2 ^ decode (now words) .atoms ⌝ }
+    ensures { λ r. ⌜ r ≡ nextVerdict (decode (now (words .entry)) .words) (decode (now (words .entry)) .rules) start budget ⌝ }
+{
+    let n = wide(words[1]);
+    let k = wide(words[2]);
+    let rules = wide(words[3]);
+    let first = 4 + n;
+    let mut classes = [0u64; Preference::CLASSES];
+    let mut care = [0u64; Preference::RULES];
+    let mut want = [0u64; Preference::RULES];
+    let fixed = fill_classes(words, n, &mut classes);
+    fill_rules(words, first, rules, 0, &mut care, &mut want);
+    next_masks(
+        &care[..rules],
+        &want[..rules],
+        &classes[..k],
+        fixed,
+        n as u32,
+        start,
+        budget,
+    )
 }

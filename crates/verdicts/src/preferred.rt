@@ -1,10 +1,17 @@
 // The preferred verdict: the walk over all sets that agree on the fixed atoms.
 use crate::answers::Verdict;
+use crate::masks::fill_classes;
+use crate::masks::fill_rules;
 use crate::masks::first_broken;
+use crate::masks::wide;
+use kinds::limits::Preference;
 ghost use mathlib.Core.Path.{_≡_};
 ghost use Prim.Native.Nat.{_<_, _≤_, _^_};
 ghost use lib.ListN.{length};
-ghost use Rattle.verdicts.specs.Walk.{capped};
+ghost use Rattle.kinds.specs.Limits.{walkAtoms};
+ghost use Rattle.kinds.specs.declared.limits.Kind.the-variants.{Preference as KindPreference};
+ghost use Rattle.stores.specs.RuleStore.{StoreOf, decode};
+ghost use Rattle.verdicts.specs.Walk.{capped, preferredVerdict};
 ghost use Rattle.verdicts.specs.Masks.{sparesM, beatsM, preferredWalkM, preferredM};
 
 // Whether at the first class on which the two differ `set` has a part of what `of` has.
@@ -92,4 +99,31 @@ pub fn preferred_masks(
         return Verdict::Broken { rule: broken as u64 };
     }
     preferred_walk(care, want, classes, fixed, n, set, budget)
+}
+
+// The preferred verdict over the words of a checked preference store.
+fn preferred_of(words: &[u16], set: u64, budget: u64) -> Verdict
+    requires { ⌜ StoreOf (now words) (decode (now words)) ⌝ }
+    requires { ⌜ decode (now words) .atoms ≤ walkAtoms ⌝ }
+    requires { ⌜ decode (now words) .kind ≡ KindPreference ⌝ }
+    ensures { λ r. ⌜ r ≡ preferredVerdict (decode (now (words .entry)) .words) (decode (now (words .entry)) .rules) set budget ⌝ }
+{
+    let n = wide(words[1]);
+    let k = wide(words[2]);
+    let rules = wide(words[3]);
+    let start = 4 + n;
+    let mut classes = [0u64; Preference::CLASSES];
+    let mut care = [0u64; Preference::RULES];
+    let mut want = [0u64; Preference::RULES];
+    let fixed = fill_classes(words, n, &mut classes);
+    fill_rules(words, start, rules, 0, &mut care, &mut want);
+    preferred_masks(
+        &care[..rules],
+        &want[..rules],
+        &classes[..k],
+        fixed,
+        n as u32,
+        set,
+        budget,
+    )
 }

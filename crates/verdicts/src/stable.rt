@@ -1,11 +1,18 @@
 // The stable verdict: the walk over the proper subsets.
 use crate::answers::Verdict;
+use crate::masks::fill_rules;
 use crate::masks::first_broken;
+use crate::masks::gather;
+use crate::masks::wide;
+use kinds::limits::Plain;
 ghost use mathlib.Core.Path.{_≡_};
-ghost use Prim.Native.Nat.{_<_, _^_};
+ghost use Prim.Native.Nat.{_<_, _≤_, _^_};
 ghost use lib.Bits.{bitAnd};
 ghost use lib.ListN.{length};
-ghost use Rattle.verdicts.specs.Walk.{capped};
+ghost use Rattle.kinds.specs.Limits.{walkAtoms};
+ghost use Rattle.kinds.specs.declared.limits.Kind.the-variants.{Plain as KindPlain};
+ghost use Rattle.stores.specs.RuleStore.{StoreOf, decode};
+ghost use Rattle.verdicts.specs.Walk.{capped, stableVerdict};
 ghost use Rattle.verdicts.specs.Masks.{stableWalkM};
 ghost use Rattle.verdicts.specs.Subsets.{rank, NextSub};
 
@@ -50,4 +57,24 @@ fn stable_walk(care: &[u64], want: &[u64], set: u64, budget: u64) -> Verdict
         s = next_subset(set, s);
     }
     Verdict::Yes { units: units }
+}
+
+// The stable verdict over the words of a checked plain store.
+fn stable_of(words: &[u16], set: u64, budget: u64) -> Verdict
+    requires { ⌜ StoreOf (now words) (decode (now words)) ⌝ }
+    requires { ⌜ decode (now words) .atoms ≤ walkAtoms ⌝ }
+    requires { ⌜ decode (now words) .kind ≡ KindPlain ⌝ }
+    requires { ⌜ set < 2 ^ decode (now words) .atoms ⌝ }
+    ensures { λ r. ⌜ r ≡ stableVerdict (decode (now (words .entry)) .rules) set budget ⌝ }
+{
+    let rules = wide(words[3]);
+    let mut care = [0u64; Plain::RULES];
+    let mut want = [0u64; Plain::RULES];
+    fill_rules(words, 4, rules, set, &mut care, &mut want);
+    let broken = first_broken(&care[..rules], &want[..rules], set);
+    if broken != rules {
+        return Verdict::Broken { rule: broken as u64 };
+    }
+    let kept = gather(&mut care, &mut want, rules);
+    stable_walk(&care[..kept], &want[..kept], set, budget)
 }
