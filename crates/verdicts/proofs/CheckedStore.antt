@@ -87,9 +87,11 @@ module _ (ws : List ℕ) (kind : Kind) (n : ℕ) (few : n ≤ walkAtoms) where
   rows : (rs : List (Rule ℕ)) (at : ℕ) → drop at ws ≡ flat ruleWords rs → All (RuleForm kind n) rs → Rows ws (length rs) at
   rows [] at e f = tt
   rows (r ∷ rs) at e f =
-      let h = row at r (flat ruleWords rs) e (f .0) in
-      (h .1, rows rs (at + (3 + places (drop at ws)))
-          (sym (drop-drop (3 + places (drop at ws)) at ws) ∙ ap₂ (λ (k : ℕ) (l : List ℕ). drop (3 + k) l) (h .0) e ∙ past-front r (flat ruleWords rs)) (f .1))
+      let h = row at r (flat ruleWords rs) e (f .0) in (
+        h .1,
+        rows rs (at + (3 + places (drop at ws)))
+            (sym (drop-drop (3 + places (drop at ws)) at ws) ∙ ap₂ (λ (k : ℕ) (l : List ℕ). drop (3 + k) l) (h .0) e ∙ past-front r (flat ruleWords rs)) (f .1),
+      )
 
 -- the words of a store, by its program
 

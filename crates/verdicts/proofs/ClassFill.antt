@@ -71,8 +71,7 @@ module _ (w bit : ℕ) (ks : List ℕ) (r : Role) (e : r ≡ roleOf w) where
       let b = both-true (leb 1 w) (leb w classLimit) (h .1) in
       let z = h .0 in
       let l = leb-true 1 w (b .0) in
-      let u = leb-true w classLimit (b .1) in
-      (
+      let u = leb-true w classLimit (b .1) in (
         omega arith,
         omega arith,
         ap (λ (i : ℕ). set ks (i - 1) (bitOr (getD ks (i - 1) 0) bit)) z ∙ ap (λ (p : Bool). cond p (set ks (w - 1) (bitOr (getD ks (w - 1) 0) bit)) ks) (sym (h .1)),

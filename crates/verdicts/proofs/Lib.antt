@@ -14,6 +14,7 @@ pub mod MaskLoops
 pub mod RowLaws
 pub mod ClassFill
 pub mod CheckedStore
+pub mod Guarding
 pub mod AgreeingSets
 pub mod ProperSubsets
 pub mod Listing

@@ -230,8 +230,7 @@ module _ (c₀ w₀ : List ℕ) (rules : ℕ) where
   unfolding gatherCare gatherWant
   gather-ends cs ws kept j g h =
       let f = g .few in
-      let i = g .inside in
-      (
+      let i = g .inside in (
         sym (g .cares ∙ ap₂ (λ (x y : List ℕ). take kept cs ++ gatherCare x y) (nothing-left c₀ j h) (nothing-left w₀ j h) ∙ append-nil (take kept cs)),
         (sym (g .wants ∙ ap₂ (λ (x y : List ℕ). take kept ws ++ gatherWant x y) (nothing-left c₀ j h) (nothing-left w₀ j h) ∙ append-nil (take kept ws)), omega arith),
       )

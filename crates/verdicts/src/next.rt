@@ -1,10 +1,13 @@
 // The next state: the least preferred set from a start on.
 use crate::answers::NextState;
 use crate::answers::Verdict;
+use crate::guard::Guard;
+use crate::guard::check_call;
 use crate::masks::fill_classes;
 use crate::masks::fill_rules;
 use crate::masks::wide;
 use crate::preferred::preferred_masks;
+use kinds::limits::Kind;
 use kinds::limits::Preference;
 ghost use mathlib.Core.Path.{_≡_};
 ghost use Prim.Native.Nat.{_-_, _<_, _≤_, _^_};
@@ -16,6 +19,7 @@ ghost use Rattle.rules.specs.Lists.{from};
 ghost use Rattle.verdicts.specs.Walk.{after, firstState, cappedNext, nextVerdict};
 ghost use Rattle.verdicts.specs.Masks.{preferredM};
 ghost use Rattle.verdicts.specs.declared.answers.NextState.the-variants.{Nothing};
+ghost use Rattle.verdicts.specs.Answers.{nextAnswer};
 
 // One candidate after `units` units: the state that it is, or nothing with the units so far.
 fn candidate(
@@ -45,7 +49,10 @@ fn candidate(
             units: used + more,
         },
         Verdict::Broken { rule: _ } => NextState::Nothing { units: used },
-        Verdict::Beaten { set: _, units: more } => NextState::Nothing { units: used + more },
+        Verdict::Beaten {
+            set: _,
+            units: more,
+        } => NextState::Nothing { units: used + more },
         Verdict::Spent { units: _ } => NextState::Spent { units: budget },
         Verdict::Refused { refusal: _ } => NextState::Spent { units: budget },
     }
@@ -107,4 +114,15 @@ fn next_of(words: &[u16], start: u64, budget: u64) -> NextState
         start,
         budget,
     )
+}
+
+// The least preferred set from `start` on, by the rules of a preference store.
+pub fn next_state(words: &[u16], start: u64, budget: u64) -> NextState
+    ensures { λ r. ⌜ r ≡ nextAnswer (now (words .entry)) start budget ⌝ }
+{
+    let guard = check_call(words, Kind::Preference, start, 1, budget);
+    match guard {
+        Guard::Passed => next_of(words, start, budget),
+        Guard::Refused { refusal } => NextState::Refused { refusal: refusal },
+    }
 }

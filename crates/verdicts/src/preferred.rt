@@ -1,9 +1,12 @@
 // The preferred verdict: the walk over all sets that agree on the fixed atoms.
 use crate::answers::Verdict;
+use crate::guard::Guard;
+use crate::guard::check_call;
 use crate::masks::fill_classes;
 use crate::masks::fill_rules;
 use crate::masks::first_broken;
 use crate::masks::wide;
+use kinds::limits::Kind;
 use kinds::limits::Preference;
 ghost use mathlib.Core.Path.{_≡_};
 ghost use Prim.Native.Nat.{_<_, _≤_, _^_};
@@ -13,6 +16,7 @@ ghost use Rattle.kinds.specs.declared.limits.Kind.the-variants.{Preference as K
 ghost use Rattle.stores.specs.RuleStore.{StoreOf, decode};
 ghost use Rattle.verdicts.specs.Walk.{capped, preferredVerdict};
 ghost use Rattle.verdicts.specs.Masks.{sparesM, beatsM, preferredWalkM, preferredM};
+ghost use Rattle.verdicts.specs.Answers.{preferredAnswer};
 
 // Whether at the first class on which the two differ `set` has a part of what `of` has.
 fn spares(classes: &[u64], set: u64, of: u64) -> bool
@@ -96,7 +100,9 @@ pub fn preferred_masks(
 {
     let broken = first_broken(care, want, set);
     if broken != care.len() {
-        return Verdict::Broken { rule: broken as u64 };
+        return Verdict::Broken {
+            rule: broken as u64,
+        };
     }
     preferred_walk(care, want, classes, fixed, n, set, budget)
 }
@@ -126,4 +132,15 @@ fn preferred_of(words: &[u16], set: u64, budget: u64) -> Verdict
         set,
         budget,
     )
+}
+
+// Whether `set` is preferred, by the rules of a preference store.
+pub fn preferred(words: &[u16], set: u64, budget: u64) -> Verdict
+    ensures { λ r. ⌜ r ≡ preferredAnswer (now (words .entry)) set budget ⌝ }
+{
+    let guard = check_call(words, Kind::Preference, set, 0, budget);
+    match guard {
+        Guard::Passed => preferred_of(words, set, budget),
+        Guard::Refused { refusal } => Verdict::Refused { refusal: refusal },
+    }
 }

@@ -1,9 +1,12 @@
 // The stable verdict: the walk over the proper subsets.
 use crate::answers::Verdict;
+use crate::guard::Guard;
+use crate::guard::check_call;
 use crate::masks::fill_rules;
 use crate::masks::first_broken;
 use crate::masks::gather;
 use crate::masks::wide;
+use kinds::limits::Kind;
 use kinds::limits::Plain;
 ghost use mathlib.Core.Path.{_≡_};
 ghost use Prim.Native.Nat.{_<_, _≤_, _^_};
@@ -15,6 +18,7 @@ ghost use Rattle.stores.specs.RuleStore.{StoreOf, decode};
 ghost use Rattle.verdicts.specs.Walk.{capped, stableVerdict};
 ghost use Rattle.verdicts.specs.Masks.{stableWalkM};
 ghost use Rattle.verdicts.specs.Subsets.{rank, NextSub};
+ghost use Rattle.verdicts.specs.Answers.{stableAnswer};
 
 // How many proper subsets a set has.
 fn proper_subsets(set: u64) -> u64
@@ -73,8 +77,21 @@ fn stable_of(words: &[u16], set: u64, budget: u64) -> Verdict
     fill_rules(words, 4, rules, set, &mut care, &mut want);
     let broken = first_broken(&care[..rules], &want[..rules], set);
     if broken != rules {
-        return Verdict::Broken { rule: broken as u64 };
+        return Verdict::Broken {
+            rule: broken as u64,
+        };
     }
     let kept = gather(&mut care, &mut want, rules);
     stable_walk(&care[..kept], &want[..kept], set, budget)
+}
+
+// Whether `set` is stable, by the rules of a plain store.
+pub fn stable(words: &[u16], set: u64, budget: u64) -> Verdict
+    ensures { λ r. ⌜ r ≡ stableAnswer (now (words .entry)) set budget ⌝ }
+{
+    let guard = check_call(words, Kind::Plain, set, 0, budget);
+    match guard {
+        Guard::Passed => stable_of(words, set, budget),
+        Guard::Refused { refusal } => Verdict::Refused { refusal: refusal },
+    }
 }

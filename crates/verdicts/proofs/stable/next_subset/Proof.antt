@@ -35,7 +35,7 @@ shl-result c = early c
 
 -- src/stable.rt:21:1
 returns : tie.Need-returns
-returns c = 
+returns c =
     subst (NextSub (c .args .set) (c .args .s)) (sym (next-shifted _ _ (c .pre .0) (c .pre .1 .0) (c .pre .1 .1)))
     (next-sub _ _ (wide _ (c .pre .0)) (c .pre .1 .0) (c .pre .1 .1))
 
