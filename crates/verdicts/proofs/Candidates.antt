@@ -1,8 +1,8 @@
 -- One candidate after another: what the loop of the next state keeps, and what follows at each way out.
 use Prim.Native.Nat.{ℕ, zero, suc, _+_, _-_, _≤_, _<_}
 use mathlib.Core.Path.{_≡_, refl, sym, ap, _∙_, subst}
-use mathlib.Core.Logic.{_⊎_, inl, inr, ⊎-elim}
-use mathlib.Core.List.{List, [], _∷_}
+use mathlib.Core.Logic.{_⊎_, ⊎-elim}
+use mathlib.Core.List.{[], _∷_}
 use native.Mathlib.Decide.{decLe}
 use native.Mathlib.Omega.{arith}
 use types.Run.{OneOf}
@@ -13,7 +13,7 @@ use Rattle.verdicts.specs.Walk.{capped, after, firstState, cappedNext}
 use Rattle.verdicts.specs.declared.answers.Verdict.{Verdict}
 use Rattle.verdicts.specs.declared.answers.Verdict.the-variants.{Yes, Broken, Beaten, Spent, Refused}
 use Rattle.verdicts.specs.declared.answers.NextState.{NextState}
-use Rattle.verdicts.specs.declared.answers.NextState.the-variants.{State, Nothing, Spent as NextSpent, Refused as NextRefused}
+use Rattle.verdicts.specs.declared.answers.NextState.the-variants.{State, Nothing, Spent as NextSpent}
 use Rattle.verdicts.proofs.answers.NextState.{the-type}
 use Rattle.verdicts.proofs.Searches.{Answered, unitsOf, capped-same, capped-spent, never-refused}
 use Rattle.verdicts.proofs.Listing.{NextAnswered, nextUnits, next-within, next-over, next-same, first-answered}

@@ -15,11 +15,11 @@ use Rattle.kinds.specs.declared.limits.Kind.the-variants.{Plain, Preference}
 use Rattle.rules.specs.Lists.{All, flat, from}
 use Rattle.rules.specs.Sets.{has}
 use Rattle.rules.specs.Rules.{Rule, occurrences, reduct, model?, firstBroken}
-use Rattle.rules.specs.Preferred.{fixed, ofClass, OfClass}
+use Rattle.rules.specs.Preferred.{fixed, ofClass}
 use Rattle.rules.proofs.Lists.{all-app, all-imp}
 use Rattle.rules.proofs.Preferred.{all-of-class}
-use Rattle.stores.specs.Program.{Program, Form, ClassesForm, RoleForm, RuleForm, NotForm, roleOf}
-use Rattle.stores.specs.RuleStore.{kindWord, ruleWords, encode, StoreOf, kindOf, wordCount, places, rulesFrom, decode}
+use Rattle.stores.specs.Program.{Program, ClassesForm, RuleForm, NotForm}
+use Rattle.stores.specs.RuleStore.{ruleWords, encode, StoreOf, wordCount, places, rulesFrom, decode}
 use Rattle.stores.proofs.RuleTests.{past-front}
 use Rattle.verdicts.specs.Walk.{search, capped, stableWalk, preferredNeeds, stableNeeds, preferredVerdict, stableVerdict, candidates, firstState, cappedNext, nextVerdict}
 use Rattle.verdicts.specs.Masks.{maskOf, careOf, wantOf, filled, classMasks, firstM, modelM, preferredM, stableWalkM, gatherCare, gatherWant}

@@ -9,7 +9,7 @@ use lib.Dec.{eqb, leb}
 use lib.Bits.{bitOr, or-zero-l, or-zero-r}
 use lib.ListN.{length, getD, take, drop, set, length-drop, replicate, length-map}
 use lib.Seq.{getD-take, getD-drop, length-take-le}
-use borrow.Author.Tests.{ne-eqb, eq-eqb, eqb-true, leb-true, le-leb, lt-leb}
+use borrow.Author.Tests.{ne-eqb, eq-eqb, eqb-true, leb-true, le-leb}
 use Rattle.kinds.specs.Limits.{classLimit}
 use Rattle.rules.specs.Lists.{keep, filter, from}
 use Rattle.rules.specs.Preferred.{varying, fixed, ofClass}

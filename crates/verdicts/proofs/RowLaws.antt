@@ -3,12 +3,12 @@ use Prim.Native.Nat.{ℕ, zero, suc, _+_, _-_, _≤_, _<_}
 use mathlib.Core.Path.{_≡_, refl, sym, ap, ap₂, _∙_, subst}
 use mathlib.Core.Bool.{Bool, true, false, cond}
 use mathlib.Core.List.{List, [], _∷_, _++_, map}
-use native.Mathlib.Nat.{add-zero, sub-zero}
+use native.Mathlib.Nat.{sub-zero}
 use native.Mathlib.Numerals.{add-one}
 use native.Mathlib.Omega.{arith}
 use lib.Bits.{bitOr}
 use lib.ListN.{length, getD, take, drop, set, length-set, length-map}
-use lib.Seq.{drop-cons, drop-drop, getD-drop, set-at, length-take-le, append-snoc, take-suc, take-all, take-at}
+use lib.Seq.{drop-cons, drop-drop, set-at, length-take-le, append-snoc, take-suc, take-all, take-at}
 use Rattle.rules.specs.Rules.{Rule, rule}
 use Rattle.stores.specs.RuleStore.{places, ruleAt, rulesFrom}
 use Rattle.stores.proofs.RulePlace.{places-at, rule-at}

@@ -1,6 +1,6 @@
 -- The verdicts over masks: a list of atoms is the number of its set, and a rule is two masks.
 use Prim.Native.Nat.{ℕ, _-_, _^_}
-use mathlib.Core.Bool.{Bool, true, false, not, cond, _&&_}
+use mathlib.Core.Bool.{Bool, false, not, cond, _&&_}
 use mathlib.Core.List.{List, [], _∷_, _++_, map}
 use lib.Dec.{eqb, leb}
 use lib.Bits.{bitAnd, bitOr}

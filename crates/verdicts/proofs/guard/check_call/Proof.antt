@@ -4,53 +4,37 @@ use borrow.Author.Tests.{not-true, not-false}
 use Rattle.verdicts.proofs.Guarding.{no-store, header-read, too-many, top-fits, outside, over-budget, passes}
 use Rattle.verdicts.proofs.guard.check_call.Statement.{statement}
 use Rattle.verdicts.proofs.guard.check_call.Tie as tie
-use Rattle.verdicts.proofs.guard.check_call.Reads as reads
-use Rattle.verdicts.proofs.guard.check_call.Lts as lts
-use Rattle.stores.proofs.rule_store.check_rules.Reads as check-rules-reads
-use Rattle.verdicts.proofs.guard.is_of.Reads as is-of-reads
-use Rattle.verdicts.proofs.masks.wide.Reads as wide-reads
 
--- src/guard.rt:42:9
 check-rules-requires : tie.Need-check-rules-requires
 check-rules-requires c κs = search needs
 
--- src/guard.rt:43:9
 is-of-requires : tie.Need-is-of-requires
 is-of-requires c κs = search needs
 
--- src/guard.rt:44:9
 returns : tie.Need-returns
 returns c = no-store (c .before .before .before .before .args .kind) (c .before .before .before .before .args .words .now) (c .before .before .before .before .args .number) (c .before .before .before .before .args .extra) (c .before .before .before .before .args .budget) _ _ (c .before .before .check-rules .ensures) (c .before .is-of .ensures) (not-true _ (c .if1 .taken))
 
--- src/guard.rt:48:18
 shared-slice-read-wide : tie.Need-shared-slice-read-wide
 shared-slice-read-wide c = omega (arith, header-read (c .before .before .before .before .before .args .kind) (c .before .before .before .before .before .args .words .now) (c .before .before .before .before .before .args .number) (c .before .before .before .before .before .args .extra) (c .before .before .before .before .before .args .budget) _ _ (c .before .before .before .check-rules .ensures) (c .before .before .is-of .ensures) (not-false _ (c .before .if1 .left)))
 
--- src/guard.rt:48:9
 wide-requires : tie.Need-wide-requires
 wide-requires c κs = search needs
 
--- src/guard.rt:50:9
 returns-2 : tie.Need-returns-2
 returns-2 c = too-many (c .before .before .before .before .before .before .before .args .kind) (c .before .before .before .before .before .before .before .args .words .now) (c .before .before .before .before .before .before .before .args .number) (c .before .before .before .before .before .before .before .args .extra) (c .before .before .before .before .before .before .before .args .budget) _ _ (c .before .before .before .before .before .check-rules .ensures) (c .before .before .before .before .is-of .ensures) (not-false _ (c .before .before .before .if1 .left)) _ (c .before .wide .ensures) (c .if2 .taken)
 
--- src/guard.rt:54:9
 shl-if3 : tie.Need-shl-if3
 shl-if3 c = search needs
 
--- src/guard.rt:54:8
 add-if3 : tie.Need-add-if3
 add-if3 c = record { fits = top-fits (c .before .before .before .before .before .before .before .args .kind) (c .before .before .before .before .before .before .before .args .words .now) (c .before .before .before .before .before .before .before .args .number) (c .before .before .before .before .before .before .before .args .extra) (c .before .before .before .before .before .before .before .args .budget) _ _ (c .before .before .before .before .before .check-rules .ensures) (c .before .before .before .before .is-of .ensures) (not-false _ (c .before .before .before .if1 .left)) _ (c .before .wide .ensures) (c .if2 .left) (c .before .before .before .before .before .before .before .pre) }
 
--- src/guard.rt:55:9
 returns-3 : tie.Need-returns-3
 returns-3 c = outside (c .before .before .before .before .before .before .before .before .args .kind) (c .before .before .before .before .before .before .before .before .args .words .now) (c .before .before .before .before .before .before .before .before .args .number) (c .before .before .before .before .before .before .before .before .args .extra) (c .before .before .before .before .before .before .before .before .args .budget) _ _ (c .before .before .before .before .before .before .check-rules .ensures) (c .before .before .before .before .before .is-of .ensures) (not-false _ (c .before .before .before .before .if1 .left)) _ (c .before .before .wide .ensures) (c .before .if2 .left) (c .if3 .taken)
 
--- src/guard.rt:60:9
 returns-4 : tie.Need-returns-4
 returns-4 c = over-budget (c .before .before .before .before .before .before .before .before .before .args .kind) (c .before .before .before .before .before .before .before .before .before .args .words .now) (c .before .before .before .before .before .before .before .before .before .args .number) (c .before .before .before .before .before .before .before .before .before .args .extra) (c .before .before .before .before .before .before .before .before .before .args .budget) _ _ (c .before .before .before .before .before .before .before .check-rules .ensures) (c .before .before .before .before .before .before .is-of .ensures) (not-false _ (c .before .before .before .before .before .if1 .left)) _ (c .before .before .before .wide .ensures) (c .before .before .if2 .left) (c .before .if3 .left) (c .if4 .taken)
 
--- src/guard.rt:38:1
 returns-5 : tie.Need-returns-5
 returns-5 c = passes (c .before .before .before .before .before .before .before .before .before .args .kind) (c .before .before .before .before .before .before .before .before .before .args .words .now) (c .before .before .before .before .before .before .before .before .before .args .number) (c .before .before .before .before .before .before .before .before .before .args .extra) (c .before .before .before .before .before .before .before .before .before .args .budget) _ _ (c .before .before .before .before .before .before .before .check-rules .ensures) (c .before .before .before .before .before .before .is-of .ensures) (not-false _ (c .before .before .before .before .before .if1 .left)) _ (c .before .before .before .wide .ensures) (c .before .before .if2 .left) (c .before .if3 .left) (c .if4 .left)
 

@@ -4,58 +4,43 @@ use Rattle.verdicts.proofs.Guarding.{not-of}
 use borrow.Author.Needs.{needs}
 use Rattle.verdicts.proofs.guard.is_of.Statement.{statement}
 use Rattle.verdicts.proofs.guard.is_of.Tie as tie
-use Rattle.verdicts.proofs.guard.is_of.Reads as reads
-use Rattle.verdicts.proofs.guard.is_of.Lts as lts
 
--- src/guard.rt:22:23
 enum-known-found : tie.Need-enum-known-found
 enum-known-found c = search needs
 
--- src/guard.rt:23:9
 enum-told : tie.Need-enum-told
 enum-told c = search needs
 
--- src/guard.rt:23:9
 returns : tie.Need-returns
 returns c = not-of (c .before .before .args .kind) ∙ ap (isOf (c .before .before .args .kind)) (sym (c .enum-told .given .1))
 
--- src/guard.rt:26:24
 enum-told-2 : tie.Need-enum-told-2
 enum-told-2 c = search needs
 
--- src/guard.rt:27:28
 enum-told-3 : tie.Need-enum-told-3
 enum-told-3 c = search needs
 
--- src/guard.rt:28:33
 enum-told-4 : tie.Need-enum-told-4
 enum-told-4 c = search needs
 
--- src/guard.rt:30:29
 enum-told-5 : tie.Need-enum-told-5
 enum-told-5 c = search needs
 
--- src/guard.rt:31:28
 enum-told-6 : tie.Need-enum-told-6
 enum-told-6 c = search needs
 
--- src/guard.rt:32:33
 enum-told-7 : tie.Need-enum-told-7
 enum-told-7 c = search needs
 
--- src/guard.rt:19:1
 returns-2 : tie.Need-returns-2
 returns-2 c = search needs
 
--- src/guard.rt:19:1
 returns-3 : tie.Need-returns-3
 returns-3 c = search needs
 
--- src/guard.rt:19:1
 returns-4 : tie.Need-returns-4
 returns-4 c = search needs
 
--- src/guard.rt:19:1
 returns-5 : tie.Need-returns-5
 returns-5 c = search needs
 

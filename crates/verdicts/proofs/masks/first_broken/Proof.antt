@@ -7,8 +7,6 @@ use Rattle.verdicts.specs.Masks.{firstM}
 use Rattle.verdicts.proofs.MaskLoops.{first-none, first-found, first-more}
 use Rattle.verdicts.proofs.masks.first_broken.Statement.{statement}
 use Rattle.verdicts.proofs.masks.first_broken.Tie as tie
-use Rattle.verdicts.proofs.masks.first_broken.Reads as reads
-use Rattle.verdicts.proofs.masks.first_broken.Lts as lts
 
 abbrev Inv-loop : tie.InvT-loop
 Inv-loop care want set i₀ i = (i ≤ length care) × (firstM set care want ≡ i + firstM set (drop i care) (drop i want))
@@ -16,43 +14,33 @@ Inv-loop care want set i₀ i = (i ≤ length care) × (firstM set care want ≡
 abbrev μ-loop : tie.MeasureT-loop
 μ-loop care want set i₀ i = length care - i
 
--- src/masks.rt:137:5
 loop-holds : tie.Need-loop-holds Inv-loop μ-loop
 loop-holds c = (search needs, sym (zero-add _))
 
--- src/masks.rt:138:18
 mul-if1 : tie.Need-mul-if1 Inv-loop μ-loop
 mul-if1 c = search needs
 
--- src/masks.rt:138:18
 shared-slice-read-if1 : tie.Need-shared-slice-read-if1 Inv-loop μ-loop
 shared-slice-read-if1 c = search needs
 
--- src/masks.rt:138:29
 mul-if1-2 : tie.Need-mul-if1-2 Inv-loop μ-loop
 mul-if1-2 c = search needs
 
--- src/masks.rt:138:29
 shared-slice-read-if1-2 : tie.Need-shared-slice-read-if1-2 Inv-loop μ-loop
 shared-slice-read-if1-2 c = search needs
 
--- src/masks.rt:139:13
 returns : tie.Need-returns Inv-loop μ-loop
 returns c = first-found (c .before .before .before .before .before .args .set) (c .before .before .before .before .before .args .care .now) (c .before .before .before .before .before .args .want .now) (c .before .before .before .before .before .pre) (c .before .before .before .before .loop .i) (c .before .before .before .loop-test .taken) (c .before .before .before .before .loop .inv .1) (c .if1 .taken)
 
--- src/masks.rt:141:9
 add-i : tie.Need-add-i Inv-loop μ-loop
 add-i c = search needs
 
--- src/masks.rt:137:5
 loop-less : tie.Need-loop-less Inv-loop μ-loop
 loop-less c = search needs
 
--- src/masks.rt:137:5
 loop-again : tie.Need-loop-again Inv-loop μ-loop
 loop-again c = (search needs, first-more (c .before .before .before .before .before .args .set) (c .before .before .before .before .before .args .care .now) (c .before .before .before .before .before .args .want .now) (c .before .before .before .before .before .pre) (c .before .before .before .before .loop .i) (c .before .before .before .loop-test .taken) (c .before .before .before .before .loop .inv .1) (c .if1 .left))
 
--- src/masks.rt:132:1
 returns-2 : tie.Need-returns-2 Inv-loop μ-loop
 returns-2 c = first-none (c .before .before .args .set) (c .before .before .args .care .now) (c .before .before .args .want .now) (c .before .before .pre) (c .before .loop .i) (c .loop-test .left) (c .before .loop .inv .1)
 

@@ -3,8 +3,6 @@ use borrow.Author.Needs.{needs}
 use Rattle.verdicts.proofs.MaskLoops.{Gathered, gather-begins, gather-keeps, gather-skips, gather-room, gather-ends}
 use Rattle.verdicts.proofs.masks.gather.Statement.{statement}
 use Rattle.verdicts.proofs.masks.gather.Tie as tie
-use Rattle.verdicts.proofs.masks.gather.Reads as reads
-use Rattle.verdicts.proofs.masks.gather.Lts as lts
 
 abbrev Inv-loop : tie.InvT-loop
 Inv-loop care₀ want₀ rules kept₀ j₀ care want kept j = Gathered care₀ want₀ rules care want kept j
@@ -12,75 +10,57 @@ Inv-loop care₀ want₀ rules kept₀ j₀ care want kept j = Gathered care₀ 
 abbrev μ-loop : tie.MeasureT-loop
 μ-loop care₀ want₀ rules kept₀ j₀ care want kept j = rules - j
 
--- src/masks.rt:118:5
 loop-holds : tie.Need-loop-holds Inv-loop μ-loop
 loop-holds c = gather-begins _ _ _
 
--- src/masks.rt:119:17
 mul-c : tie.Need-mul-c Inv-loop μ-loop
 mul-c c = search needs
 
--- src/masks.rt:119:17
 slice-read-c : tie.Need-slice-read-c Inv-loop μ-loop
 slice-read-c c = search needs
 
--- src/masks.rt:120:17
 mul-w : tie.Need-mul-w Inv-loop μ-loop
 mul-w c = search needs
 
--- src/masks.rt:120:17
 slice-read-w : tie.Need-slice-read-w Inv-loop μ-loop
 slice-read-w c = search needs
 
--- src/masks.rt:121:9
 add-j : tie.Need-add-j Inv-loop μ-loop
 add-j c = search needs
 
--- src/masks.rt:123:13
 mul-care : tie.Need-mul-care Inv-loop μ-loop
 mul-care c = search needs
 
--- src/masks.rt:123:13
 slice-write-care : tie.Need-slice-write-care Inv-loop μ-loop
 slice-write-care c = gather-room _ _ _ _ _ _ _ (c .before .before .before .before .loop .inv) (c .before .before .before .loop-test .taken) (c .before .before .before .before .before .pre) .0
 
--- src/masks.rt:124:13
 mul-want : tie.Need-mul-want Inv-loop μ-loop
 mul-want c = search needs
 
--- src/masks.rt:124:13
 slice-write-want : tie.Need-slice-write-want Inv-loop μ-loop
 slice-write-want c = gather-room _ _ _ _ _ _ _ (c .before .before .before .before .loop .inv) (c .before .before .before .loop-test .taken) (c .before .before .before .before .before .pre) .1
 
--- src/masks.rt:125:13
 add-kept : tie.Need-add-kept Inv-loop μ-loop
 add-kept c = search needs
 
--- src/masks.rt:118:5
 loop-less : tie.Need-loop-less Inv-loop μ-loop
 loop-less c = search needs
 
--- src/masks.rt:118:5
 loop-again : tie.Need-loop-again Inv-loop μ-loop
 loop-again c = gather-keeps _ _ _ _ _ _ _ (c .before .before .before .before .loop .inv) (c .before .before .before .loop-test .taken) (c .before .before .before .before .before .pre) (c .if1 .taken)
 
--- src/masks.rt:118:5
 loop-less-2 : tie.Need-loop-less-2 Inv-loop μ-loop
 loop-less-2 c = search needs
 
--- src/masks.rt:118:5
 loop-again-2 : tie.Need-loop-again-2 Inv-loop μ-loop
 loop-again-2 c = gather-skips _ _ _ _ _ _ _ (c .before .before .before .before .loop .inv) (c .before .before .before .loop-test .taken) (c .before .before .before .before .before .pre) (c .if1 .left)
 
--- src/masks.rt:110:1
 same-length : tie.Need-same-length Inv-loop μ-loop
 same-length c = search needs
 
--- src/masks.rt:110:1
 same-length-2 : tie.Need-same-length-2 Inv-loop μ-loop
 same-length-2 c = search needs
 
--- src/masks.rt:110:1
 returns : tie.Need-returns Inv-loop μ-loop
 returns c = gather-ends _ _ _ _ _ _ _ (c .before .loop .inv) (c .loop-test .left)
 

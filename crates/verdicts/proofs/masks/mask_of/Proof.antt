@@ -8,8 +8,6 @@ use Rattle.verdicts.specs.Masks.{maskOf}
 use Rattle.verdicts.proofs.MaskLoops.{mask-first, mask-more, mask-last}
 use Rattle.verdicts.proofs.masks.mask_of.Statement.{statement}
 use Rattle.verdicts.proofs.masks.mask_of.Tie as tie
-use Rattle.verdicts.proofs.masks.mask_of.Reads as reads
-use Rattle.verdicts.proofs.masks.mask_of.Lts as lts
 
 abbrev Inv-loop : tie.InvT-loop
 Inv-loop words start count m₀ i₀ m i = (i ≤ count) × (maskOf (take count (drop start words)) ≡ bitOr m (maskOf (take (count - i) (drop (start + i) words))))
@@ -21,43 +19,33 @@ abbrev μ-loop : tie.MeasureT-loop
 small : (c : tie.After-shared-slice-known Inv-loop μ-loop) → getD (c .before .before .before .args .words .now) (c .before .before .before .args .start + c .before .before .loop .i) 0 < 60
 small c = c .before .before .before .pre .1 (c .before .before .loop .i) (c .before .loop-test .taken)
 
--- src/masks.rt:35:5
 loop-holds : tie.Need-loop-holds Inv-loop μ-loop
 loop-holds c = (search needs, mask-first _ _ _ (c .pre .0))
 
--- src/masks.rt:36:18
 add-at : tie.Need-add-at Inv-loop μ-loop
 add-at c = search needs
 
--- src/masks.rt:37:22
 mul-m : tie.Need-mul-m Inv-loop μ-loop
 mul-m c = search needs
 
--- src/masks.rt:37:22
 shared-slice-read-m : tie.Need-shared-slice-read-m Inv-loop μ-loop
 shared-slice-read-m c = search needs
 
--- src/masks.rt:37:22
 cast-m : tie.Need-cast-m Inv-loop μ-loop
 cast-m c = omega (arith, small c)
 
--- src/masks.rt:37:14
 shl-m : tie.Need-shl-m Inv-loop μ-loop
 shl-m c = omega (arith, small c)
 
--- src/masks.rt:38:9
 add-i : tie.Need-add-i Inv-loop μ-loop
 add-i c = search needs
 
--- src/masks.rt:35:5
 loop-less : tie.Need-loop-less Inv-loop μ-loop
 loop-less c = search needs
 
--- src/masks.rt:35:5
 loop-again : tie.Need-loop-again Inv-loop μ-loop
 loop-again c = (search needs, mask-more _ _ _ (c .before .before .before .pre .0) (c .before .before .loop .m) _ (c .before .loop-test .taken) (small c) (c .before .before .loop .inv .1))
 
--- src/masks.rt:28:1
 returns : tie.Need-returns Inv-loop μ-loop
 returns c = mask-last _ _ _ (c .before .before .pre .0) (c .before .loop .m) _ (c .before .loop .inv .0) (c .loop-test .left) (c .before .loop .inv .1)
 

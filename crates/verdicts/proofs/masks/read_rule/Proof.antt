@@ -6,11 +6,6 @@ use lib.ListN.{length, getD}
 use Rattle.verdicts.proofs.RowLaws.{row-room, row-atoms, read-live, read-idle}
 use Rattle.verdicts.proofs.masks.read_rule.Statement.{statement}
 use Rattle.verdicts.proofs.masks.read_rule.Tie as tie
-use Rattle.verdicts.proofs.masks.read_rule.Reads as reads
-use Rattle.verdicts.proofs.masks.read_rule.Lts as lts
-use Rattle.verdicts.proofs.masks.is_live.Reads as is-live-reads
-use Rattle.verdicts.proofs.masks.mask_of.Reads as mask-of-reads
-use Rattle.verdicts.proofs.masks.wide.Reads as wide-reads
 
 -- the rule lies within the words, by the counts that were read
 module _ (c : tie.After-wide3) where
@@ -29,87 +24,66 @@ module _ (c : tie.After-wide3) where
   atoms : (k : ℕ) → at + 3 ≤ k → k < end → getD ws k 0 < 60
   atoms = row-atoms ws at _ _ _ (c .before .before .before .before .wide .ensures) (c .before .before .wide2 .ensures) (c .wide3 .ensures) (c .before .before .before .before .before .before .before .pre)
 
--- src/masks.rt:58:18
 add-second : tie.Need-add-second
 add-second c = search needs
 
--- src/masks.rt:59:17
 add-third : tie.Need-add-third
 add-third c = search needs
 
--- src/masks.rt:60:18
 mul-wide : tie.Need-mul-wide
 mul-wide c = search needs
 
--- src/masks.rt:60:18
 shared-slice-read-wide : tie.Need-shared-slice-read-wide
 shared-slice-read-wide c = search needs
 
--- src/masks.rt:60:9
 wide-requires : tie.Need-wide-requires
 wide-requires c κs = search needs
 
--- src/masks.rt:61:18
 mul-wide-2 : tie.Need-mul-wide-2
 mul-wide-2 c = search needs
 
--- src/masks.rt:61:18
 shared-slice-read-wide-2 : tie.Need-shared-slice-read-wide-2
 shared-slice-read-wide-2 c = search needs
 
--- src/masks.rt:61:9
 wide-requires-2 : tie.Need-wide-requires-2
 wide-requires-2 c κs = search needs
 
--- src/masks.rt:62:18
 mul-wide-3 : tie.Need-mul-wide-3
 mul-wide-3 c = search needs
 
--- src/masks.rt:62:18
 shared-slice-read-wide-3 : tie.Need-shared-slice-read-wide-3
 shared-slice-read-wide-3 c = search needs
 
--- src/masks.rt:62:9
 wide-requires-3 : tie.Need-wide-requires-3
 wide-requires-3 c κs = search needs
 
--- src/masks.rt:63:14
 add-hs : tie.Need-add-hs
 add-hs c = search needs
 
--- src/masks.rt:64:14
 add-bs : tie.Need-add-bs
 add-bs c = omega (arith, room c)
 
--- src/masks.rt:65:14
 add-ns : tie.Need-add-ns
 add-ns c = omega (arith, room c)
 
--- src/masks.rt:66:16
 add-next : tie.Need-add-next
 add-next c = omega (arith, room c)
 
--- src/masks.rt:67:9
 mask-of-requires : tie.Need-mask-of-requires
 mask-of-requires c κs = (omega (arith, room c), λ k l. atoms c _ (omega arith) (omega arith))
 
--- src/masks.rt:68:9
 mask-of-requires-2 : tie.Need-mask-of-requires-2
 mask-of-requires-2 c κs = (omega (arith, room (c .before)), λ k l. atoms (c .before) _ (omega arith) (omega arith))
 
--- src/masks.rt:69:9
 mask-of-requires-3 : tie.Need-mask-of-requires-3
 mask-of-requires-3 c κs = (omega (arith, room (c .before .before)), λ k l. atoms (c .before .before) _ (omega arith) (omega arith))
 
--- src/masks.rt:70:8
 is-live-requires : tie.Need-is-live-requires
 is-live-requires c κs = search needs
 
--- src/masks.rt:71:9
 returns : tie.Need-returns
 returns c = read-live _ _ _ _ _ (c .before .before .before .before .before .before .before .before .before .wide .ensures) (c .before .before .before .before .before .before .before .wide2 .ensures) (c .before .before .before .before .before .wide3 .ensures) _ _ _ _ (c .before .before .before .before .mask-of .ensures) (c .before .before .before .mask-of2 .ensures) (c .before .before .mask-of3 .ensures) _ (c .before .is-live .ensures) (c .if1 .taken)
 
--- src/masks.rt:54:1
 returns-2 : tie.Need-returns-2
 returns-2 c = read-idle _ _ _ _ _ (c .before .before .before .before .before .before .before .before .before .wide .ensures) (c .before .before .before .before .before .before .before .wide2 .ensures) (c .before .before .before .before .before .wide3 .ensures) _ _ _ _ (c .before .before .before .before .mask-of .ensures) (c .before .before .before .mask-of2 .ensures) (c .before .before .mask-of3 .ensures) _ (c .before .is-live .ensures) (c .if1 .left)
 

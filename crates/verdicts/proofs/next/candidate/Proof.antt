@@ -5,73 +5,54 @@ use Rattle.verdicts.proofs.AgreeingSets.{preferred-answered-mask}
 use Rattle.verdicts.proofs.Candidates.{no-unit-left, is-state, is-broken, is-beaten, is-spent, is-refused}
 use Rattle.verdicts.proofs.next.candidate.Statement.{statement}
 use Rattle.verdicts.proofs.next.candidate.Tie as tie
-use Rattle.verdicts.proofs.next.candidate.Reads as reads
-use Rattle.verdicts.proofs.next.candidate.Lts as lts
-use Rattle.verdicts.proofs.preferred.preferred_masks.Reads as preferred-masks-reads
 
--- src/next.rt:31:9
 returns : tie.Need-returns
 returns c =
     let a = c .before .before .before .before .args in
     no-unit-left (preferredM (a .care .now) (a .want .now) (a .classes .now) (a .fixed) (a .n) (a .set)) (preferred-answered-mask _ _ _ _ _ _) (a .set) _ _ (c .if1 .taken)
 
--- src/next.rt:33:16
 add-used : tie.Need-add-used
 add-used c = search needs
 
--- src/next.rt:34:71
 sub-preferred-masks : tie.Need-sub-preferred-masks
 sub-preferred-masks c = search needs
 
--- src/next.rt:34:9
 preferred-masks-requires : tie.Need-preferred-masks-requires
 preferred-masks-requires c κs = search needs
 
--- src/next.rt:36:31
 enum-known-verdict : tie.Need-enum-known-verdict
 enum-known-verdict c = search needs
 
--- src/next.rt:38:20
 add-t16 : tie.Need-add-t16
 add-t16 c = omega (arith, is-state _ (preferred-answered-mask _ _ _ _ _ _) (c .before .before .before .before .before .before .before .before .args .set) _ _ (c .before .before .before .before .before .before .before .before .pre .1 .1 .1) (c .before .before .before .before .if1 .left) _ (c .before .before .before .preferred-masks .ensures) _ (c .before .verdict .given .1) .0)
 
--- src/next.rt:40:40
 enum-told : tie.Need-enum-told
 enum-told c = search needs
 
--- src/next.rt:41:42
 enum-known-verdict-2 : tie.Need-enum-known-verdict-2
 enum-known-verdict-2 c = search needs
 
--- src/next.rt:41:80
 add-t17 : tie.Need-add-t17
 add-t17 c = omega (arith, is-beaten _ (preferred-answered-mask _ _ _ _ _ _) (c .before .before .before .before .before .before .before .before .args .set) _ _ (c .before .before .before .before .before .before .before .before .pre .1 .1 .1) (c .before .before .before .before .if1 .left) _ (c .before .before .before .preferred-masks .ensures) _ _ (c .before .verdict2 .given .1) .0)
 
--- src/next.rt:42:40
 enum-told-2 : tie.Need-enum-told-2
 enum-told-2 c = search needs
 
--- src/next.rt:43:44
 enum-told-3 : tie.Need-enum-told-3
 enum-told-3 c = search needs
 
--- src/next.rt:14:1
 returns-2 : tie.Need-returns-2
 returns-2 c = is-state _ (preferred-answered-mask _ _ _ _ _ _) _ _ _ (c .before .before .before .before .before .before .before .before .pre .1 .1 .1) (c .before .before .before .before .if1 .left) _ (c .before .before .before .preferred-masks .ensures) _ (c .before .verdict .given .1) .1
 
--- src/next.rt:14:1
 returns-3 : tie.Need-returns-3
 returns-3 c = is-broken _ (preferred-answered-mask _ _ _ _ _ _) _ _ _ (c .before .before .before .before .before .before .before .pre .1 .1 .1) (c .before .before .before .if1 .left) _ (c .before .before .preferred-masks .ensures) _ (c .enum-told .given .1)
 
--- src/next.rt:14:1
 returns-4 : tie.Need-returns-4
 returns-4 c = is-beaten _ (preferred-answered-mask _ _ _ _ _ _) _ _ _ (c .before .before .before .before .before .before .before .before .pre .1 .1 .1) (c .before .before .before .before .if1 .left) _ (c .before .before .before .preferred-masks .ensures) _ _ (c .before .verdict2 .given .1) .1
 
--- src/next.rt:14:1
 returns-5 : tie.Need-returns-5
 returns-5 c = is-spent _ (preferred-answered-mask _ _ _ _ _ _) _ _ _ (c .before .before .before .before .before .before .before .pre .1 .1 .1) (c .before .before .before .if1 .left) _ (c .before .before .preferred-masks .ensures) _ (c .enum-told2 .given .1)
 
--- src/next.rt:14:1
 returns-6 : tie.Need-returns-6
 returns-6 c = is-refused _ (preferred-answered-mask _ _ _ _ _ _) _ _ _ (c .before .before .before .before .before .before .before .pre .1 .1 .1) (c .before .before .before .if1 .left) _ (c .before .before .preferred-masks .ensures) _ (c .enum-told3 .given .1)
 

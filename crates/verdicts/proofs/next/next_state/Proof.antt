@@ -8,33 +8,23 @@ use Rattle.verdicts.specs.declared.answers.NextState.the-variants.{Refus
 use Rattle.verdicts.proofs.Guarding.{call-passes, answer-told, refusal-told, up-to-top, start-inside}
 use Rattle.verdicts.proofs.next.next_state.Statement.{statement}
 use Rattle.verdicts.proofs.next.next_state.Tie as tie
-use Rattle.verdicts.proofs.next.next_state.Reads as reads
-use Rattle.verdicts.proofs.next.next_state.Lts as lts
-use Rattle.verdicts.proofs.guard.check_call.Reads as check-call-reads
-use Rattle.verdicts.proofs.next.next_of.Reads as next-of-reads
 
--- src/next.rt:123:9
 check-call-requires : tie.Need-check-call-requires
 check-call-requires c κs = search needs
 
--- src/next.rt:125:26
 enum-told : tie.Need-enum-told
 enum-told c = search needs
 
--- src/next.rt:125:26
 next-of-requires : tie.Need-next-of-requires
 next-of-requires c κs = let h = call-passes Refused Preference (c .before .before .before .before .args .words .now) (leb (c .before .before .before .before .args .start)) (c .before .before .before .before .args .start) 1 (c .before .before .before .before .args .budget) (nextVerdict (decode (c .before .before .before .before .args .words .now) .words) (decode (c .before .before .before .before .args .words .now) .rules) (c .before .before .before .before .args .start) (c .before .before .before .before .args .budget)) (up-to-top (c .before .before .before .before .args .start)) _ (c .before .before .check-call .ensures) (c .enum-told .given .1) in (h .store, (h .few, (h .is-kind, start-inside h)))
 
--- src/next.rt:126:26
 enum-known-guard : tie.Need-enum-known-guard
 enum-known-guard c = search needs
 
--- src/next.rt:120:1
 returns : tie.Need-returns
 unfolding nextAnswer
 returns c = answer-told Refused Preference (c .before .before .before .before .before .args .words .now) (leb (c .before .before .before .before .before .args .start)) (c .before .before .before .before .before .args .start) 1 (c .before .before .before .before .before .args .budget) (nextVerdict (decode (c .before .before .before .before .before .args .words .now) .words) (decode (c .before .before .before .before .before .args .words .now) .rules) (c .before .before .before .before .before .args .start) (c .before .before .before .before .before .args .budget)) (up-to-top (c .before .before .before .before .before .args .start)) _ (c .before .before .before .check-call .ensures) (c .before .enum-told .given .1) _ (c .next-of .ensures)
 
--- src/next.rt:120:1
 returns-2 : tie.Need-returns-2
 unfolding nextAnswer
 returns-2 c = refusal-told Refused Preference (c .before .before .before .before .before .args .words .now) (leb (c .before .before .before .before .before .args .start)) (c .before .before .before .before .before .args .start) 1 (c .before .before .before .before .before .args .budget) (nextVerdict (decode (c .before .before .before .before .before .args .words .now) .words) (decode (c .before .before .before .before .before .args .words .now) .rules) (c .before .before .before .before .before .args .start) (c .before .before .before .before .before .args .budget)) (up-to-top (c .before .before .before .before .before .args .start)) _ (c .before .before .before .check-call .ensures) _ (c .before .guard .given .1)

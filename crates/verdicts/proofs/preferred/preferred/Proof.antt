@@ -8,33 +8,23 @@ use Rattle.verdicts.specs.declared.answers.Verdict.the-variants.{Refused
 use Rattle.verdicts.proofs.Guarding.{call-passes, answer-told, refusal-told, below-top}
 use Rattle.verdicts.proofs.preferred.preferred.Statement.{statement}
 use Rattle.verdicts.proofs.preferred.preferred.Tie as tie
-use Rattle.verdicts.proofs.preferred.preferred.Reads as reads
-use Rattle.verdicts.proofs.preferred.preferred.Lts as lts
-use Rattle.verdicts.proofs.guard.check_call.Reads as check-call-reads
-use Rattle.verdicts.proofs.preferred.preferred_of.Reads as preferred-of-reads
 
--- src/preferred.rt:141:9
 check-call-requires : tie.Need-check-call-requires
 check-call-requires c κs = search needs
 
--- src/preferred.rt:143:26
 enum-told : tie.Need-enum-told
 enum-told c = search needs
 
--- src/preferred.rt:143:26
 preferred-of-requires : tie.Need-preferred-of-requires
 preferred-of-requires c κs = let h = call-passes Refused Preference (c .before .before .before .before .args .words .now) (ltb (c .before .before .before .before .args .set)) (c .before .before .before .before .args .set) 0 (c .before .before .before .before .args .budget) (preferredVerdict (decode (c .before .before .before .before .args .words .now) .words) (decode (c .before .before .before .before .args .words .now) .rules) (c .before .before .before .before .args .set) (c .before .before .before .before .args .budget)) (below-top (c .before .before .before .before .args .set)) _ (c .before .before .check-call .ensures) (c .enum-told .given .1) in (h .store, (h .few, h .is-kind))
 
--- src/preferred.rt:144:26
 enum-known-guard : tie.Need-enum-known-guard
 enum-known-guard c = search needs
 
--- src/preferred.rt:138:1
 returns : tie.Need-returns
 unfolding preferredAnswer
 returns c = answer-told Refused Preference (c .before .before .before .before .before .args .words .now) (ltb (c .before .before .before .before .before .args .set)) (c .before .before .before .before .before .args .set) 0 (c .before .before .before .before .before .args .budget) (preferredVerdict (decode (c .before .before .before .before .before .args .words .now) .words) (decode (c .before .before .before .before .before .args .words .now) .rules) (c .before .before .before .before .before .args .set) (c .before .before .before .before .before .args .budget)) (below-top (c .before .before .before .before .before .args .set)) _ (c .before .before .before .check-call .ensures) (c .before .enum-told .given .1) _ (c .preferred-of .ensures)
 
--- src/preferred.rt:138:1
 returns-2 : tie.Need-returns-2
 unfolding preferredAnswer
 returns-2 c = refusal-told Refused Preference (c .before .before .before .before .before .args .words .now) (ltb (c .before .before .before .before .before .args .set)) (c .before .before .before .before .before .args .set) 0 (c .before .before .before .before .before .args .budget) (preferredVerdict (decode (c .before .before .before .before .before .args .words .now) .words) (decode (c .before .before .before .before .before .args .words .now) .rules) (c .before .before .before .before .before .args .set) (c .before .before .before .before .before .args .budget)) (below-top (c .before .before .before .before .before .args .set)) _ (c .before .before .before .check-call .ensures) _ (c .before .guard .given .1)

@@ -5,9 +5,6 @@ use Rattle.verdicts.proofs.MaskLoops.{shl-pos, shl-last}
 use Rattle.verdicts.proofs.AgreeingSets.{Walking, walk-begins, walk-is-spent, walk-finds, walk-ends, walk-goes-on, walk-falls}
 use Rattle.verdicts.proofs.preferred.preferred_walk.Statement.{statement}
 use Rattle.verdicts.proofs.preferred.preferred_walk.Tie as tie
-use Rattle.verdicts.proofs.preferred.preferred_walk.Reads as reads
-use Rattle.verdicts.proofs.preferred.preferred_walk.Lts as lts
-use Rattle.verdicts.proofs.preferred.beats.Reads as beats-reads
 
 abbrev Inv-loop : tie.InvT-loop
 Inv-loop care want classes fixed n set budget full d y₀ units₀ y units = Walking care want classes fixed n set budget d full y units
@@ -15,47 +12,36 @@ Inv-loop care want classes fixed n set budget full d y₀ units₀ y units = Wal
 abbrev μ-loop : tie.MeasureT-loop
 μ-loop care want classes fixed n set budget full d y₀ units₀ y units = full - y
 
--- src/preferred.rt:52:17
 shl-full : tie.Need-shl-full Inv-loop μ-loop
 shl-full c = search needs
 
--- src/preferred.rt:52:16
 sub-full : tie.Need-sub-full Inv-loop μ-loop
 sub-full c = shl-pos _ (c .before .before .before .pre .1 .0)
 
--- src/preferred.rt:56:5
 loop-holds : tie.Need-loop-holds Inv-loop μ-loop
 loop-holds c = walk-begins _ _ _ _ _ _ _ _ (shl-last _ (c .before .before .before .pre .1 .0)) (c .before .before .before .pre .1 .1)
 
--- src/preferred.rt:58:13
 returns : tie.Need-returns Inv-loop μ-loop
 returns c = walk-is-spent _ _ _ _ _ _ _ _ _ _ _ (c .before .loop .inv) (c .if1 .taken)
 
--- src/preferred.rt:60:9
 add-units : tie.Need-add-units Inv-loop μ-loop
 add-units c = search needs
 
--- src/preferred.rt:62:12
 beats-requires : tie.Need-beats-requires Inv-loop μ-loop
 beats-requires c κs = search needs
 
--- src/preferred.rt:63:13
 returns-2 : tie.Need-returns-2 Inv-loop μ-loop
 returns-2 c = walk-finds _ _ _ _ _ _ _ _ _ _ _ (c .before .before .before .loop .inv) (c .before .before .if1 .left) (sym (c .before .beats .ensures) ∙ c .if2 .taken)
 
--- src/preferred.rt:69:13
 returns-3 : tie.Need-returns-3 Inv-loop μ-loop
 returns-3 c = walk-ends _ _ _ _ _ _ _ _ _ _ _ (c .before .before .before .before .loop .inv) (c .before .before .before .if1 .left) (sym (c .before .before .beats .ensures) ∙ c .before .if2 .left) (c .if3 .taken)
 
--- src/preferred.rt:71:14
 add-y : tie.Need-add-y Inv-loop μ-loop
 add-y c = search needs
 
--- src/preferred.rt:56:5
 loop-less : tie.Need-loop-less Inv-loop μ-loop
 loop-less c = walk-falls _ _ _ _ _ _ _ _ _ _ _ (c .before .before .before .before .loop .inv) (c .if3 .left)
 
--- src/preferred.rt:56:5
 loop-again : tie.Need-loop-again Inv-loop μ-loop
 loop-again c = walk-goes-on _ _ _ _ _ _ _ _ _ _ _ (c .before .before .before .before .loop .inv) (c .before .before .before .if1 .left) (sym (c .before .before .beats .ensures) ∙ c .before .if2 .left) (c .if3 .left)
 

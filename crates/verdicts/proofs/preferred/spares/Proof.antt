@@ -6,8 +6,6 @@ use Rattle.verdicts.specs.Masks.{sparesM}
 use Rattle.verdicts.proofs.MaskLoops.{spares-none, spares-found, spares-more}
 use Rattle.verdicts.proofs.preferred.spares.Statement.{statement}
 use Rattle.verdicts.proofs.preferred.spares.Tie as tie
-use Rattle.verdicts.proofs.preferred.spares.Reads as reads
-use Rattle.verdicts.proofs.preferred.spares.Lts as lts
 
 abbrev Inv-loop : tie.InvT-loop
 Inv-loop classes set of i₀ i = (i ≤ length classes) × (sparesM of set classes ≡ sparesM of set (drop i classes))
@@ -15,35 +13,27 @@ Inv-loop classes set of i₀ i = (i ≤ length classes) × (sparesM of set class
 abbrev μ-loop : tie.MeasureT-loop
 μ-loop classes set of i₀ i = length classes - i
 
--- src/preferred.rt:15:5
 loop-holds : tie.Need-loop-holds Inv-loop μ-loop
 loop-holds c = (search needs, refl)
 
--- src/preferred.rt:16:17
 mul-c : tie.Need-mul-c Inv-loop μ-loop
 mul-c c = search needs
 
--- src/preferred.rt:16:17
 shared-slice-read-c : tie.Need-shared-slice-read-c Inv-loop μ-loop
 shared-slice-read-c c = search needs
 
--- src/preferred.rt:19:13
 returns : tie.Need-returns Inv-loop μ-loop
 returns c = spares-found _ _ _ (c .before .before .before .loop .i) (c .before .before .loop-test .taken) (c .before .before .before .loop .inv .1) (c .if1 .taken)
 
--- src/preferred.rt:21:9
 add-i : tie.Need-add-i Inv-loop μ-loop
 add-i c = search needs
 
--- src/preferred.rt:15:5
 loop-less : tie.Need-loop-less Inv-loop μ-loop
 loop-less c = search needs
 
--- src/preferred.rt:15:5
 loop-again : tie.Need-loop-again Inv-loop μ-loop
 loop-again c = (search needs, spares-more _ _ _ (c .before .before .before .loop .i) (c .before .before .loop-test .taken) (c .before .before .before .loop .inv .1) (c .if1 .left))
 
--- src/preferred.rt:11:1
 returns-2 : tie.Need-returns-2 Inv-loop μ-loop
 returns-2 c = spares-none _ _ _ (c .before .loop .i) (c .loop-test .left) (c .before .loop .inv .1)
 

@@ -7,33 +7,25 @@ use Rattle.verdicts.specs.Subsets.{NextSub}
 use Rattle.verdicts.proofs.Subsets.{next-sub, next-early, next-shifted, wide, shr-fits}
 use Rattle.verdicts.proofs.stable.next_subset.Statement.{statement}
 use Rattle.verdicts.proofs.stable.next_subset.Tie as tie
-use Rattle.verdicts.proofs.stable.next_subset.Reads as reads
-use Rattle.verdicts.proofs.stable.next_subset.Lts as lts
 
 early : (c : tie.Start) → trailingZeros 64 (bitXor (c .args .set) (c .args .s)) < 64
 early c = next-early (c .args .set) (c .args .s) (wide _ (c .pre .0)) (c .pre .1 .0) (c .pre .1 .1)
 
--- src/stable.rt:28:12
 cast-result : tie.Need-cast-result
 cast-result c = record { fits = omega (arith, early c) }
 
--- src/stable.rt:28:7
 shr-result : tie.Need-shr-result
 shr-result c = early c
 
--- src/stable.rt:28:6
 add-result : tie.Need-add-result
 add-result c = record { fits = shr-fits _ _ _ (c .pre .0) (c .pre .1 .0) }
 
--- src/stable.rt:28:23
 cast-result-2 : tie.Need-cast-result-2
 cast-result-2 c = record { fits = omega (arith, early c) }
 
--- src/stable.rt:28:5
 shl-result : tie.Need-shl-result
 shl-result c = early c
 
--- src/stable.rt:21:1
 returns : tie.Need-returns
 returns c =
     subst (NextSub (c .args .set) (c .args .s)) (sym (next-shifted _ _ (c .pre .0) (c .pre .1 .0) (c .pre .1 .1)))

@@ -8,33 +8,23 @@ use Rattle.verdicts.specs.declared.answers.Verdict.the-variants.{Refused
 use Rattle.verdicts.proofs.Guarding.{call-passes, answer-told, refusal-told, below-top, set-inside}
 use Rattle.verdicts.proofs.stable.stable.Statement.{statement}
 use Rattle.verdicts.proofs.stable.stable.Tie as tie
-use Rattle.verdicts.proofs.stable.stable.Reads as reads
-use Rattle.verdicts.proofs.stable.stable.Lts as lts
-use Rattle.verdicts.proofs.guard.check_call.Reads as check-call-reads
-use Rattle.verdicts.proofs.stable.stable_of.Reads as stable-of-reads
 
--- src/stable.rt:92:9
 check-call-requires : tie.Need-check-call-requires
 check-call-requires c κs = search needs
 
--- src/stable.rt:94:26
 enum-told : tie.Need-enum-told
 enum-told c = search needs
 
--- src/stable.rt:94:26
 stable-of-requires : tie.Need-stable-of-requires
 stable-of-requires c κs = let h = call-passes Refused Plain (c .before .before .before .before .args .words .now) (ltb (c .before .before .before .before .args .set)) (c .before .before .before .before .args .set) 0 (c .before .before .before .before .args .budget) (stableVerdict (decode (c .before .before .before .before .args .words .now) .rules) (c .before .before .before .before .args .set) (c .before .before .before .before .args .budget)) (below-top (c .before .before .before .before .args .set)) _ (c .before .before .check-call .ensures) (c .enum-told .given .1) in (h .store, (h .few, (h .is-kind, set-inside h)))
 
--- src/stable.rt:95:26
 enum-known-guard : tie.Need-enum-known-guard
 enum-known-guard c = search needs
 
--- src/stable.rt:89:1
 returns : tie.Need-returns
 unfolding stableAnswer
 returns c = answer-told Refused Plain (c .before .before .before .before .before .args .words .now) (ltb (c .before .before .before .before .before .args .set)) (c .before .before .before .before .before .args .set) 0 (c .before .before .before .before .before .args .budget) (stableVerdict (decode (c .before .before .before .before .before .args .words .now) .rules) (c .before .before .before .before .before .args .set) (c .before .before .before .before .before .args .budget)) (below-top (c .before .before .before .before .before .args .set)) _ (c .before .before .before .check-call .ensures) (c .before .enum-told .given .1) _ (c .stable-of .ensures)
 
--- src/stable.rt:89:1
 returns-2 : tie.Need-returns-2
 unfolding stableAnswer
 returns-2 c = refusal-told Refused Plain (c .before .before .before .before .before .args .words .now) (ltb (c .before .before .before .before .before .args .set)) (c .before .before .before .before .before .args .set) 0 (c .before .before .before .before .before .args .budget) (stableVerdict (decode (c .before .before .before .before .before .args .words .now) .rules) (c .before .before .before .before .before .args .set) (c .before .before .before .before .before .args .budget)) (below-top (c .before .before .before .before .before .args .set)) _ (c .before .before .before .check-call .ensures) _ (c .before .guard .given .1)

@@ -3,11 +3,6 @@ use borrow.Author.Needs.{needs}
 use Rattle.verdicts.proofs.ProperSubsets.{Subsetting, subsets-begin, is-proper, subsets-spent, subsets-found, subsets-go-on, subsets-end}
 use Rattle.verdicts.proofs.stable.stable_walk.Statement.{statement}
 use Rattle.verdicts.proofs.stable.stable_walk.Tie as tie
-use Rattle.verdicts.proofs.stable.stable_walk.Reads as reads
-use Rattle.verdicts.proofs.stable.stable_walk.Lts as lts
-use Rattle.verdicts.proofs.masks.first_broken.Reads as first-broken-reads
-use Rattle.verdicts.proofs.stable.next_subset.Reads as next-subset-reads
-use Rattle.verdicts.proofs.stable.proper_subsets.Reads as proper-subsets-reads
 
 abbrev Inv-loop : tie.InvT-loop
 Inv-loop care want set budget proper s₀ units₀ s units = Subsetting care want set budget proper s units
@@ -15,43 +10,33 @@ Inv-loop care want set budget proper s₀ units₀ s units = Subsetting care wan
 abbrev μ-loop : tie.MeasureT-loop
 μ-loop care want set budget proper s₀ units₀ s units = proper - units
 
--- src/stable.rt:36:9
 proper-subsets-requires : tie.Need-proper-subsets-requires Inv-loop μ-loop
 proper-subsets-requires c κs = search needs
 
--- src/stable.rt:39:5
 loop-holds : tie.Need-loop-holds Inv-loop μ-loop
 loop-holds c = subsets-begin _ _ _ _ _ (c .before .before .before .pre .1) (c .proper-subsets .ensures)
 
--- src/stable.rt:41:13
 returns : tie.Need-returns Inv-loop μ-loop
 returns c = subsets-spent _ _ _ _ _ _ _ (c .before .before .loop .inv) (c .before .loop-test .taken) (c .if1 .taken)
 
--- src/stable.rt:43:9
 add-units : tie.Need-add-units Inv-loop μ-loop
 add-units c = search needs
 
--- src/stable.rt:44:12
 first-broken-requires : tie.Need-first-broken-requires Inv-loop μ-loop
 first-broken-requires c κs = search needs
 
--- src/stable.rt:45:13
 returns-2 : tie.Need-returns-2 Inv-loop μ-loop
 returns-2 c = subsets-found _ _ _ _ _ _ _ (c .before .before .before .before .loop .inv) (c .before .before .before .loop-test .taken) (c .before .before .if1 .left) _ (c .before .first-broken .ensures) (c .if2 .taken)
 
--- src/stable.rt:50:9
 next-subset-requires : tie.Need-next-subset-requires Inv-loop μ-loop
 next-subset-requires c κs = (c .before .before .before .before .loop .inv .fits, (c .before .before .before .before .loop .inv .inside, is-proper _ _ _ _ _ _ _ (c .before .before .before .before .loop .inv) (c .before .before .before .loop-test .taken)))
 
--- src/stable.rt:39:5
 loop-less : tie.Need-loop-less Inv-loop μ-loop
 loop-less c = search needs
 
--- src/stable.rt:39:5
 loop-again : tie.Need-loop-again Inv-loop μ-loop
 loop-again c = subsets-go-on _ _ _ _ _ _ _ (c .before .before .before .before .before .loop .inv) (c .before .before .before .before .loop-test .taken) (c .before .before .before .if1 .left) _ (c .before .before .first-broken .ensures) (c .before .if2 .left) _ (c .next-subset .ensures)
 
--- src/stable.rt:31:1
 returns-3 : tie.Need-returns-3 Inv-loop μ-loop
 returns-3 c = subsets-end _ _ _ _ _ _ _ (c .before .loop .inv) (c .loop-test .left)
 
