@@ -19,3 +19,4 @@ pub mod AgreeingSets
 pub mod ProperSubsets
 pub mod Listing
 pub mod Candidates
+pub mod Marked
