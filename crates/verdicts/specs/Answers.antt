@@ -8,7 +8,10 @@ use Rattle.kinds.specs.declared.limits.Kind.{Kind}
 use Rattle.kinds.specs.declared.limits.Kind.the-variants.{Plain, Preference}
 use Rattle.kinds.specs.declared.refusals.Refusal.{Refusal}
 use Rattle.kinds.specs.declared.refusals.Refusal.the-variants.{RuleStore as NoStore, TooManyAtoms, SetNumber, Budget}
+<<<<<<< HEAD
 use Rattle.stores.specs.Program.{Program}
+=======
+>>>>>>> verdicts
 use Rattle.stores.specs.RuleStore.{decode, ruleStore}
 use Rattle.stores.specs.declared.rule_store.RuleStore.{RuleStore}
 use Rattle.stores.specs.declared.rule_store.RuleStore.the-variants.{Of, Refused as StoreRefused}
