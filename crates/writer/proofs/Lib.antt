@@ -2,5 +2,6 @@
 pub mod Emitting
 pub mod AtomItems
 pub mod RuleItems
+pub mod ClassItems
 pub mod ClassWords
 pub mod TextLength

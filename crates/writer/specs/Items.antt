@@ -2,11 +2,12 @@
 use Prim.Native.Nat.{ℕ}
 use mathlib.Core.List.{List, [], _∷_, _++_}
 use lib.ListN.{length, getD}
-use Rattle.rules.specs.Lists.{flat}
+use Rattle.rules.specs.Lists.{flat, from}
 use Rattle.rules.specs.Rules.{Rule}
+use Rattle.rules.specs.Preferred.{varying, fixed, ofClass}
 use Rattle.stores.specs.NameStore.{decodeNames}
-use Rattle.writer.specs.Words.{close-bracket, line-end}
-use Rattle.writer.specs.Text.{item, named, ruleText}
+use Rattle.writer.specs.Words.{close-bracket, line-end, minWord, varyWord, fixWord}
+use Rattle.writer.specs.Text.{item, listLine, named, ruleText}
 
 -- the names of a store that `starts` has a place for
 abbrev pub storedNames : List ℕ → List ℕ → List (List ℕ)
@@ -31,3 +32,13 @@ ruleItem names r = ruleText names r
 
 unfoldable pub ruleItems : List (List ℕ) → List (Rule ℕ) → List ℕ
 ruleItems names rs = flat (ruleText names) rs
+
+-- the line of one class word, and the lines of a preference program's class words
+unfoldable pub classItem : List (List ℕ) → List ℕ → List ℕ → ℕ → List ℕ
+classItem names words word w = listLine word (named names (ofClass words w))
+
+unfoldable pub minItems : List (List ℕ) → List ℕ → ℕ → ℕ → List ℕ
+minItems names words class count = flat (classItem names words minWord) (from class count)
+
+unfoldable pub classItems : List (List ℕ) → List ℕ → ℕ → List ℕ
+classItems names words classes = minItems names words 1 classes ++ (classItem names words varyWord varying ++ classItem names words fixWord fixed)
