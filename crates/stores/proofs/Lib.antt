@@ -14,3 +14,5 @@ pub mod ByteLoops
 pub mod NamePlaces
 pub mod NameChains
 pub mod NameEntries
+pub mod NameChecks
+pub mod NameClauses

@@ -19,7 +19,7 @@ unfolding decodeNames
 length-decode zero bs = refl
 length-decode (suc n) bs = ap suc (length-decode n (drop (1 + getD bs 0 0) bs))
 
-first-byte : (bs : List ℕ) (p : ℕ) → getD (drop p bs) 0 0 ≡ getD bs p 0
+pub first-byte : (bs : List ℕ) (p : ℕ) → getD (drop p bs) 0 0 ≡ getD bs p 0
 first-byte bs p = getD-drop p bs 0 0 ∙ ap (λ k. getD bs k 0) (add-zero p)
 
 -- x and its length byte stand at p

@@ -1,11 +1,11 @@
 -- The index of a name store: an atom's name by its number, and its number by the name.
 use Prim.Native.Nat.{ℕ, zero, suc, _+_, _*_, _%_, _≤_, _<_}
 use mathlib.Core.Path.{_≡_}
-use mathlib.Core.Bool.{Bool, true, false, _&&_}
+use mathlib.Core.Bool.{Bool, true, false, not, _&&_}
 use mathlib.Core.List.{List, [], _∷_, _++_}
 use lib.Dec.{leb, eqb}
 use lib.ListN.{length, getD, take, drop}
-use Rattle.rules.specs.Lists.{Distinct}
+use Rattle.rules.specs.Lists.{Distinct, some}
 use Rattle.stores.specs.NameStore.{encodeNames, sameBytes}
 use Rattle.stores.specs.declared.name_index.Found.{Found}
 use Rattle.stores.specs.declared.name_index.Found.the-variants.{At, Missing}
@@ -21,6 +21,14 @@ foundFrom i x (y ∷ names) = pickFound (sameBytes y x) (At i) (foundFrom (suc i
 
 abbrev pub found : List ℕ → List (List ℕ) → Found
 found x names = foundFrom 0 x names
+
+-- x is none of the names
+abbrev pub new? : List ℕ → List (List ℕ) → Bool
+new? x names = not (some (sameBytes x) names)
+
+abbrev pub pickWords : Bool → List ℕ → List ℕ → List ℕ
+pickWords true a b = a
+pickWords false a b = b
 
 -- the end of the name whose length byte stands at that place, if it is inside the bytes
 unfoldable pub nameEnd : List ℕ → ℕ → Found

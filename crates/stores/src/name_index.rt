@@ -4,7 +4,7 @@ ghost use Prim.Native.Nat.{_+_, _≤_, _<_};
 ghost use mathlib.Core.List.{[]};
 ghost use lib.ListN.{length, getD, set};
 ghost use Rattle.stores.specs.NameStore.{decodeNames, sameBytes};
-ghost use Rattle.stores.specs.NameIndex.{found, nameEnd, nameHash, buckets, Placed, Indexed};
+ghost use Rattle.stores.specs.NameIndex.{found, new?, pickWords, nameEnd, nameHash, buckets, Placed, Indexed};
 
 // The values of the hash.
 pub const BUCKETS: usize = 2048;
@@ -102,4 +102,28 @@ pub fn enter(
     starts[atom] = at as u16;
     next[atom] = heads[h];
     heads[h] = (atom + 1) as u16;
+}
+
+// Enters the name of an atom, unless an atom before has it.
+pub fn enter_new(
+    bytes: &[u8],
+    name: &[u8],
+    starts: &mut [u16],
+    heads: &mut [u16],
+    next: &mut [u16],
+    atom: usize,
+    at: usize,
+) -> bool
+    requires { ⌜ Indexed (decodeNames atom (now bytes)) (now bytes) (now starts) (now heads) (now next) ⌝ }
+    requires { ⌜ (atom < length (now starts)) × (atom < length (now next)) × (atom + 1 < 65536) × (at < 65536) ⌝ }
+    ensures { λ r. ⌜ r ≡ new? (now (name .entry)) (decodeNames atom (now (bytes .entry))) ⌝ }
+    ensures { λ r. ⌜ now (starts .exit) ≡ pickWords r (set (now (starts .entry)) atom at) (now (starts .entry)) ⌝ }
+    ensures { λ r. ⌜ now (heads .exit) ≡ pickWords r (set (now (heads .entry)) (nameHash (now (name .entry))) (atom + 1)) (now (heads .entry)) ⌝ }
+    ensures { λ r. ⌜ now (next .exit) ≡ pickWords r (set (now (next .entry)) atom (getD (now (heads .entry)) (nameHash (now (name .entry))) 0)) (now (next .entry)) ⌝ }
+{
+    let Found::Missing = find(bytes, &starts[..atom], heads, next, name) else {
+        return false;
+    };
+    enter(name, starts, heads, next, atom, at);
+    true
 }
