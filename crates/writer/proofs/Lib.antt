@@ -4,5 +4,6 @@ pub mod PlaceTable
 pub mod AtomItems
 pub mod RuleItems
 pub mod ClassItems
+pub mod TextParts
 pub mod ClassWords
 pub mod TextLength
