@@ -1,5 +1,5 @@
 -- The lines of the class words, each of a run of atoms.
-use Prim.Native.Nat.{ℕ, zero, suc, _+_, _-_, _≤_, _<_}
+use Prim.Native.Nat.{ℕ, suc, _+_, _-_, _≤_, _<_}
 use native.Mathlib.Numerals.{add-one}
 use native.Mathlib.Decide.{decLt}
 use native.Mathlib.Omega.{arith}
@@ -10,7 +10,7 @@ use mathlib.Core.List.{List, [], _∷_, _++_, append-assoc, append-nil}
 use lib.Dec.{leb, eqb}
 use lib.ListN.{length, getD}
 use borrow.Author.Tests.{leb-true, eqb-true}
-use Rattle.rules.specs.Lists.{All, flat, from}
+use Rattle.rules.specs.Lists.{from}
 use Rattle.rules.specs.Preferred.{varying, fixed, ofClass}
 use Rattle.stores.specs.Program.{RoleForm, roleOf, pickRole}
 use Rattle.stores.specs.declared.roles.Role.the-variants.{Minimised, Varying, Fixed, Unknown}

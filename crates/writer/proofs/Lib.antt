@@ -5,5 +5,6 @@ pub mod AtomItems
 pub mod RuleItems
 pub mod ClassItems
 pub mod TextParts
+pub mod Writing
 pub mod ClassWords
 pub mod TextLength

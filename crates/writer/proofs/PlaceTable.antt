@@ -3,11 +3,11 @@ use Prim.Native.Nat.{ℕ, suc, _+_, _≤_, _<_}
 use native.Mathlib.Numerals.{add-one}
 use native.Mathlib.Decide.{ℕ-discrete}
 use native.Mathlib.Omega.{arith}
-use mathlib.Core.Path.{_≡_, refl, sym, ap, ap₂, _∙_, subst}
+use mathlib.Core.Path.{_≡_, refl, sym, ap, _∙_, subst}
 use mathlib.Core.List.{List, [], _∷_, _++_, append-assoc, append-nil}
 use lib.ListN.{length, getD, take, drop, set, length-append, length-set}
 use lib.Seq.{take-suc, split-at, drop-at, drop-length, getD-set-same, getD-set-other}
-use Rattle.stores.specs.NameStore.{nameBytes, encodeNames, decodeNames}
+use Rattle.stores.specs.NameStore.{nameBytes, encodeNames}
 use Rattle.stores.specs.NameIndex.{place, Placed}
 use Rattle.stores.proofs.NamePlaces.{NameHere, stands, length-decode}
 use Rattle.stores.proofs.NameEntries.{encode-last}

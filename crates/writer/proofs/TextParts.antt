@@ -1,29 +1,29 @@
 -- The text of two stores: the declarations, then the rules.
-use Prim.Native.Nat.{ℕ, zero, suc, _+_, _-_, _≤_, _<_}
+use Prim.Native.Nat.{ℕ, zero, suc, _+_, _-_, _≤_}
 use native.Mathlib.Nat.{add-sub-cancel-left}
 use native.Mathlib.Omega.{arith}
 use mathlib.Core.Path.{_≡_, refl, sym, ap, ap₂, _∙_, subst}
-use mathlib.Core.Bool.{Bool, true, false, _&&_}
-use mathlib.Core.List.{List, [], _∷_, _++_, map, append-assoc}
-use lib.Dec.{T, leb, eqb, leb→le}
+use mathlib.Core.Bool.{Bool, _&&_}
+use mathlib.Core.List.{List, [], _∷_, _++_, map}
+use lib.Dec.{T, leb}
 use lib.ListN.{length, getD, take, drop, length-drop, length-take}
 use lib.Seq.{take-all, drop-drop}
 use borrow.Author.Tests.{eq-eqb, ne-eqb}
 use Rattle.kinds.specs.Limits.{atomLimit, ruleLimit}
 use Rattle.kinds.specs.declared.limits.Kind.{Kind}
 use Rattle.kinds.specs.declared.limits.Kind.the-variants.{Plain, Preference}
-use Rattle.rules.specs.Lists.{flat, from}
+use Rattle.rules.specs.Lists.{from}
 use Rattle.rules.proofs.Booleans.{T-and-l, T-and-r}
 use Rattle.stores.specs.Program.{Program, ClassesForm}
-use Rattle.stores.specs.RuleStore.{StoreOf, decode, kindOf, pickKind, wordCount, places, ruleAt, rulesFrom, classes?, rule?, rules?, program?, store?}
+use Rattle.stores.specs.RuleStore.{encode, StoreOf, decode, kindOf, pickKind, wordCount, places, ruleAt, rulesFrom, classes?, rule?, rules?, program?, store?}
 use Rattle.stores.proofs.RuleTests.{rule-law}
 use Rattle.stores.proofs.RuleStores.{store-law}
 use Rattle.stores.proofs.NamePlaces.{length-decode}
-use Rattle.writer.specs.Words.{open-bracket, close-bracket, line-end, atomsWord}
-use Rattle.writer.specs.Text.{openText, listLine, item, named, declarations, ruleText, textOf}
+use Rattle.writer.specs.Words.{open-bracket, atomsWord}
+use Rattle.writer.specs.Text.{openText, listLine, named, declarations, textOf}
 use Rattle.writer.specs.ClassRuns.{ClassWordsOf}
 use Rattle.writer.specs.Items.{storedNames, atomItems, atomLine, ruleItems, classItem, minItems, classItems}
-use Rattle.writer.specs.StoredRules.{RuleBelow, StoredRule, StoredRules}
+use Rattle.writer.specs.StoredRules.{RuleBelow, StoredRules}
 use Rattle.writer.specs.Sources.{Sources, sourceText}
 use Rattle.writer.proofs.Emitting.{Ahead}
 
@@ -36,6 +36,10 @@ stored-rules kind n used (suc r) ws h =
     let here = rule-law kind n used ws .0 (T-and-l (rule? kind n used ws) rest h) in
     let below : RuleBelow n (ruleAt ws) = record { heads = here .form .head-form .0; bodies = here .form .body-form .0; nots = here .form .nots-form .0 } in
     (record { inside = here .inside; below = below }, stored-rules kind n (used + places ws) r (drop (3 + places ws) ws) (T-and-r (rule? kind n used ws) rest h))
+
+pub store-header : {rules : List ℕ} {p : Program} → StoreOf rules p → 4 ≤ length rules
+unfolding encode
+store-header s = omega (arith, ap length (s .words))
 
 -- every name of a list, by its number
 named-from : (names : List (List ℕ)) (s : ℕ) (all : List (List ℕ)) → ((i : ℕ) → getD all (s + i) [] ≡ getD names i []) → map (λ a. getD all a []) (from s (length names)) ≡ names
@@ -63,15 +67,15 @@ module _ {rules names starts : List ℕ} (h : Sources rules names starts) where
   abbrev nameList : List (List ℕ)
   nameList = storedNames names starts
 
-  tested : (T (leb 4 (length rules))) × T (program? (kindOf (getD rules 0 0)) (getD rules 1 0) (getD rules 2 0) (getD rules 3 0) (drop 4 rules))
+  tested : T (program? (kindOf (getD rules 0 0)) (getD rules 1 0) (getD rules 2 0) (getD rules 3 0) (drop 4 rules))
   unfolding store?
   tested =
       let program = program? (kindOf (getD rules 0 0)) (getD rules 1 0) (getD rules 2 0) (getD rules 3 0) (drop 4 rules) in
       let t : T (store? rules) = store-law rules .1 (decode rules, h .store) in
-      (T-and-l (leb 4 (length rules)) (leb (getD rules 0 0) 1 && program) t, T-and-r (leb (getD rules 0 0) 1) program (T-and-r (leb 4 (length rules)) (leb (getD rules 0 0) 1 && program) t))
+      T-and-r (leb (getD rules 0 0) 1) program (T-and-r (leb 4 (length rules)) (leb (getD rules 0 0) 1 && program) t)
 
   pub header : 4 ≤ length rules
-  header = leb→le 4 (length rules) (tested .0)
+  header = store-header (h .store)
 
   counted : length starts ≡ getD rules 1 0
   unfolding decode
@@ -100,7 +104,7 @@ module _ {rules names starts : List ℕ} (h : Sources rules names starts) where
 
     rules-of-kind : StoredRules (length starts) (getD rules 3 0) ruleWordsFrom
     rules-of-kind =
-        let t = subst (λ (q : Kind). T (program? q (getD rules 1 0) (getD rules 2 0) (getD rules 3 0) (drop 4 rules))) k (tested .1) in
+        let t = subst (λ (q : Kind). T (program? q (getD rules 1 0) (getD rules 2 0) (getD rules 3 0) (drop 4 rules))) k tested in
         let r = rules? kind (getD rules 1 0) 0 (getD rules 3 0) (drop words (drop 4 rules)) in
         let c = classes? kind (getD rules 1 0) (getD rules 2 0) (drop 4 rules) in
         let few = leb (getD rules 3 0) (ruleLimit kind) in

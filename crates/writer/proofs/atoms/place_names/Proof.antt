@@ -1,5 +1,5 @@
 use Rattle.writer.proofs.PlaceTable.{Placing, places-begin, places-end, place-inside, place-fits, places-again}
-use lib.ListN.{length, length-set}
+use lib.ListN.{length}
 use native.Mathlib.Omega.{arith}
 use Prim.Native.Nat.{_-_}
 use borrow.Author.Needs.{needs}
