@@ -1,3 +1,4 @@
+use native.Mathlib.Omega.{arith}
 use Rattle.stores.proofs.StoreHeader.{no-header, no-kind, answers-kind, answers-refused}
 use borrow.Author.Needs.{needs}
 use Rattle.stores.proofs.rule_store.check_rules.Statement.{statement}
@@ -10,7 +11,7 @@ shared-slice-read-word : tie.Need-shared-slice-read-word
 shared-slice-read-word c = search needs
 
 returns-2 : tie.Need-returns-2
-returns-2 c = no-kind _ (c .before .before .if1 .left) (c .if2 .taken)
+returns-2 c = no-kind _ (c .before .before .if1 .left) (omega arith)
 
 kind-of-requires : tie.Need-kind-of-requires
 kind-of-requires c κs = search needs
