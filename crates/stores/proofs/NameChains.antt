@@ -1,24 +1,21 @@
 -- Finding a name along the chain of its hash, and entering one.
 use Prim.Native.Nat.{ℕ, zero, suc, _+_, _-_, _≤_, _<_}
-use native.Mathlib.Numerals.{add-one}
 use native.Mathlib.Nat.{add-zero}
 use native.Mathlib.Decide.{ℕ-discrete, decLe}
 use native.Mathlib.Omega.{arith}
 use mathlib.Core.Path.{_≡_, refl, sym, ap, ap₂, _∙_, subst}
-use mathlib.Core.Logic.{_≢_, _⊎_, inl, inr}
-use mathlib.Core.List.{List, [], _∷_, _++_, append-assoc, append-nil}
-use mathlib.Core.Bool.{Bool, true, false, not, _||_}
+use mathlib.Core.Logic.{_≢_, inl, inr}
+use mathlib.Core.List.{List, [], _∷_}
+use mathlib.Core.Bool.{Bool, true, false, _||_}
 use lib.Dec.{T, eqb}
-use lib.ListN.{length, getD, take, drop, set, length-append, length-set, List·getD-append}
-use lib.Seq.{take-append-le, take-append-seam, getD-append-seam, getD-set-same, getD-set-other, drop-drop}
-use borrow.Author.Tests.{eqb-true, eqb-false, eq-eqb, ne-eqb}
-use Rattle.rules.specs.Lists.{All, Distinct, some, flat}
+use lib.ListN.{length, getD}
+use borrow.Author.Tests.{eqb-true, eqb-false}
+use Rattle.rules.specs.Lists.{All, Distinct, some}
 use Rattle.rules.proofs.Booleans.{T-or}
-use Rattle.stores.specs.NameStore.{nameBytes, encodeNames, decodeNames, sameBytes}
-use Rattle.stores.specs.NameIndex.{pickFound, foundFrom, found, buckets, nameHash, hashes, pickNumber, lastWith, place, Placed, Indexed}
-use Rattle.stores.specs.declared.name_index.Found.{Found}
+use Rattle.stores.specs.NameStore.{decodeNames, sameBytes}
+use Rattle.stores.specs.NameIndex.{pickFound, foundFrom, found, nameHash, hashes, pickNumber, lastWith, Indexed}
 use Rattle.stores.specs.declared.name_index.Found.the-variants.{At, Missing}
-use Rattle.stores.proofs.NameStores.{same-law, same-equal, same-self}
+use Rattle.stores.proofs.NameStores.{same-law, same-equal}
 use Rattle.stores.proofs.ByteLoops.{hash-small}
 use Rattle.stores.proofs.NamePlaces.{length-decode}
 

@@ -1,24 +1,23 @@
 -- The check of a name store, name by name: the names before `at` are entered, and the test of the rest decides.
-use Prim.Native.Nat.{ℕ, zero, suc, _+_, _-_, _*_, _≤_, _<_, zero-le}
+use Prim.Native.Nat.{ℕ, suc, _+_, _-_, _*_, _≤_, _<_, zero-le}
 use native.Mathlib.Numerals.{add-one}
 use native.Mathlib.Omega.{arith}
 use mathlib.Core.Path.{_≡_, refl, sym, ap, ap₂, _∙_, subst, subst₂, subst₃}
 use mathlib.Core.List.{List, [], _∷_, _++_}
-use mathlib.Core.Bool.{Bool, true, false, not, _&&_}
+use mathlib.Core.Bool.{Bool, true, false, _&&_}
 use lib.Dec.{T, leb, eqb, leb→le}
-use lib.ListN.{length, getD, take, drop, set, replicate, length-append, length-drop, length-set, length-replicate, getD-replicate, take-append-drop, drop-of-length-le}
+use lib.ListN.{length, getD, take, drop, set, replicate, length-append, length-drop, length-set, take-append-drop}
 use lib.Seq.{length-take-le, drop-cons, drop-drop}
 use borrow.Author.Tests.{eq-eqb, ne-eqb}
 use Rattle.kinds.specs.declared.limits.Kind.{Kind}
-use Rattle.rules.specs.Lists.{some}
-use Rattle.rules.proofs.Booleans.{T-and-l, T-and-r}
+use Rattle.rules.proofs.Booleans.{T-and-r}
 use Rattle.stores.specs.Names.{allowed}
 use Rattle.stores.specs.RuleStore.{empty?}
-use Rattle.stores.specs.NameStore.{nameBytes, encodeNames, firstName, decodeNames, sameBytes, namesFrom?, names?}
-use Rattle.stores.specs.NameIndex.{pickFound, new?, pickWords, nameEnd, buckets, nameHash, lastWith, Indexed}
+use Rattle.stores.specs.NameStore.{nameBytes, encodeNames, firstName, decodeNames, namesFrom?, names?}
+use Rattle.stores.specs.NameIndex.{pickFound, new?, pickWords, nameEnd, buckets, nameHash, Indexed}
 use Rattle.stores.specs.declared.name_index.Found.{Found}
 use Rattle.stores.specs.declared.name_index.Found.the-variants.{At, Missing}
-use Rattle.stores.proofs.NameStores.{allowed-short, decode-front, names-cons, not-seen}
+use Rattle.stores.proofs.NameStores.{allowed-short, names-cons, not-seen}
 use Rattle.stores.proofs.NamePlaces.{length-decode, first-byte}
 use Rattle.stores.proofs.NameEntries.{index-empty, placed-names, encode-last, entered}
 
