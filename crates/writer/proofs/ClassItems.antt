@@ -149,8 +149,8 @@ module _ (names : List (List ℕ)) {n k : ℕ} {ws : List ℕ} (f : ClassWordsOf
     unfolding Known
     vary-ahead =
         let run : ofClass ws varying ≡ from vary (fix - vary) =
-            class-run k varying ws (f .form .3) (omega (arith, f .form .0)) (λ i u w. above (getD ws i 0) (known-at f i u) w)
-            ∙ ap₂ (λ (a b : ℕ). from a (b - a)) (sym v) (sym x) in
+        class-run k varying ws (f .form .3) (omega (arith, f .form .0)) (λ i u w. above (getD ws i 0) (known-at f i u) w)
+        ∙ ap₂ (λ (a b : ℕ). from a (b - a)) (sym v) (sym x) in
         record { is = ap (λ (l : List ℕ). l ++ classItem names ws fixWord fixed) (line-of-run names ws varyWord varying vary fix run) }
       where
         above : (w : ℕ) → Known k w → k < w → varying ≤ w
@@ -161,6 +161,6 @@ module _ (names : List (List ℕ)) {n k : ℕ} {ws : List ℕ} (f : ClassWordsOf
     pub fix-ahead : Ahead (classItem names ws fixWord fixed) (atomLine names (open-bracket ∷ fixWord) (from fix (length ws - fix))) []
     fix-ahead =
         let run : ofClass ws fixed ≡ from fix (length ws - fix) =
-            class-run varying fixed ws (f .form .3) (omega arith) (λ i u w. omega arith)
-            ∙ ap₂ (λ (a b : ℕ). from a (b - a)) (sym x) (all-counted f) in
+        class-run varying fixed ws (f .form .3) (omega arith) (λ i u w. omega arith)
+        ∙ ap₂ (λ (a b : ℕ). from a (b - a)) (sym x) (all-counted f) in
         record { is = line-of-run names ws fixWord fixed fix (length ws) run ∙ sym (append-nil (atomLine names (open-bracket ∷ fixWord) (from fix (length ws - fix)))) }

@@ -59,9 +59,6 @@ module _ (names : List (List ℕ)) where
 
 -- the atoms of each list are below n
 module _ {n : ℕ} {ws : List ℕ} (h : StoredRule n ws) where
-  abbrev Below : List ℕ → Type 0
-  Below l = All (λ a. a < n) l
-
   pub heads-below : All (λ a. a < n) (take (3 + heads ws - 3) (drop 3 ws))
   unfolding ruleAt
   heads-below = rw add-sub-cancel-left (h .below .heads)

@@ -9,7 +9,9 @@ use lib.Dec.{T}
 use lib.ListN.{length, getD, take, drop, length-append}
 use lib.Seq.{take-at, length-take-le, sets-eq}
 use borrow.Author.Tests.{le-leb, lt-leb}
+use Rattle.kinds.specs.Limits.{atomLimit}
 use Rattle.kinds.specs.declared.limits.Kind.{Kind}
+use Rattle.kinds.specs.declared.limits.Kind.the-variants.{Plain}
 use Rattle.kinds.specs.declared.refusals.Refusal.the-variants.{Output, RuleStore, NameStore}
 use Rattle.rules.specs.Lists.{All}
 use Rattle.rules.proofs.Lists.{all-imp}
@@ -18,6 +20,7 @@ use Rattle.stores.specs.RuleStore.{StoreOf, decode, ruleStore, store?}
 use Rattle.stores.specs.NameStore.{encodeNames, NamesOf, decodeNames, names?}
 use Rattle.stores.specs.NameIndex.{Placed}
 use Rattle.stores.specs.declared.rule_store.RuleStore.the-variants.{Of, Refused as NoStore}
+use Rattle.stores.proofs.NameChains.{bool-true, bool-false}
 use Rattle.stores.proofs.NameStores.{allowed-short, decoded-names}
 use Rattle.stores.proofs.RuleStores.{store-law, of-kind, refused}
 use Rattle.stores.proofs.StoreHeader.{atoms-small}
@@ -51,7 +54,7 @@ encoded-length (x ∷ names) h = omega (arith, length-append x (encodeNames name
 
 -- two stores of the form
 module _ {rules names : List ℕ} (s : StoreOf rules (decode rules)) (m : NamesOf names (decode rules .kind) (decode rules .atoms) (decodeNames (decode rules .atoms) names)) where
-  pub few-atoms : getD rules 1 0 ≤ 1100
+  pub few-atoms : getD rules 1 0 ≤ atomLimit Plain
   unfolding decode
   few-atoms = omega (arith, s .form .atoms-fit, atoms-small (decode rules .kind))
 
@@ -78,7 +81,7 @@ module _ {rules names : List ℕ} (s : StoreOf rules (decode rules)) (m : NamesO
     sources p = record { store = s; count = sym counts; placed = p; range = record { below = omega (arith, text-fits (s .form) (m .form), ap length text-same) } }
 
   -- the table: its front is filled, and handed on
-  module _ (table : List ℕ) (room : 1100 ≤ length table) where
+  module _ (table : List ℕ) (room : atomLimit Plain ≤ length table) where
     pub front-inside : getD rules 1 0 ≤ length table
     front-inside = omega (arith, few-atoms)
 
@@ -115,27 +118,19 @@ module _ {rules names : List ℕ} (s : StoreOf rules (decode rules)) (m : NamesO
 
 -- the refusals, in their order
 
-store-true : (b : Bool) → T b → b ≡ true
-store-true true h = refl
-store-true false h = absurd h
-
-store-false : (b : Bool) → (T b → ⊥) → b ≡ false
-store-false true h = absurd (h tt)
-store-false false h = refl
-
 module _ (rules names before : List ℕ) where
   pub no-store : ruleStore rules ≡ NoStore → (Refused RuleStore ≡ writeAnswer rules names (length before)) × (before ≡ writeOutput rules names before)
   unfolding writeAnswer writeOutput
-  no-store e = let t : store? rules ≡ false = store-false (store? rules) (refused rules .0 e) in (rw t, rw t)
+  no-store e = let t : store? rules ≡ false = bool-false (store? rules) (refused rules .0 e) in (rw t, rw t)
 
   module _ (kind : Kind) (e : ruleStore rules ≡ Of kind) where
     pub store-here : StoreOf rules (decode rules)
     store-here = of-kind rules kind e .0
 
     is-store : store? rules ≡ true
-    is-store = store-true (store? rules) (store-law rules .1 (decode rules, store-here))
+    is-store = bool-true (store? rules) (store-law rules .1 (decode rules, store-here))
 
-    pub atoms-fit : getD rules 1 0 ≤ 1100
+    pub atoms-fit : getD rules 1 0 ≤ atomLimit Plain
     unfolding decode
     atoms-fit = omega (arith, store-here .form .atoms-fit, atoms-small (decode rules .kind))
 

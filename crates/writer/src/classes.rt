@@ -27,7 +27,14 @@ fn class_end(words: &[u16], first: usize, word: u16) -> usize
 }
 
 // The `min` line of the atoms from `first` up to `end`.
-fn emit_min_line(first: usize, end: usize, names: &[u8], starts: &[u16], out: &mut [u8], at: usize) -> usize
+fn emit_min_line(
+    first: usize,
+    end: usize,
+    names: &[u8],
+    starts: &[u16],
+    out: &mut [u8],
+    at: usize,
+) -> usize
     requires { ⌜ Placed (storedNames (now names) (now starts)) (now names) (now starts) × (end ≤ length (now starts)) × InRange at (atomLine (storedNames (now names) (now starts)) (open-bracket ∷ minWord) (from first (end - first))) ⌝ }
     ensures { λ r. ⌜ Emitted (now (out .entry)) at (atomLine (storedNames (now (names .entry)) (now (starts .entry))) (open-bracket ∷ minWord) (from first (end - first))) (now (out .exit)) r ⌝ }
 {
@@ -35,7 +42,14 @@ fn emit_min_line(first: usize, end: usize, names: &[u8], starts: &[u16], out: &m
 }
 
 // The `min` lines, class 1 first.
-fn emit_min_lines(words: &[u16], classes: u16, names: &[u8], starts: &[u16], out: &mut [u8], at: usize) -> usize
+fn emit_min_lines(
+    words: &[u16],
+    classes: u16,
+    names: &[u8],
+    starts: &[u16],
+    out: &mut [u8],
+    at: usize,
+) -> usize
     requires { ⌜ Placed (storedNames (now names) (now starts)) (now names) (now starts) × ClassWordsOf (length (now starts)) classes (now words) × InRange at (minItems (storedNames (now names) (now starts)) (now words) 1 classes) ⌝ }
     ensures { λ r. ⌜ Emitted (now (out .entry)) at (minItems (storedNames (now (names .entry)) (now (starts .entry))) (now (words .entry)) 1 classes) (now (out .exit)) r ⌝ }
 {
@@ -52,7 +66,14 @@ fn emit_min_lines(words: &[u16], classes: u16, names: &[u8], starts: &[u16], out
 }
 
 // The lines of all class words: 17 is varying, 18 fixed.
-pub fn emit_classes(words: &[u16], classes: u16, names: &[u8], starts: &[u16], out: &mut [u8], at: usize) -> usize
+pub fn emit_classes(
+    words: &[u16],
+    classes: u16,
+    names: &[u8],
+    starts: &[u16],
+    out: &mut [u8],
+    at: usize,
+) -> usize
     requires { ⌜ Placed (storedNames (now names) (now starts)) (now names) (now starts) × ClassWordsOf (length (now starts)) classes (now words) × InRange at (classItems (storedNames (now names) (now starts)) (now words) classes) ⌝ }
     ensures { λ r. ⌜ Emitted (now (out .entry)) at (classItems (storedNames (now (names .entry)) (now (starts .entry))) (now (words .entry)) classes) (now (out .exit)) r ⌝ }
 {

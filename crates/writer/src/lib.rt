@@ -6,6 +6,7 @@ mod rule_lines;
 mod text;
 
 use atoms::place_names;
+use kinds::limits::Kind;
 use kinds::limits::Plain;
 use kinds::refusals::Refusal;
 use stores::name_store::check_names;
@@ -15,6 +16,7 @@ use text::emit_text;
 ghost use mathlib.Core.Path.{_≡_};
 ghost use Prim.Native.Nat.{_≤_};
 ghost use lib.ListN.{length};
+ghost use Rattle.kinds.specs.Limits.{atomLimit};
 ghost use Rattle.stores.specs.RuleStore.{StoreOf, decode};
 ghost use Rattle.stores.specs.NameStore.{NamesOf, decodeNames};
 ghost use Rattle.writer.specs.Sources.{Sources, sourceText};
@@ -35,7 +37,9 @@ fn write_text(rules: &[u16], names: &[u8], starts: &[u16], out: &mut [u8]) -> Wr
     let mut none = [0u8; 0];
     let bytes = emit_text(rules, names, starts, &mut none);
     if out.len() < bytes {
-        return Written::Refused { refusal: Refusal::Output };
+        return Written::Refused {
+            refusal: Refusal::Output,
+        };
     }
     emit_text(rules, names, starts, out);
     Written::Text { bytes }
@@ -43,7 +47,7 @@ fn write_text(rules: &[u16], names: &[u8], starts: &[u16], out: &mut [u8]) -> Wr
 
 // The same, with room for the table of the places of names.
 fn write_by(rules: &[u16], names: &[u8], table: &mut [u16], out: &mut [u8]) -> Written
-    requires { ⌜ StoreOf (now rules) (decode (now rules)) × NamesOf (now names) (decode (now rules) .kind) (decode (now rules) .atoms) (decodeNames (decode (now rules) .atoms) (now names)) × (1100 ≤ length (now table)) ⌝ }
+    requires { ⌜ StoreOf (now rules) (decode (now rules)) × NamesOf (now names) (decode (now rules) .kind) (decode (now rules) .atoms) (decodeNames (decode (now rules) .atoms) (now names)) × (atomLimit Kind.Plain ≤ length (now table)) ⌝ }
     ensures answer { λ r. ⌜ r ≡ fitted (storesText (now (rules .entry)) (now (names .entry))) (length (now (out .entry))) ⌝ }
     ensures output { λ r. ⌜ now (out .exit) ≡ fittedOutput (storesText (now (rules .entry)) (now (names .entry))) (now (out .entry)) ⌝ }
 {
@@ -69,11 +73,15 @@ pub fn write(rules: &[u16], names: &[u8], out: &mut [u8]) -> Written
 {
     let store = check_rules(rules);
     let RuleStore::Of(kind) = store else {
-        return Written::Refused { refusal: Refusal::RuleStore };
+        return Written::Refused {
+            refusal: Refusal::RuleStore,
+        };
     };
     let atoms = rules[1] as usize;
     if !check_names(names, kind, atoms) {
-        return Written::Refused { refusal: Refusal::NameStore };
+        return Written::Refused {
+            refusal: Refusal::NameStore,
+        };
     }
     write_checked(rules, names, out)
 }
