@@ -1,2 +1,3 @@
 // Text to stores, of both kinds (document 01, "The two kinds of file" and "Who can be turned back").
 pub mod answers;
+pub mod scan;
