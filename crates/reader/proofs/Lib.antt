@@ -1,2 +1,5 @@
 pub mod Examples
 pub mod Scanning
+pub mod Tags
+pub mod NameLists
+pub mod LineShapes

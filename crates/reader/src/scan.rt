@@ -2,8 +2,10 @@
 ghost use mathlib.Core.Path.{_≡_};
 ghost use Prim.Native.Nat.{_≤_};
 ghost use lib.ListN.{length, drop};
+ghost use Rattle.stores.specs.NameStore.{sameBytes};
 ghost use Rattle.reader.specs.Lines.{lineLength};
 ghost use Rattle.reader.specs.Items.{delimiter?, run};
+ghost use Rattle.reader.specs.Forms.{begins};
 ghost use Rattle.reader.specs.Shapes.{itemOf};
 
 // A space and the length of the name after it, or anything else.
@@ -61,4 +63,34 @@ pub fn item_at(s: &[u8], at: usize) -> Item
     } else {
         Item::Stop
     }
+}
+
+// Whether `tag` stands at `at`.
+pub fn begins_at(s: &[u8], at: usize, tag: &[u8]) -> bool
+    requires { ⌜ at ≤ length (now s) ⌝ }
+    ensures { λ r. ⌜ r ≡ begins (now (tag .entry)) (drop at (now (s .entry))) ⌝ }
+{
+    if s.len() - at < tag.len() {
+        return false;
+    }
+    let mut i: usize = 0;
+    while i < tag.len() {
+        let place = at + i;
+        if s[place] != tag[i] {
+            return false;
+        }
+        i += 1;
+    }
+    true
+}
+
+// Whether nothing but `ending` stands from `at` on.
+pub fn ends_at(s: &[u8], at: usize, ending: &[u8]) -> bool
+    requires { ⌜ at ≤ length (now s) ⌝ }
+    ensures { λ r. ⌜ r ≡ sameBytes (drop at (now (s .entry))) (now (ending .entry)) ⌝ }
+{
+    if s.len() - at != ending.len() {
+        return false;
+    }
+    begins_at(s, at, ending)
 }
