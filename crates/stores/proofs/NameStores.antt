@@ -4,7 +4,7 @@ use native.Mathlib.Numerals.{one-add}
 use native.Mathlib.Omega.{arith}
 use mathlib.Core.Path.{_≡_, refl, sym, ap, ap₂, _∙_, subst, subst₂}
 use mathlib.Core.Logic.{_↔_, _≢_, _⊎_, inl, inr}
-use mathlib.Core.List.{List, [], _∷_, _++_}
+use mathlib.Core.List.{List, [], _∷_, _++_, append-assoc, append-nil}
 use mathlib.Core.Bool.{Bool, true, false, not, _&&_, _||_}
 use lib.Dec.{T, leb, eqb, leb→le, le→leb, eqb→eq, eqb-refl}
 use lib.ListN.{length, getD, take, drop, length-append, length-drop, take-append-drop}
@@ -17,7 +17,7 @@ use Rattle.rules.proofs.Lists.{all-app, all-app-l, all-app-r, all-imp}
 use Rattle.stores.specs.declared.names.NameClass.{NameClass}
 use Rattle.stores.specs.declared.names.NameClass.the-variants.{House, Generated, TooLong, Wrong}
 use Rattle.stores.specs.Names.{house?, classNumber?, digit?, pickName, sized, dotted, generated, nameClass, takes, allowed}
-use Rattle.stores.specs.NameStore.{encodeNames, NamesForm, NamesOf, firstName, decodeNames, sameBytes, namesFrom?, names?}
+use Rattle.stores.specs.NameStore.{nameBytes, encodeNames, NamesForm, NamesOf, firstName, decodeNames, sameBytes, namesFrom?, names?}
 
 -- the test of two names is equality
 
@@ -99,17 +99,19 @@ module _ (kind : Kind) where
 
 -- decoding undoes encoding
 
-rest-encoded : (x : List ℕ) (names : List (List ℕ)) → drop (1 + length x) (length x ∷ (x ++ encodeNames names)) ≡ encodeNames names
-rest-encoded x names = rw (one-add (length x)) (drop-append-seam x (encodeNames names))
+rest-encoded : (x bs : List ℕ) → drop (1 + length x) (length x ∷ (x ++ bs)) ≡ bs
+rest-encoded x bs = rw (one-add (length x)) (drop-append-seam x bs)
 
-pub decode-encoded : (names : List (List ℕ)) → decodeNames (length names) (encodeNames names) ≡ names
+pub decode-front : (names : List (List ℕ)) (bs : List ℕ) → decodeNames (length names) (encodeNames names ++ bs) ≡ names
 unfolding decodeNames encodeNames
-decode-encoded [] = refl
-decode-encoded (x ∷ names) =
-    ap₂ _∷_ (take-append-seam x (encodeNames names)) (ap (decodeNames (length names)) (rest-encoded x names) ∙ decode-encoded names)
+decode-front [] bs = refl
+decode-front (x ∷ names) bs =
+    let e : encodeNames (x ∷ names) ++ bs ≡ length x ∷ (x ++ (encodeNames names ++ bs)) = append-assoc (nameBytes x) (encodeNames names) bs in
+    ap (decodeNames (suc (length names))) e
+    ∙ ap₂ _∷_ (take-append-seam x (encodeNames names ++ bs)) (ap (decodeNames (length names)) (rest-encoded x (encodeNames names ++ bs)) ∙ decode-front names bs)
 
 pub decode-names : {kind : Kind} {n : ℕ} {names : List (List ℕ)} → NamesForm kind n names → decodeNames n (encodeNames names) ≡ names
-decode-names {kind} {n} {names} f = subst (λ m. decodeNames m (encodeNames names) ≡ names) (f .count) (decode-encoded names)
+decode-names {kind} {n} {names} f = subst (λ m. decodeNames m (encodeNames names) ≡ names) (f .count) (ap (decodeNames (length names)) (sym (append-nil (encodeNames names))) ∙ decode-front names [])
 
 pub same-names : {bs : List ℕ} {kind : Kind} {n : ℕ} {a b : List (List ℕ)} → NamesOf bs kind n a → NamesOf bs kind n b → a ≡ b
 same-names {bs} {kind} {n} {a} {b} f g = sym (decode-names (f .form)) ∙ ap (decodeNames n) (f .bytes ∙ sym (g .bytes)) ∙ decode-names (g .form)
@@ -124,7 +126,7 @@ pub record NamesAfter (kind : Kind) (seen : List (List ℕ)) (n : ℕ) (bs : Lis
   pub of-bytes : NamesOf bs kind n names
   pub fresh : Fresh seen names
 
-not-seen : (x : List ℕ) (seen : List (List ℕ)) → T (not (some (sameBytes x) seen)) ↔ All (λ y. x ≢ y) seen
+pub not-seen : (x : List ℕ) (seen : List (List ℕ)) → T (not (some (sameBytes x) seen)) ↔ All (λ y. x ≢ y) seen
 not-seen x [] = (λ h. tt, λ h. tt)
 not-seen x (y ∷ seen) = (λ h. (λ e. fails h (inl (same-law x y .1 e)), not-seen x seen .0 (T-not-in (some (sameBytes x) seen) (λ t. fails h (inr t)))), λ h. T-not-in (sameBytes x y || some (sameBytes x) seen) (λ t. differs h (not-seen x seen) (T-or-out (sameBytes x y) (some (sameBytes x) seen) t)))
   where
@@ -191,7 +193,7 @@ module _ (kind : Kind) where
       let new : T (not (some (sameBytes x) seen)) = not-seen x seen .1 (f .0) in
       let tail = complete (seen ++ (x ∷ [])) names (a .1) (d .1) (both (d .0) (f .1)) in
       let rest = namesFrom? kind (seen ++ (x ∷ [])) (length names) (encodeNames names) in
-      T-of (sym (names-cons seen (length names) bs x (encodeNames names) (take-append-seam x (encodeNames names)) (rest-encoded x names)))
+      T-of (sym (names-cons seen (length names) bs x (encodeNames names) (take-append-seam x (encodeNames names)) (rest-encoded x (encodeNames names))))
       (T-and (leb 1 (length bs) && leb (1 + length x) (length bs)) (allowed kind x && (not (some (sameBytes x) seen) && rest)) fits
       (T-and (allowed kind x) (not (some (sameBytes x) seen) && rest) (a .0) (T-and (not (some (sameBytes x) seen)) rest new tail)))
     where
