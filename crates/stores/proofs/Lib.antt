@@ -7,3 +7,11 @@ pub mod NamePlaces
 pub mod NameChains
 pub mod NameEntries
 pub mod NameChecks
+pub mod RuleTests
+pub mod RuleStores
+pub mod Marks
+pub mod RulePlace
+pub mod Parts
+pub mod Rising
+pub mod StoreHeader
+pub mod RuleStoreClauses
