@@ -2,3 +2,6 @@
 pub mod Words
 pub mod Text
 pub mod Answers
+pub mod Emitted
+pub mod ClassRuns
+pub mod Items

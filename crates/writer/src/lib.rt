@@ -1,4 +1,8 @@
 // Stores to text (document 01, "The two kinds of file").
+mod atoms;
+mod classes;
+pub mod emit;
+
 use kinds::refusals::Refusal;
 
 // What the writer and the translator answer: the bytes written, or the refusal.

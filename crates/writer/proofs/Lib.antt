@@ -1,0 +1,5 @@
+-- The laws of texts and of writing them.
+pub mod Emitting
+pub mod AtomItems
+pub mod ClassWords
+pub mod TextLength

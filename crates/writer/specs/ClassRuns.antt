@@ -1,0 +1,14 @@
+-- The class words never fall, so the atoms of one class word are a run.
+use Prim.Native.Nat.{ℕ, suc}
+use mathlib.Core.Bool.{Bool, true, false}
+use mathlib.Core.List.{List, [], _∷_}
+use lib.Dec.{leb}
+
+abbrev pub countWhile : Bool → ℕ → ℕ
+countWhile true n = suc n
+countWhile false n = 0
+
+-- how many words stand before the first one above w
+unfoldable pub upTo : ℕ → List ℕ → ℕ
+upTo w [] = 0
+upTo w (x ∷ ws) = countWhile (leb x w) (upTo w ws)
