@@ -15,3 +15,4 @@ pub mod Parts
 pub mod Rising
 pub mod StoreHeader
 pub mod RuleStoreClauses
+pub mod NameClauses
