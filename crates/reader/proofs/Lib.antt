@@ -3,3 +3,6 @@ pub mod Scanning
 pub mod Tags
 pub mod NameLists
 pub mod LineShapes
+pub mod NamesTwice
+pub mod NameEntering
+pub mod NameBlocks
