@@ -130,6 +130,9 @@ module _ {line : List ℕ} {from : ℕ} {old : List (List ℕ)} {at atom used : 
     pub enter-short : length x ≤ longestName
     enter-short = subst Short (item-is line at e d) (h .short) .0
 
+    pub enter-end : used + 1 + n < 65536
+    enter-end = omega (arith, enter-short, item-length line at e d, h .scratch .small, h .scratch .few)
+
     -- no room for it
     module _ (full : atom ≡ storeAtoms) where
       pub full-index : Indexed (decodeNames (length starts) bytes) bytes starts heads next
@@ -205,7 +208,7 @@ pub repeat-begins : {line : List ℕ} {from : ℕ} {bytes starts heads next : Li
 repeat-begins i s k = record { inside = i; short = s; room = k; same = refl }
 
 module _ {line : List ℕ} {from at : ℕ} {bytes starts heads next : List ℕ} (h : Repeating line from at bytes starts heads next)
-    {b : List ℕ} {bytes′ starts′ heads′ next′ : List ℕ} {r : Block} (m : BlockIs line at (decodeNames 0 b) bytes′ starts′ heads′ next′ r) where
+    {bytes′ starts′ heads′ next′ : List ℕ} {r : Block} (m : BlockIs line at (decodeNames 0 bytes) bytes′ starts′ heads′ next′ r) where
   pub repeats-none : {atoms used : ℕ} → r ≡ After.Done atoms used → false ≡ twice [] (items (drop from line))
   unfolding decodeNames
   repeats-none d = sym (h .same ∙ subst (BlockSays line at [] bytes′ starts′ heads′ next′) d (m .says) .once)

@@ -1,78 +1,65 @@
+use borrow.Author.Needs.{needs}
+use Prim.Native.Nat.{_-_}
+use native.Mathlib.Omega.{arith}
+use lib.ListN.{length}
+use Rattle.stores.specs.NameStore.{decodeNames}
+use Rattle.reader.proofs.NameBlocks.{Looking, look-begins, look-ends, look-inside, look-hit, look-again}
 use Rattle.reader.proofs.entries.any_known.Statement.{statement}
 use Rattle.reader.proofs.entries.any_known.Tie as tie
-use Rattle.reader.proofs.entries.any_known.Reads as reads
-use Rattle.reader.proofs.entries.any_known.Lts as lts
-use Rattle.reader.proofs.scan.item_at.Reads as item-at-reads
-use Rattle.stores.proofs.name_index.find.Reads as find-reads
 
 abbrev Inv-loop : tie.InvT-loop
-Inv-loop line from bytes starts heads next at₀ at = ?
+Inv-loop line from bytes starts heads next at₀ at = Looking (decodeNames (length starts) bytes) line from at
 
 abbrev μ-loop : tie.MeasureT-loop
-μ-loop line from bytes starts heads next at₀ at = ?
+μ-loop line from bytes starts heads next at₀ at = length line - at
 
--- src/entries.rt:66:5
 loop-holds : tie.Need-loop-holds Inv-loop μ-loop
-loop-holds c = ?
+loop-holds c = look-begins _ _ _ (c .before .before .before .before .before .pre .0)
 
--- src/entries.rt:67:27
 item-at-requires : tie.Need-item-at-requires Inv-loop μ-loop
-item-at-requires c κs = ?
+item-at-requires c κs = search needs
 
--- src/entries.rt:67:22
 enum-known-n : tie.Need-enum-known-n Inv-loop μ-loop
-enum-known-n c = ?
+enum-known-n c = search needs
 
--- src/entries.rt:68:13
 enum-told : tie.Need-enum-told Inv-loop μ-loop
-enum-told c = ?
+enum-told c = search needs
 
--- src/entries.rt:68:13
 returns : tie.Need-returns Inv-loop μ-loop
-returns c = ?
+returns c = look-ends (c .before .before .before .loop .inv) (c .before .before .item-at .ensures) (c .enum-told .given .1)
 
--- src/entries.rt:70:21
 add-start : tie.Need-add-start Inv-loop μ-loop
-add-start c = ?
+add-start c = omega (arith, look-inside (c .before .before .before .before .loop .inv) (c .before .before .before .item-at .ensures) (c .before .n .given .1))
 
--- src/entries.rt:71:18
 add-to : tie.Need-add-to Inv-loop μ-loop
-add-to c = ?
+add-to c = omega (arith, look-inside (c .before .before .before .before .loop .inv) (c .before .before .before .item-at .ensures) (c .before .n .given .1))
 
--- src/entries.rt:72:75
 sub-find : tie.Need-sub-find Inv-loop μ-loop
-sub-find c = ?
+sub-find c = search needs
 
--- src/entries.rt:72:75
 part-find-start : tie.Need-part-find-start Inv-loop μ-loop
-part-find-start c = ?
+part-find-start c = search needs
 
--- src/entries.rt:72:75
 part-find-end : tie.Need-part-find-end Inv-loop μ-loop
-part-find-end c = ?
+part-find-end c = omega (arith, look-inside (c .before .before .before .before .loop .inv) (c .before .before .before .item-at .ensures) (c .before .n .given .1))
 
--- src/entries.rt:72:30
 find-requires : tie.Need-find-requires Inv-loop μ-loop
-find-requires c κs = ?
+find-requires c κs = search needs
 
 enum-told-2 : tie.Need-enum-told-2 Inv-loop μ-loop
-enum-told-2 c = ?
+enum-told-2 c = search needs
 
--- src/entries.rt:73:13
 enum-told-3 : tie.Need-enum-told-3 Inv-loop μ-loop
-enum-told-3 c = ?
+enum-told-3 c = search needs
 
--- src/entries.rt:73:13
 returns-2 : tie.Need-returns-2 Inv-loop μ-loop
-returns-2 c = ?
+returns-2 c = look-hit (c .before .before .before .before .before .before .before .before .loop .inv) (c .before .before .before .before .before .before .before .item-at .ensures) (c .before .before .before .before .before .n .given .1) (c .before .before .find .ensures) (c .enum-told3 .given .1)
 
--- src/entries.rt:66:5
 loop-less : tie.Need-loop-less Inv-loop μ-loop
-loop-less c = ?
+loop-less c = omega (arith, look-inside (c .before .before .before .before .before .before .before .before .loop .inv) (c .before .before .before .before .before .before .before .item-at .ensures) (c .before .before .before .before .before .n .given .1))
 
--- src/entries.rt:66:5
 loop-again : tie.Need-loop-again Inv-loop μ-loop
-loop-again c = ?
+loop-again c = look-again (c .before .before .before .before .before .before .before .before .loop .inv) (c .before .before .before .before .before .before .before .item-at .ensures) (c .before .before .before .before .before .n .given .1) (c .before .before .find .ensures) (c .enum-told2 .given .1)
 
 pub any-known-spec : {M : Type 1} → statement M
 any-known-spec =
