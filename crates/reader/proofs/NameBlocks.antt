@@ -1,5 +1,5 @@
 -- The names of a line, item by item and block by block.
-use Prim.Native.Nat.{ℕ, suc, _+_, _≤_, _<_, zero-le}
+use Prim.Native.Nat.{ℕ, _+_, _≤_, _<_, zero-le}
 use native.Mathlib.Omega.{arith}
 use mathlib.Core.Path.{_≡_, refl, sym, ap, _∙_, subst}
 use mathlib.Core.List.{List, [], _∷_, _++_, append-assoc, append-nil}
@@ -12,7 +12,7 @@ use Rattle.rules.proofs.Booleans.{T-not-out}
 use Rattle.stores.specs.declared.name_index.Found.{Found}
 use Rattle.stores.specs.declared.name_index.Found.the-variants as Found
 use Rattle.stores.specs.Names.{allowed}
-use Rattle.stores.specs.NameStore.{encodeNames, decodeNames, sameBytes}
+use Rattle.stores.specs.NameStore.{encodeNames, decodeNames}
 use Rattle.stores.specs.NameIndex.{found, new?, Indexed}
 use Rattle.stores.proofs.NameStores.{allowed-short, not-seen}
 use Rattle.stores.proofs.NamePlaces.{length-decode}
@@ -20,14 +20,13 @@ use Rattle.stores.proofs.NameChains.{bool-true, bool-false, missing-differs, fo
 use Rattle.stores.proofs.NameEntries.{index-empty}
 use Rattle.reader.specs.declared.scan.Item.{Item}
 use Rattle.reader.specs.declared.scan.Item.the-variants.{At, Stop}
-use Rattle.reader.specs.declared.entries.Entered.{Entered}
 use Rattle.reader.specs.declared.entries.Entered.the-variants as Answer
 use Rattle.reader.specs.declared.entries.Block.{Block}
 use Rattle.reader.specs.declared.entries.Block.the-variants as After
 use Rattle.reader.specs.Items.{items}
 use Rattle.reader.specs.Faults.{twice, refusedName}
 use Rattle.reader.specs.Shapes.{itemOf}
-use Rattle.reader.specs.Entries.{longestName, storeAtoms, Short, known, Room, Scratch, NameEntered, Appended, Spilled, BlockSays, BlockIs, TooMany, EnteredIs}
+use Rattle.reader.specs.Entries.{longestName, storeAtoms, Short, known, Room, Scratch, NameEntered, Spilled, BlockSays, BlockIs, EnteredIs}
 use Rattle.reader.proofs.Scanning.{items-end, item-fits, item, later, item-is, item-length}
 use Rattle.reader.proofs.NamesTwice.{twice-split}
 

@@ -58,7 +58,14 @@ fn enter_name(
 }
 
 // Whether one of the items is in the store; `starts` has a place for each atom.
-fn any_known(line: &[u8], from: usize, bytes: &[u8], starts: &[u16], heads: &[u16], next: &[u16]) -> bool
+fn any_known(
+    line: &[u8],
+    from: usize,
+    bytes: &[u8],
+    starts: &[u16],
+    heads: &[u16],
+    next: &[u16],
+) -> bool
     requires { ⌜ (from ≤ length (now line)) × Indexed (decodeNames (length (now starts)) (now bytes)) (now bytes) (now starts) (now heads) (now next) ⌝ }
     ensures { λ r. ⌜ r ≡ some (known (decodeNames (length (now (starts .entry))) (now (bytes .entry)))) (items (drop from (now (line .entry)))) ⌝ }
 {
