@@ -1,11 +1,10 @@
 -- The laws of the walks and the answers.
 pub mod Searches
 pub mod Meanings
-pub mod Filters
-pub mod Listing
 pub mod Bits
 pub mod Stepping
 pub mod Subsets
+pub mod Filters
 pub mod Steps
 pub mod MaskBits
 pub mod RuleMasks
@@ -18,5 +17,6 @@ pub mod CheckedStore
 pub mod Guarding
 pub mod AgreeingSets
 pub mod ProperSubsets
+pub mod Listing
 pub mod Candidates
 pub mod Marked
