@@ -8,3 +8,10 @@ pub mod LineSteps
 pub mod Progress
 pub mod WrittenLines
 pub mod RoundTrip
+pub mod Scanning
+pub mod Tags
+pub mod NameLists
+pub mod LineShapes
+pub mod NamesTwice
+pub mod NameEntering
+pub mod NameBlocks

@@ -64,8 +64,8 @@ spent-inj : (u w : ℕ) → NextSpent u ≡ NextSpent w → u ≡ w
 spent-inj u w e = cc
 
 module _ (b : ℕ) (v : NextState) (a : NextAnswered v) where
-  capped-same : (r : NextState) → NextAnswered r → cappedNext b v ≡ r ↔ ((v ≡ r) × (nextUnits r ≤ b))
-  capped-same = under-budget nextUnits NextAnswered NextSpent cappedNext next-within next-over (λ u h. h) spent-inj b v a
+  pub next-same : (r : NextState) → NextAnswered r → cappedNext b v ≡ r ↔ ((v ≡ r) × (nextUnits r ≤ b))
+  next-same = under-budget nextUnits NextAnswered NextSpent cappedNext next-within next-over (λ u h. h) spent-inj b v a
 
   capped-spent : (u : ℕ) → cappedNext b v ≡ NextSpent u ↔ ((u ≡ b) × (b < nextUnits v))
   capped-spent = over-budget nextUnits NextAnswered NextSpent cappedNext next-within next-over (λ u h. h) spent-inj b v a
@@ -223,7 +223,7 @@ module _ (ws : List ℕ) (rs : List (Rule ℕ)) where
       pub next-state : (s u : ℕ) → nextVerdict ws rs start budget ≡ State s u
           ↔ ((s < 2 ^ length ws) × Least (Preferred ws rs) start s × (u ≡ sum candidateUnits (from start (suc s - start))) × (u ≤ budget))
       unfolding nextVerdict
-      next-state s u = let c = capped-same budget (nextNeeds start) next-answered (State s u) tt in let r = needs-law (State s u) in (
+      next-state s u = let c = next-same budget (nextNeeds start) next-answered (State s u) tt in let r = needs-law (State s u) in (
         λ e. let h = c .0 e in let f = r .0 (h .0) in ((let l = f .0 in omega arith), f .1, (let q = f .2 in omega arith), h .1),
         λ h. c .1 (r .1 ((let l = h .0 in omega arith), h .1, (let q = h .2 in omega arith)), h .3),
       )
@@ -231,7 +231,7 @@ module _ (ws : List ℕ) (rs : List (Rule ℕ)) where
       pub next-nothing : (u : ℕ) → nextVerdict ws rs start budget ≡ Nothing u
           ↔ (((s : ℕ) → start ≤ s → s < 2 ^ length ws → Preferred ws rs s → ⊥) × (u ≡ sum candidateUnits (candidates ws start)) × (u ≤ budget))
       unfolding nextVerdict candidates
-      next-nothing u = let c = capped-same budget (nextNeeds start) next-answered (Nothing u) tt in let r = needs-law (Nothing u) in (
+      next-nothing u = let c = next-same budget (nextNeeds start) next-answered (Nothing u) tt in let r = needs-law (Nothing u) in (
         λ e. let h = c .0 e in let f = r .0 (h .0) in (λ s l k. f .0 s l (omega arith), (let q = f .1 in omega arith), h .1),
         λ h. c .1 (r .1 (λ s l k. h .0 s l (omega arith), let q = h .1 in omega arith), h .2),
       )

@@ -1,6 +1,6 @@
 -- The answers over a store's words: refusals 10, 11, 12, 13 in this order, then the verdict (document 01, "Who can be turned back").
 use Prim.Native.Nat.{ℕ, _^_}
-use mathlib.Core.Bool.{Bool, true, false, cond}
+use mathlib.Core.Bool.{Bool, cond}
 use mathlib.Core.List.{List}
 use lib.Dec.{leb, ltb}
 use Rattle.kinds.specs.Limits.{walkAtoms, budgetLimit}
@@ -8,24 +8,12 @@ use Rattle.kinds.specs.declared.limits.Kind.{Kind}
 use Rattle.kinds.specs.declared.limits.Kind.the-variants.{Plain, Preference}
 use Rattle.kinds.specs.declared.refusals.Refusal.{Refusal}
 use Rattle.kinds.specs.declared.refusals.Refusal.the-variants.{RuleStore as NoStore, TooManyAtoms, SetNumber, Budget}
-use Rattle.stores.specs.Program.{Program}
-use Rattle.stores.specs.RuleStore.{decode, ruleStore}
-use Rattle.stores.specs.declared.rule_store.RuleStore.{RuleStore}
-use Rattle.stores.specs.declared.rule_store.RuleStore.the-variants.{Of, Refused as StoreRefused}
+use Rattle.stores.specs.RuleStore.{decode, ruleStore, isOf}
 use Rattle.verdicts.specs.declared.answers.Verdict.{Verdict}
 use Rattle.verdicts.specs.declared.answers.Verdict.the-variants.{Refused as VerdictRefused}
 use Rattle.verdicts.specs.declared.answers.NextState.{NextState}
 use Rattle.verdicts.specs.declared.answers.NextState.the-variants.{Refused as NextRefused}
 use Rattle.verdicts.specs.Walk.{preferredVerdict, stableVerdict, nextVerdict}
-
--- whether a checked store is of the kind asked for
-abbrev pub isOf : Kind → RuleStore → Bool
-isOf Plain (Of Plain) = true
-isOf Plain (Of Preference) = false
-isOf Plain StoreRefused = false
-isOf Preference (Of Plain) = false
-isOf Preference (Of Preference) = true
-isOf Preference StoreRefused = false
 
 -- the caller's faults in their order; `inside` says of 2^n whether the set or the start lies within
 abbrev pub guarded : {A : Type 0} → (Refusal → A) → Kind → List ℕ → (ℕ → Bool) → ℕ → A → A

@@ -1,3 +1,6 @@
 -- The walks, their units and the answers (document 01, "Verdicts").
 pub mod Walk
 pub mod Answers
+pub mod Masks
+pub mod Subsets
+pub mod Rows

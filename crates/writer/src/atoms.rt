@@ -7,7 +7,21 @@ ghost use lib.ListN.{length};
 ghost use Rattle.rules.specs.Lists.{All, from};
 ghost use Rattle.stores.specs.NameIndex.{Placed};
 ghost use Rattle.writer.specs.Emitted.{Emitted, InRange};
-ghost use Rattle.writer.specs.Items.{storedNames, atomItem, atomItems, atomLine};
+ghost use Rattle.writer.specs.Items.{storedNames, StoredNames, atomItem, atomItems, atomLine};
+
+// Fills the table of the places of names.
+pub fn place_names(names: &[u8], starts: &mut [u16])
+    requires { ⌜ StoredNames (now names) (now starts) ⌝ }
+    ensures { λ r. ⌜ Placed (storedNames (now (names .entry)) (now (starts .entry))) (now (names .entry)) (now (starts .exit)) ⌝ }
+{
+    let mut at: usize = 0;
+    let mut i: usize = 0;
+    while i < starts.len() {
+        starts[i] = at as u16;
+        at += 1 + names[at] as usize;
+        i += 1;
+    }
+}
 
 // One atom; `starts` has the place of each name.
 fn emit_atom(atom: usize, names: &[u8], starts: &[u16], out: &mut [u8], at: usize) -> usize

@@ -1,0 +1,137 @@
+-- What the loop of the preferred walk keeps, and what follows at each way out.
+use Prim.Native.Nat.{ℕ, _+_, _-_, _^_, _≤_, _<_}
+use mathlib.Core.Path.{_≡_, refl, sym, ap, _∙_, subst}
+use mathlib.Core.Bool.{Bool, true, false, cond}
+use mathlib.Core.List.{List}
+use native.Mathlib.Omega.{arith}
+use lib.Dec.{T, eqb, eqb→eq}
+use lib.Bits.{bitAnd, bitOr, bitXor, or-lt, or-self, or-comm}
+use lib.ListN.{length}
+use borrow.Author.Tests.{eq-eqb, ne-eqb}
+use Rattle.rules.proofs.Booleans.{eq→eqb}
+use Rattle.verdicts.specs.Walk.{search, capped}
+use Rattle.verdicts.specs.Masks.{firstM, modelM, agreeM, sparesM, beatsM, preferredWalkM, preferredM}
+use Rattle.verdicts.specs.declared.answers.Verdict.{Verdict}
+use Rattle.verdicts.specs.declared.answers.Verdict.the-variants.{Yes, Broken, Beaten, Spent}
+use Rattle.rules.specs.Lists.{filter, from}
+use Rattle.verdicts.proofs.Filters.{upTo}
+use Rattle.verdicts.proofs.Searches.{Answered, walked-answered, search-walked}
+use Rattle.verdicts.proofs.Steps.{walk-first, walk-found, walk-next, walk-last, walk-spent, capped-yes, capped-beaten}
+use Rattle.verdicts.proofs.Stepping.{lacks, stands, stands-agrees, gap, gap-last, or-again, le-or, agrees-sum}
+
+-- a set that beats another: the classes first, then the rules
+
+pub beats-model : (cs ws ks : List ℕ) (m s r : ℕ) (p : Bool) → p ≡ sparesM m s ks → p ≡ true → r ≡ firstM s cs ws → eqb r (length cs) ≡ beatsM cs ws ks m s
+unfolding beatsM modelM
+beats-model cs ws ks m s r p e t f = rw (sym e ∙ t, f)
+
+pub beats-not : (cs ws ks : List ℕ) (m s : ℕ) (p : Bool) → p ≡ sparesM m s ks → p ≡ false → false ≡ beatsM cs ws ks m s
+unfolding beatsM
+beats-not cs ws ks m s p e t = rw (sym e ∙ t)
+
+-- the preferred walk
+
+module _ (cs ws ks : List ℕ) (f n m budget : ℕ) where
+  abbrev pub onMask : ℕ → Bool
+  onMask s = agreeM m s f
+
+  -- the set y ^ d is the next to be tried
+  pub record Walking (d full y units : ℕ) : Type 0 where
+    pub room : f < 2 ^ n
+    pub off : d ≡ lacks f m
+    pub last : full + 1 ≡ 2 ^ n
+    pub inside : y ≤ full
+    pub filled : bitOr y f ≡ y
+    pub spend : units ≤ budget
+    pub same : preferredWalkM cs ws ks f n m ≡ search (beatsM cs ws ks m) (upTo (λ s. agreeM m s f) (2 ^ n) (bitXor y d)) units
+
+  on-mask : (x : ℕ) → T (agreeM m x f) → bitAnd x f ≡ bitAnd m f
+  unfolding agreeM
+  on-mask x t = eqb→eq (bitAnd x f) (bitAnd m f) t
+
+  -- the first set that is tried has no free atom
+  none-before : (x : ℕ) → x < bitXor f (lacks f m) → bitAnd x f ≡ bitAnd m f → ⊥
+  none-before x l h =
+      let e : bitOr x f ≡ x + lacks f m = agrees-sum f m x h in
+      let s : bitXor f (lacks f m) + lacks f m ≡ f = stands f m f (or-self f) in
+      omega (arith, le-or f x, or-comm f x)
+
+  pub walk-begins : (full : ℕ) → full + 1 ≡ 2 ^ n → f < 2 ^ n → Walking (lacks f m) full f 0
+  unfolding preferredWalkM
+  walk-begins full e g = record {
+    room = g;
+    off = refl;
+    last = e;
+    inside = omega arith;
+    filled = or-self f;
+    spend = omega arith;
+    same = walk-first (λ s. agreeM m s f) (beatsM cs ws ks m) (2 ^ n) (bitXor f (lacks f m)) 0 (omega (arith, stands f m f (or-self f))) (λ x l t. none-before x l (on-mask x t));
+  }
+
+  module _ (d full y units : ℕ) (st : Walking d full y units) where
+    tried : T (agreeM m (bitXor y d) f)
+    unfolding agreeM
+    tried = eq→eqb _ _ (ap (λ (z : ℕ). bitAnd (bitXor y z) f) (st .off) ∙ stands-agrees f m y (st .filled))
+
+    sum : bitXor y d + d ≡ y
+    sum = ap (λ (z : ℕ). bitXor y z + z) (st .off) ∙ stands f m y (st .filled)
+
+    below : bitXor y d < 2 ^ n
+    below = let s = sum in let r = st .inside in let l = st .last in omega arith
+
+    pub walk-is-spent : units ≡ budget → Spent budget ≡ capped budget (preferredWalkM cs ws ks f n m)
+    walk-is-spent e =
+        sym (ap (capped budget) (st .same ∙ ap (search (beatsM cs ws ks m) (upTo (λ s. agreeM m s f) (2 ^ n) (bitXor y d))) e)
+        ∙ walk-spent (λ s. agreeM m s f) (beatsM cs ws ks m) (2 ^ n) (bitXor y d) budget below tried)
+
+    pub walk-finds : (units ≡ budget → ⊥) → beatsM cs ws ks m (bitXor y d) ≡ true → Beaten (bitXor y d) (units + 1) ≡ capped budget (preferredWalkM cs ws ks f n m)
+    walk-finds ne e =
+        sym (ap (capped budget) (st .same ∙ walk-found (λ s. agreeM m s f) (beatsM cs ws ks m) (2 ^ n) (bitXor y d) units below tried e)
+        ∙ capped-beaten budget (bitXor y d) (units + 1) (let b = st .spend in omega arith))
+
+    pub walk-ends : (units ≡ budget → ⊥) → beatsM cs ws ks m (bitXor y d) ≡ false → y ≡ full → Yes (units + 1) ≡ capped budget (preferredWalkM cs ws ks f n m)
+    walk-ends ne e at =
+        sym (ap (capped budget) (st .same ∙ walk-last (λ s. agreeM m s f) (beatsM cs ws ks m) (2 ^ n) (bitXor y d) units below tried e
+        (λ x l k t. gap-last f m n y x (st .filled) (st .room) (let q = st .last in omega arith) (subst (λ (z : ℕ). bitXor y z < x) (st .off) l) k (on-mask x t)))
+        ∙ capped-yes budget (units + 1) (let b = st .spend in omega arith))
+
+    next-in : (y ≡ full → ⊥) → bitOr (y + 1) f ≤ full
+    next-in ne = let i = st .inside in let l = st .last in let o = or-lt n (y + 1) f (omega arith) (st .room) in omega arith
+
+    next-sum : bitXor (bitOr (y + 1) f) d + d ≡ bitOr (y + 1) f
+    next-sum = ap (λ (z : ℕ). bitXor (bitOr (y + 1) f) z + z) (st .off) ∙ stands f m (bitOr (y + 1) f) (or-again (y + 1) f)
+
+    pub walk-goes-on : (units ≡ budget → ⊥) → beatsM cs ws ks m (bitXor y d) ≡ false → (y ≡ full → ⊥) → Walking d full (bitOr (y + 1) f) (units + 1)
+    walk-goes-on ne e nt = record {
+      room = st .room;
+      off = st .off;
+      last = st .last;
+      inside = next-in nt;
+      filled = or-again (y + 1) f;
+      spend = let b = st .spend in omega arith;
+      same = st .same ∙ walk-next (λ s. agreeM m s f) (beatsM cs ws ks m) (2 ^ n) (bitXor y d) (bitXor (bitOr (y + 1) f) d) units
+          (omega (arith, sum, next-sum, le-or (y + 1) f)) (let l = st .last in omega (arith, next-sum, next-in nt)) tried e
+          (λ x l k t. gap f m y x (st .filled) (subst (λ (z : ℕ). bitXor y z < x) (st .off) l) (subst (λ (z : ℕ). x < bitXor (bitOr (y + 1) f) z) (st .off) k) (on-mask x t));
+    }
+
+    pub walk-falls : (y ≡ full → ⊥) → full - bitOr (y + 1) f < full - y
+    walk-falls nt = let i = st .inside in omega (arith, le-or (y + 1) f)
+
+  -- the verdict
+
+  pub no-model : (r : ℕ) → r ≡ firstM m cs ws → (r ≡ length cs → ⊥) → Broken r ≡ capped budget (preferredM cs ws ks f n m)
+  unfolding preferredM modelM capped
+  no-model r e h = rw (sym e, ne-eqb r (length cs) h)
+
+  pub a-model : (r : ℕ) (v : Verdict) → r ≡ firstM m cs ws → r ≡ length cs → v ≡ capped budget (preferredWalkM cs ws ks f n m) → v ≡ capped budget (preferredM cs ws ks f n m)
+  unfolding preferredM modelM
+  a-model r v e h q = q ∙ ap (λ (p : Bool). capped budget (cond p (preferredWalkM cs ws ks f n m) (Broken (firstM m cs ws)))) (sym (eq-eqb (firstM m cs ws) (length cs) (sym e ∙ h)))
+
+pub preferred-answered-mask : (cs ws ks : List ℕ) (f n m : ℕ) → Answered (preferredM cs ws ks f n m)
+unfolding preferredM preferredWalkM
+preferred-answered-mask cs ws ks f n m = step (modelM cs ws m)
+  where
+    step : (p : Bool) → Answered (cond p (search (beatsM cs ws ks m) (filter (λ s. agreeM m s f) (from 0 (2 ^ n))) 0) (Broken (firstM m cs ws)))
+    step true = walked-answered (search (beatsM cs ws ks m) (filter (λ s. agreeM m s f) (from 0 (2 ^ n))) 0)
+        (search-walked (beatsM cs ws ks m) (λ s. T (beatsM cs ws ks m s)) (λ s. (λ h. h, λ h. h)) (filter (λ s. agreeM m s f) (from 0 (2 ^ n))) 0)
+    step false = tt

@@ -1,0 +1,95 @@
+-- What the loop of the stable walk keeps, and what follows at each way out.
+use Prim.Native.Nat.{ℕ, _+_, _-_, _*_, _%_, _^_, _≤_, _<_}
+use mathlib.Core.Path.{_≡_, sym, ap, _∙_}
+use mathlib.Core.List.{List}
+use native.Mathlib.Nat.{lt-of-lt-of-le}
+use native.Mathlib.Decide.{ℕ-discrete}
+use native.Mathlib.Omega.{arith}
+use lib.Dec.{T, eqb→eq}
+use lib.Pow.{pow-mono}
+use lib.Bits.{bitAnd, and-le-r, and-zero-l}
+use lib.Count.{ones, ones-le}
+use lib.ListN.{length}
+use borrow.Author.Tests.{eq-eqb, ne-eqb}
+use Rattle.rules.proofs.Booleans.{eq→eqb}
+use Rattle.verdicts.specs.Walk.{search, capped}
+use Rattle.verdicts.specs.Masks.{firstM, modelM, subsetM, stableWalkM}
+use Rattle.verdicts.specs.Subsets.{rank, NextSub}
+use Rattle.verdicts.specs.declared.answers.Verdict.the-variants.{Yes, Beaten, Spent}
+use Rattle.verdicts.proofs.Filters.{upTo}
+use Rattle.verdicts.proofs.Steps.{walk-first, walk-none, walk-found, walk-next, walk-spent, capped-yes, capped-beaten}
+use Rattle.verdicts.proofs.Subsets.{rank-top, rank-none, rank-lt}
+use Rattle.verdicts.proofs.MaskLoops.{shifted}
+
+pub ones-small : (m : ℕ) → m < 2 ^ 60 → ones m ≤ 60
+ones-small m h = ones-le 60 m h
+
+pub proper-is : (m : ℕ) → m < 2 ^ 60 → (1 * 2 ^ ones m) % 2 ^ 64 - 1 ≡ rank 64 m m
+proper-is m h =
+    let l : m < 2 ^ 64 = omega arith in
+    omega (arith, shifted (ones m) (ones-small m h), rank-top 64 m l)
+
+pub below-60 : (n m : ℕ) → n ≤ 60 → m < 2 ^ n → m < 2 ^ 60
+below-60 n m l h = lt-of-lt-of-le h (pow-mono {i = n} {j = 60} l)
+
+module _ (cs ws : List ℕ) (m budget : ℕ) where
+  -- s is the next subset to be tried, or m itself
+  pub record Subsetting (proper s units : ℕ) : Type 0 where
+    pub all : proper ≡ rank 64 m m
+    pub fits : m < 2 ^ 60
+    pub inside : bitAnd s m ≡ s
+    pub place : rank 64 m s ≡ units
+    pub spend : units ≤ budget
+    pub same : stableWalkM cs ws m ≡ search (modelM cs ws) (upTo (subsetM m) m s) units
+
+  pub subsets-begin : (proper : ℕ) → m < 2 ^ 60 → proper ≡ rank 64 m m → Subsetting proper 0 0
+  unfolding stableWalkM
+  subsets-begin proper h e = record {
+    all = e;
+    fits = h;
+    inside = and-zero-l m;
+    place = rank-none m;
+    spend = omega arith;
+    same = walk-first (subsetM m) (modelM cs ws) m 0 0 (omega arith) (λ x l t. omega arith);
+  }
+
+  module _ (proper s units : ℕ) (st : Subsetting proper s units) where
+    module _ (l : units < proper) where
+      pub is-proper : s ≡ m → ⊥
+      is-proper e = let p : rank 64 m s ≡ rank 64 m m = ap (rank 64 m) e in let q = st .place in let a = st .all in omega arith
+
+      below : s < m
+      below = let i = st .inside in let n = is-proper in omega (arith, and-le-r s m)
+
+      tried : T (subsetM m s)
+      tried = eq→eqb (bitAnd s m) s (st .inside)
+
+      pub subsets-spent : units ≡ budget → Spent budget ≡ capped budget (stableWalkM cs ws m)
+      subsets-spent e =
+          sym (ap (capped budget) (st .same ∙ ap (search (modelM cs ws) (upTo (subsetM m) m s)) e)
+          ∙ walk-spent (subsetM m) (modelM cs ws) m s budget below tried)
+
+      pub subsets-found : (units ≡ budget → ⊥) → (r : ℕ) → r ≡ firstM s cs ws → r ≡ length cs → Beaten s (units + 1) ≡ capped budget (stableWalkM cs ws m)
+      unfolding modelM
+      subsets-found ne r e h =
+          sym (ap (capped budget) (st .same ∙ walk-found (subsetM m) (modelM cs ws) m s units below tried (eq-eqb _ _ (sym e ∙ h)))
+          ∙ capped-beaten budget s (units + 1) (let b = st .spend in omega arith))
+
+      pub subsets-go-on : (units ≡ budget → ⊥) → (r : ℕ) → r ≡ firstM s cs ws → (r ≡ length cs → ⊥) → (s′ : ℕ) → NextSub m s s′ → Subsetting proper s′ (units + 1)
+      unfolding modelM
+      subsets-go-on ne r e h s′ nx = record {
+        all = st .all;
+        fits = st .fits;
+        inside = nx .inside;
+        place = nx .counts ∙ ap (λ (u : ℕ). u + 1) (st .place);
+        spend = let b = st .spend in omega arith;
+        same = st .same ∙ walk-next (subsetM m) (modelM cs ws) m s s′ units (nx .above) (omega (arith, and-le-r s′ m, nx .inside)) tried (ne-eqb _ _ (λ q. h (e ∙ q)))
+            (λ x a b t. let g : s′ ≤ x = nx .least x a (eqb→eq (bitAnd x m) x t) in omega arith);
+      }
+
+    pub subsets-end : proper ≤ units → Yes units ≡ capped budget (stableWalkM cs ws m)
+    subsets-end l = by-dec (ℕ-discrete s m)
+      where
+        by-dec : Dec (s ≡ m) → Yes units ≡ capped budget (stableWalkM cs ws m)
+        by-dec (yes e) = sym (ap (capped budget) (st .same ∙ walk-none (subsetM m) (modelM cs ws) m s units (λ x a b t. omega arith)) ∙ capped-yes budget units (st .spend))
+        by-dec (no q) = absurd (let a = st .all in let f = st .fits in omega (arith, st .place, rank-lt 64 m s (omega arith) (st .inside) q))
