@@ -2,3 +2,6 @@
 pub mod Demand3
 pub mod Sheet
 pub mod PrintedLines
+pub mod ListedStates
+pub mod StoredStates
+pub mod ProgramTexts
