@@ -9,15 +9,15 @@ use lib.ListN.{length, drop, replicate, length-append, length-replicate}
 use Rattle.kinds.specs.declared.limits.Kind.{Kind}
 use Rattle.rules.specs.Lists.{some}
 use Rattle.rules.proofs.Booleans.{T-not-out}
-use Rattle.stores.specs.declared.name_index.Found.{Found}
-use Rattle.stores.specs.declared.name_index.Found.the-variants as Found
-use Rattle.stores.specs.Names.{allowed}
-use Rattle.stores.specs.NameStore.{encodeNames, decodeNames}
-use Rattle.stores.specs.NameIndex.{found, new?, Indexed}
-use Rattle.stores.proofs.NameStores.{allowed-short, not-seen}
-use Rattle.stores.proofs.NamePlaces.{length-decode}
-use Rattle.stores.proofs.NameChains.{bool-true, bool-false, missing-differs, found-among}
-use Rattle.stores.proofs.NameEntries.{index-empty}
+use Rattle.names.specs.declared.index.Found.{Found}
+use Rattle.names.specs.declared.index.Found.the-variants as Found
+use Rattle.names.specs.Names.{allowed}
+use Rattle.names.specs.NameStore.{encodeNames, decodeNames}
+use Rattle.names.specs.NameIndex.{found, new?, Indexed}
+use Rattle.names.proofs.NameStores.{allowed-short, not-seen}
+use Rattle.names.proofs.NamePlaces.{length-decode}
+use Rattle.names.proofs.NameChains.{bool-true, bool-false, missing-differs, found-among}
+use Rattle.names.proofs.NameEntries.{index-empty}
 use Rattle.reader.specs.declared.scan.Item.{Item}
 use Rattle.reader.specs.declared.scan.Item.the-variants.{At, Stop}
 use Rattle.reader.specs.declared.entries.Entered.the-variants as Answer

@@ -3,15 +3,15 @@ use Prim.Native.Nat.{ℕ, suc, _+_, _≤_, _<_}
 use native.Mathlib.Omega.{arith}
 use mathlib.Core.Path.{_≡_, sym, ap, _∙_, subst, subst₂, subst₃}
 use mathlib.Core.List.{List, [], _∷_, _++_, append-assoc}
-use mathlib.Core.Bool.{Bool, true}
+use mathlib.Core.Bool.{Bool, true, cond}
 use lib.Dec.{T}
 use lib.ListN.{length, getD, take, drop, set, length-append, length-set}
 use lib.Seq.{sets, sets-eq, length-sets, length-take-le, take-at, drop-at}
-use Rattle.stores.specs.NameStore.{nameBytes, encodeNames, decodeNames}
-use Rattle.stores.specs.NameIndex.{new?, pickWords, nameHash, Indexed}
-use Rattle.stores.proofs.NameStores.{not-seen}
-use Rattle.stores.proofs.NamePlaces.{length-decode}
-use Rattle.stores.proofs.NameEntries.{encode-last, placed-names, index-kept, entered}
+use Rattle.names.specs.NameStore.{nameBytes, encodeNames, decodeNames}
+use Rattle.names.specs.NameIndex.{new?, nameHash, Indexed}
+use Rattle.names.proofs.NameStores.{not-seen}
+use Rattle.names.proofs.NamePlaces.{length-decode}
+use Rattle.names.proofs.NameEntries.{encode-last, placed-names, index-kept, entered}
 use Rattle.reader.specs.Entries.{longestName, storeAtoms, Scratch, NameEntered}
 
 module _ {atom used : ℕ} {bytes starts heads next : List ℕ} (k : Scratch atom used bytes starts heads next) (low : atom < storeAtoms)
@@ -50,9 +50,9 @@ module _ {atom used : ℕ} {bytes starts heads next : List ℕ} (k : Scratch ato
   enter-room = omega (arith, k)
 
   module _ {r : Bool} (is : r ≡ new? x (decodeNames atom bytes′)) {starts′ heads′ next′ : List ℕ}
-      (es : starts′ ≡ pickWords r (set starts atom used) starts)
-      (eh : heads′ ≡ pickWords r (set heads (nameHash x) (atom + 1)) heads)
-      (en : next′ ≡ pickWords r (set next atom (getD heads (nameHash x) 0)) next) where
+      (es : starts′ ≡ cond r (set starts atom used) starts)
+      (eh : heads′ ≡ cond r (set heads (nameHash x) (atom + 1)) heads)
+      (en : next′ ≡ cond r (set next atom (getD heads (nameHash x) 0)) next) where
     is-old : r ≡ new? x names
     is-old = is ∙ ap (new? x) names-put
 
@@ -68,13 +68,13 @@ module _ {atom used : ℕ} {bytes starts heads next : List ℕ} (k : Scratch ato
           ap (λ m. decodeNames m bytes′) (sym n) ∙ placed-names (index-more .placed)
 
       es′ : starts′ ≡ set starts atom used
-      es′ = es ∙ ap (λ b. pickWords b (set starts atom used) starts) yes
+      es′ = es ∙ ap (λ b. cond b (set starts atom used) starts) yes
 
       eh′ : heads′ ≡ set heads (nameHash x) (atom + 1)
-      eh′ = eh ∙ ap (λ b. pickWords b (set heads (nameHash x) (atom + 1)) heads) yes
+      eh′ = eh ∙ ap (λ b. cond b (set heads (nameHash x) (atom + 1)) heads) yes
 
       en′ : next′ ≡ set next atom (getD heads (nameHash x) 0)
-      en′ = en ∙ ap (λ b. pickWords b (set next atom (getD heads (nameHash x) 0)) next) yes
+      en′ = en ∙ ap (λ b. cond b (set next atom (getD heads (nameHash x) 0)) next) yes
 
       index-set : Indexed (decodeNames (atom + 1) bytes′) bytes′ (set starts atom used) (set heads (nameHash x) (atom + 1)) (set next atom (getD heads (nameHash x) 0))
       index-set =

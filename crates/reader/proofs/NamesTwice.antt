@@ -4,7 +4,7 @@ use mathlib.Core.Path.{_≡_, refl, sym, ap, ap₂, _∙_}
 use mathlib.Core.List.{List, [], _∷_, _++_, append-assoc, append-nil}
 use mathlib.Core.Bool.{Bool, true, false, _||_}
 use Rattle.rules.specs.Lists.{some}
-use Rattle.stores.specs.NameStore.{sameBytes}
+use Rattle.names.specs.NameStore.{sameBytes}
 use Rattle.reader.specs.Faults.{twice}
 use Rattle.reader.specs.Entries.{known}
 

@@ -7,8 +7,8 @@ use lib.ListN.{length, drop}
 use Rattle.kinds.specs.Limits.{atomLimit, nameLimit}
 use Rattle.kinds.specs.declared.limits.Kind.the-variants.{Plain}
 use Rattle.rules.specs.Lists.{All, some}
-use Rattle.stores.specs.NameStore.{encodeNames, decodeNames, sameBytes}
-use Rattle.stores.specs.NameIndex.{new?, buckets, Indexed}
+use Rattle.names.specs.NameStore.{encodeNames, decodeNames, sameBytes}
+use Rattle.names.specs.NameIndex.{new?, buckets, Indexed}
 use Rattle.reader.specs.Items.{items}
 use Rattle.reader.specs.Faults.{twice}
 use Rattle.reader.specs.declared.entries.Entered.{Entered}

@@ -2,8 +2,8 @@
 use crate::scan;
 use crate::scan::Item;
 use kinds::limits::Plain;
-use stores::name_index;
-use stores::name_index::Found;
+use names::index;
+use names::index::Found;
 use writer::emit;
 ghost use mathlib.Core.Path.{_≡_};
 ghost use Prim.Native.Nat.{_≤_, _<_};
@@ -11,8 +11,8 @@ ghost use mathlib.Core.List.{[]};
 ghost use lib.ListN.{length, drop, replicate};
 ghost use lib.Seq.{sets};
 ghost use Rattle.rules.specs.Lists.{some};
-ghost use Rattle.stores.specs.NameStore.{nameBytes, decodeNames};
-ghost use Rattle.stores.specs.NameIndex.{Indexed};
+ghost use Rattle.names.specs.NameStore.{nameBytes, decodeNames};
+ghost use Rattle.names.specs.NameIndex.{Indexed};
 ghost use Rattle.reader.specs.Items.{items};
 ghost use Rattle.reader.specs.Faults.{twice};
 ghost use Rattle.reader.specs.Entries.{longestName, storeAtoms, Short, known, Room, Scratch, NameEntered, BlockIs, EnteredIs};
@@ -54,7 +54,7 @@ fn enter_name(
     ensures { λ r. ⌜ NameEntered (decodeNames atom (now (bytes .entry))) (now (name .entry)) atom at (now (bytes .exit)) (now (starts .exit)) (now (heads .exit)) (now (next .exit)) r ⌝ }
 {
     put_name(name, bytes, at);
-    name_index::enter_new(bytes, name, starts, heads, next, atom, at)
+    index::enter_new(bytes, name, starts, heads, next, atom, at)
 }
 
 // Whether one of the items is in the store; `starts` has a place for each atom.
@@ -76,7 +76,7 @@ fn any_known(
         };
         let start = at + 1;
         let to = start + n;
-        let Found::Missing = name_index::find(bytes, starts, heads, next, &line[start..to]) else {
+        let Found::Missing = index::find(bytes, starts, heads, next, &line[start..to]) else {
             return true;
         };
         at = to;

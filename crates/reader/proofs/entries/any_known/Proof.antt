@@ -2,7 +2,7 @@ use borrow.Author.Needs.{needs}
 use Prim.Native.Nat.{_-_}
 use native.Mathlib.Omega.{arith}
 use lib.ListN.{length}
-use Rattle.stores.specs.NameStore.{decodeNames}
+use Rattle.names.specs.NameStore.{decodeNames}
 use Rattle.reader.proofs.NameBlocks.{Looking, look-begins, look-ends, look-inside, look-hit, look-again}
 use Rattle.reader.proofs.entries.any_known.Statement.{statement}
 use Rattle.reader.proofs.entries.any_known.Tie as tie

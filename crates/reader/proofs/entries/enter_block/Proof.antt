@@ -3,7 +3,7 @@ use Prim.Native.Nat.{_-_}
 use native.Mathlib.Omega.{arith}
 use borrow.Author.Tests.{not-true, not-false}
 use lib.ListN.{length}
-use Rattle.stores.specs.NameStore.{decodeNames}
+use Rattle.names.specs.NameStore.{decodeNames}
 use Rattle.reader.proofs.NameBlocks.{Entering, enter-begins, enter-inside, enter-short, enter-end, full-index, block-done, spilled-twice, spilled, block-twice, enter-again}
 use Rattle.reader.proofs.entries.enter_block.Statement.{statement}
 use Rattle.reader.proofs.entries.enter_block.Tie as tie
