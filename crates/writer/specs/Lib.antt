@@ -5,3 +5,4 @@ pub mod Answers
 pub mod Emitted
 pub mod ClassRuns
 pub mod Items
+pub mod StoredRules

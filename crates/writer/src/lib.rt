@@ -2,6 +2,7 @@
 mod atoms;
 mod classes;
 pub mod emit;
+mod rule_lines;
 
 use kinds::refusals::Refusal;
 
