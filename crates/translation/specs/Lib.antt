@@ -1,2 +1,4 @@
--- What the translator answers.
+-- What the translator answers, and the words that each of its steps writes.
 pub mod Answers
+pub mod Roles
+pub mod StepWords

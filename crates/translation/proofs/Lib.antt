@@ -1,0 +1,3 @@
+-- The laws of the translator's steps.
+pub mod Roles
+pub mod StepLaws
