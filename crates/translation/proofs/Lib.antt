@@ -1,3 +1,5 @@
 -- The laws of the translator's steps.
 pub mod Roles
 pub mod StepLaws
+pub mod RuleSteps
+pub mod ClassSteps

@@ -2,6 +2,7 @@
 use Prim.Native.Nat.{ℕ, suc, _+_, _-_, _≤_, _<_}
 use native.Mathlib.Omega.{arith}
 use native.Mathlib.Numerals.{add-one}
+use native.Mathlib.Nat.{add-zero}
 use mathlib.Core.Path.{_≡_, refl, sym, ap, _∙_}
 use mathlib.Core.Bool.{Bool, true, false, not}
 use mathlib.Core.List.{List, [], _∷_, _++_, append-nil}
@@ -12,7 +13,10 @@ use Rattle.rules.specs.Lists.{keep, from}
 use Rattle.pairing.specs.Loops.{fixedWord?}
 use Rattle.writer.specs.Emitted.{Emitted, InRange}
 use Rattle.writer.proofs.Emitting.{Ahead, none, renamed, range-renamed}
-use Rattle.translation.specs.StepWords.{each, single, raised, copyOf, fixedOf}
+use Rattle.translation.specs.StepWords.{each, single, raised, copyOf, fixedOf, words4, classWords6, words6}
+use Rattle.translation.specs.declared.offsets.Offsets.{Offsets}
+use Rattle.translation.specs.Roles.{classOf, FirstMinimised}
+use Rattle.translation.proofs.Roles.{minimised-class}
 
 -- the words of a run of numbers
 module _ (g : ℕ → List ℕ) (i end : ℕ) where
@@ -63,3 +67,22 @@ module _ (ws : List ℕ) (a : ℕ) {fixed : Bool} (h : fixed ≡ fixedWord? ws a
   pub not-kept : fixed ≡ false → [] ≡ fixedOf ws a
   unfolding fixedOf
   not-kept e = ap (λ (b : Bool). keep b a []) (sym e ∙ h)
+
+pub ends-words : (e u : ℕ) → words4 e u ≡ 2 ∷ 0 ∷ 0 ∷ e ∷ u ∷ []
+unfolding words4
+ends-words e u = ap (λ (x : ℕ). 2 ∷ 0 ∷ 0 ∷ x ∷ u ∷ []) (add-zero e)
+
+-- the class of a minimised atom is its class word
+module _ {m : ℕ} {ws : List ℕ} (h : FirstMinimised m ws) {a : ℕ} (l : a < m) {class : ℕ} (e : class ≡ classOf ws a) where
+  own : getD ws a 0 ≡ class
+  own = sym (e ∙ minimised-class ws a (h .low .word a (omega (arith, h .inside))) (h .class a l))
+
+  pub own-low : 1 ≤ class
+  own-low = omega (arith, own, h .low .word a (omega (arith, h .inside)))
+
+  pub own-small : class ≤ 16
+  own-small = omega (arith, own, h .class a l)
+
+  pub own-words : (o : Offsets) → words6 ws o a ≡ classWords6 o class a
+  unfolding words6
+  own-words o = ap (λ (i : ℕ). classWords6 o i a) own

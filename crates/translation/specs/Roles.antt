@@ -29,3 +29,9 @@ unfixedCount ws = length (filter (λ a. not (fixedWord? ws a)) (from 0 (length w
 -- the fixed atoms among those of a list
 unfoldable pub fixedAmong : List ℕ → List ℕ → ℕ
 fixedAmong ws xs = length (filter (fixedWord? ws) xs)
+
+-- the first m atoms are minimised
+pub record FirstMinimised (m : ℕ) (ws : List ℕ) : Type 0 where
+  pub inside : m ≤ length ws
+  pub low : Low ws
+  pub class : (a : ℕ) → a < m → getD ws a 0 ≤ classLimit

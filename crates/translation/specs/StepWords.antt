@@ -1,10 +1,13 @@
 -- The words that each step adds to the translated rule store.
-use Prim.Native.Nat.{ℕ, _+_}
+use Prim.Native.Nat.{ℕ, _+_, _-_}
 use mathlib.Core.Bool.{not}
-use mathlib.Core.List.{List, [], _∷_}
-use Rattle.rules.specs.Lists.{keep, flat}
+use mathlib.Core.List.{List, [], _∷_, _++_}
+use lib.ListN.{length, getD}
+use Rattle.rules.specs.Lists.{keep, flat, from}
 use Rattle.rules.specs.Rules.{Rule}
 use Rattle.stores.specs.RuleStore.{ruleWords}
+use Rattle.translation.specs.declared.offsets.Offsets.{Offsets}
+use Rattle.translation.specs.Roles.{fixedAmong}
 use Rattle.pairing.specs.Loops.{fixedWord?, loop1, loop2, loop3, loop4, loop5, loop6, loop789, loop10}
 
 -- the words of each entry
@@ -38,16 +41,32 @@ words2 n r = ruleWords (loop2 n r)
 unfoldable pub words3 : List ℕ → ℕ → ℕ → Rule ℕ → List ℕ
 words3 ws s u r = ruleWords (loop3 ws s u r)
 
+-- step 3, a rule with these atoms in its head and body
+unfoldable pub lists3 : List ℕ → ℕ → ℕ → List ℕ → List ℕ → List ℕ
+lists3 ws s u heads bodies =
+    (length heads - fixedAmong ws heads + 1) ∷ length bodies ∷ fixedAmong ws heads
+    ∷ (each (copyOf ws s) heads ++ (u ∷ (each (copyOf ws s) bodies ++ (each (fixedOf ws) bodies ++ each (fixedOf ws) heads))))
+
 unfoldable pub words4 : ℕ → ℕ → List ℕ
 words4 e u = ruleWords (loop4 e u)
 
 -- step 5, class i
-unfoldable pub words5 : List ℕ → ℕ → ℕ → ℕ → ℕ → List ℕ
-words5 ws d e u i = ruleWords (loop5 ws d e u i)
+unfoldable pub words5 : List ℕ → Offsets → ℕ → List ℕ
+words5 ws o i = ruleWords (loop5 ws (o .d) (o .e) (o .u) i)
+
+-- the same for class i whose atoms are those from `first` up to `end`
+unfoldable pub runWords5 : Offsets → ℕ → ℕ → ℕ → List ℕ
+runWords5 o i first end =
+    (end - first + 2) ∷ 1 ∷ 0
+    ∷ (each single (from (o .d + first) (o .d + end - (o .d + first))) ++ ((o .e + i) ∷ o .u ∷ (o .e + (i - 1)) ∷ []))
 
 -- step 6, atom a of class i
-unfoldable pub words6 : ℕ → ℕ → ℕ → ℕ → ℕ → ℕ → ℕ → List ℕ
-words6 n s d e u i a = flat ruleWords (loop6 n s d e u i a)
+unfoldable pub classWords6 : Offsets → ℕ → ℕ → List ℕ
+classWords6 o i a = flat ruleWords (loop6 (o .n) (o .s) (o .d) (o .e) (o .u) i a)
+
+-- step 6, atom a
+unfoldable pub words6 : List ℕ → Offsets → ℕ → List ℕ
+words6 ws o a = classWords6 o (getD ws a 0) a
 
 -- steps 7, 8 and 9, the atom with number b
 unfoldable pub words789 : ℕ → ℕ → List ℕ
