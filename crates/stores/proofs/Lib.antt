@@ -15,3 +15,4 @@ pub mod NamePlaces
 pub mod NameChains
 pub mod NameEntries
 pub mod NameChecks
+pub mod NameClauses

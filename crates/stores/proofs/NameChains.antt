@@ -1,24 +1,21 @@
 -- Finding a name along the chain of its hash, and entering one.
 use Prim.Native.Nat.{ℕ, zero, suc, _+_, _-_, _≤_, _<_}
-use native.Mathlib.Numerals.{add-one}
 use native.Mathlib.Nat.{add-zero}
 use native.Mathlib.Decide.{ℕ-discrete, decLe}
 use native.Mathlib.Omega.{arith}
 use mathlib.Core.Path.{_≡_, refl, sym, ap, ap₂, _∙_, subst}
-use mathlib.Core.Logic.{_≢_, _⊎_, inl, inr}
-use mathlib.Core.List.{List, [], _∷_, _++_, append-assoc, append-nil}
-use mathlib.Core.Bool.{Bool, true, false, not, _||_}
+use mathlib.Core.Logic.{_≢_, inl, inr}
+use mathlib.Core.List.{List, [], _∷_}
+use mathlib.Core.Bool.{Bool, true, false, _||_}
 use lib.Dec.{T, eqb}
-use lib.ListN.{length, getD, take, drop, set, length-append, length-set, List·getD-append}
-use lib.Seq.{take-append-le, take-append-seam, getD-append-seam, getD-set-same, getD-set-other, drop-drop}
-use borrow.Author.Tests.{eqb-true, eqb-false, eq-eqb, ne-eqb}
-use Rattle.rules.specs.Lists.{All, Distinct, some, flat}
+use lib.ListN.{length, getD}
+use borrow.Author.Tests.{eqb-true, eqb-false}
+use Rattle.rules.specs.Lists.{All, Distinct, some}
 use Rattle.rules.proofs.Booleans.{T-or}
-use Rattle.stores.specs.NameStore.{nameBytes, encodeNames, decodeNames, sameBytes}
-use Rattle.stores.specs.NameIndex.{pickFound, foundFrom, found, buckets, nameHash, hashes, pickNumber, lastWith, place, Placed, Indexed}
-use Rattle.stores.specs.declared.name_index.Found.{Found}
+use Rattle.stores.specs.NameStore.{decodeNames, sameBytes}
+use Rattle.stores.specs.NameIndex.{pickFound, foundFrom, found, nameHash, hashes, pickNumber, lastWith, Indexed}
 use Rattle.stores.specs.declared.name_index.Found.the-variants.{At, Missing}
-use Rattle.stores.proofs.NameStores.{same-law, same-equal, same-self}
+use Rattle.stores.proofs.NameStores.{same-law, same-equal}
 use Rattle.stores.proofs.ByteLoops.{hash-small}
 use Rattle.stores.proofs.NamePlaces.{length-decode}
 
@@ -78,12 +75,12 @@ module _ (x : List ℕ) where
   unfolding foundFrom
   skip i y names h = ap (λ b. pickFound b (At i) (foundFrom (suc i) x names)) (bool-false (sameBytes y x) (λ t. h (same-equal y x t)))
 
-  found-none : (i : ℕ) (names : List (List ℕ)) → ((k : ℕ) → k < length names → getD names k [] ≡ x → ⊥) → foundFrom i x names ≡ Missing
+  pub found-none : (i : ℕ) (names : List (List ℕ)) → ((k : ℕ) → k < length names → getD names k [] ≡ x → ⊥) → foundFrom i x names ≡ Missing
   unfolding foundFrom
   found-none i [] h = refl
   found-none i (y ∷ names) h = skip i y names (h 0 (omega arith)) ∙ found-none (suc i) names (λ k l e. h (suc k) (omega arith) e)
 
-  found-at : (i : ℕ) (names : List (List ℕ)) (j : ℕ) → Distinct names → j < length names → getD names j [] ≡ x → foundFrom i x names ≡ At (i + j)
+  pub found-at : (i : ℕ) (names : List (List ℕ)) (j : ℕ) → Distinct names → j < length names → getD names j [] ≡ x → foundFrom i x names ≡ At (i + j)
   unfolding foundFrom
   found-at i [] j d l e = absurd (omega arith)
   found-at i (y ∷ names) zero d l e = ap (λ b. pickFound b (At i) (foundFrom (suc i) x names)) (bool-true (sameBytes y x) (same-law y x .1 e)) ∙ ap At (sym (add-zero i))
@@ -91,6 +88,18 @@ module _ (x : List ℕ) where
       let other : y ≢ getD names j [] = all-at (λ z. y ≢ z) [] names j (d .0) (omega arith) in
       let s : suc i + j ≡ i + suc j = omega arith in
       skip i y names (λ k. other (k ∙ sym e)) ∙ found-at (suc i) names j (d .1) (omega arith) e ∙ ap At s
+
+  -- a found number bears the name
+  pub found-name : (i : ℕ) (names : List (List ℕ)) {j : ℕ} → foundFrom i x names ≡ At j → (k : ℕ) × (j ≡ i + k) × (k < length names) × (getD names k [] ≡ x)
+  unfolding foundFrom
+  found-name i [] e = absurd (let z : _≡_ {A = ℕ} 0 1 = cc in omega arith)
+  found-name i (y ∷ names) {j} e = go (sameBytes y x) refl e (λ (q : foundFrom (suc i) x names ≡ At j). found-name (suc i) names q)
+    where
+      go : (b : Bool) → sameBytes y x ≡ b → pickFound b (At i) (foundFrom (suc i) x names) ≡ At j
+          → (foundFrom (suc i) x names ≡ At j → (k : ℕ) × (j ≡ suc i + k) × (k < length names) × (getD names k [] ≡ x))
+          → (k : ℕ) × (j ≡ i + k) × (k < suc (length names)) × (getD (y ∷ names) k [] ≡ x)
+      go true t e r = let q : i ≡ j = cc in (0, omega arith, omega arith, same-equal y x (subst T (sym t) tt))
+      go false t e r = let w = r e in (suc (w .0), omega arith, omega arith, w .3)
 
   -- a missing name differs from each
   pub missing-differs : (i : ℕ) (names : List (List ℕ)) → foundFrom i x names ≡ Missing → All (λ y. x ≢ y) names

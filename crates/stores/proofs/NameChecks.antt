@@ -1,26 +1,25 @@
 -- The check of a name store, name by name: the names before `at` are entered, and the test of the rest decides.
-use Prim.Native.Nat.{ℕ, zero, suc, _+_, _-_, _*_, _≤_, _<_, zero-le}
+use Prim.Native.Nat.{ℕ, suc, _+_, _-_, _*_, _≤_, _<_, zero-le}
 use native.Mathlib.Numerals.{add-one}
 use native.Mathlib.Omega.{arith}
 use mathlib.Core.Path.{_≡_, refl, sym, ap, ap₂, _∙_, subst, subst₂, subst₃}
 use mathlib.Core.List.{List, [], _∷_, _++_}
-use mathlib.Core.Bool.{Bool, true, false, not, _&&_}
+use mathlib.Core.Bool.{Bool, true, false, _&&_}
 use lib.Dec.{T, leb, eqb, leb→le}
-use lib.ListN.{length, getD, take, drop, set, replicate, length-append, length-drop, length-set, length-replicate, getD-replicate, take-append-drop, drop-of-length-le}
+use lib.ListN.{length, getD, take, drop, set, replicate, length-append, length-drop, length-set, take-append-drop}
 use lib.Seq.{length-take-le, drop-cons, drop-drop}
 use borrow.Author.Tests.{eq-eqb, ne-eqb}
 use Rattle.kinds.specs.declared.limits.Kind.{Kind}
-use Rattle.rules.specs.Lists.{some}
-use Rattle.rules.proofs.Booleans.{T-and-l, T-and-r}
+use Rattle.rules.proofs.Booleans.{T-and-r}
 use Rattle.stores.specs.Names.{allowed}
 use Rattle.stores.specs.RuleStore.{empty?}
-use Rattle.stores.specs.NameStore.{nameBytes, encodeNames, firstName, decodeNames, sameBytes, namesFrom?, names?}
-use Rattle.stores.specs.NameIndex.{pickFound, new?, pickWords, nameEnd, buckets, nameHash, lastWith, Indexed}
+use Rattle.stores.specs.NameStore.{nameBytes, encodeNames, firstName, decodeNames, namesFrom?, names?}
+use Rattle.stores.specs.NameIndex.{pickFound, new?, pickWords, nameEnd, buckets, nameHash, Indexed}
 use Rattle.stores.specs.declared.name_index.Found.{Found}
 use Rattle.stores.specs.declared.name_index.Found.the-variants.{At, Missing}
-use Rattle.stores.proofs.NameStores.{allowed-short, decode-front, names-cons, not-seen}
+use Rattle.stores.proofs.NameStores.{allowed-short, names-cons, not-seen}
 use Rattle.stores.proofs.NamePlaces.{length-decode, first-byte}
-use Rattle.stores.proofs.NameEntries.{encode-last, entered}
+use Rattle.stores.proofs.NameEntries.{index-empty, placed-names, encode-last, entered}
 
 -- the test of `nameEnd`
 abbrev fits : List ℕ → Bool
@@ -56,7 +55,7 @@ pub record Checking (kind : Kind) (bytes : List ℕ) (atoms : ℕ) (starts₀ he
 
 pub check-begins : (kind : Kind) (bytes : List ℕ) (atoms : ℕ) (starts heads next : List ℕ) → atoms ≤ 1100 → atoms ≤ length starts → heads ≡ replicate buckets 0 → atoms ≤ length next
     → Checking kind bytes atoms starts heads next starts heads next 0 0
-unfolding decodeNames encodeNames names? lastWith
+unfolding decodeNames encodeNames names?
 check-begins kind bytes atoms starts heads next few s e n = record {
   same-starts = refl;
   same-heads = refl;
@@ -65,14 +64,7 @@ check-begins kind bytes atoms starts heads next few s e n = record {
   few = few;
   starts-room = s;
   next-room = n;
-  index = record {
-    placed = record { stored = refl; room = zero-le; start = λ i l. absurd (omega arith) };
-    different = tt;
-    heads-room = omega (arith, ap length e, length-replicate {A = ℕ} buckets 0);
-    next-room = zero-le;
-    head = λ h l. ap (λ w. getD w h 0) e ∙ getD-replicate buckets h 0 0 l;
-    link = λ i l. absurd (omega arith);
-  };
+  index = index-empty bytes starts heads next e;
   here = refl;
   small = zero-le;
   left = let q : atoms - 0 ≡ atoms = omega arith in ap (λ m. namesFrom? kind [] m bytes) q;
@@ -168,7 +160,7 @@ module _ {kind : Kind} {bytes : List ℕ} {atoms : ℕ} {starts₀ heads₀ next
             grown : decodeNames (atom + 1) bytes ≡ names ++ (x ∷ [])
             grown =
                 let n : length (names ++ (x ∷ [])) ≡ atom + 1 = length-append names (x ∷ []) ∙ ap (λ m. m + 1) (length-decode atom bytes) in
-                ap₂ decodeNames (sym n) (sym (index-more .placed .stored)) ∙ decode-front (names ++ (x ∷ [])) (drop (length (encodeNames (names ++ (x ∷ [])))) bytes)
+                ap (λ m. decodeNames m bytes) (sym n) ∙ placed-names (index-more .placed)
 
             index-set : Indexed (decodeNames (atom + 1) bytes) bytes (set starts atom at) (set heads (nameHash x) (atom + 1)) (set next atom (getD heads (nameHash x) 0))
             index-set =

@@ -1,14 +1,14 @@
 -- Entering one name more into an index.
-use Prim.Native.Nat.{ℕ, suc, _+_, _≤_, _<_}
+use Prim.Native.Nat.{ℕ, suc, _+_, _≤_, _<_, zero-le}
 use native.Mathlib.Numerals.{add-one}
 use native.Mathlib.Decide.{ℕ-discrete}
 use native.Mathlib.Omega.{arith}
-use mathlib.Core.Path.{_≡_, sym, ap, ap₂, _∙_, subst}
+use mathlib.Core.Path.{_≡_, refl, sym, ap, ap₂, _∙_, subst}
 use mathlib.Core.Logic.{_≢_}
 use mathlib.Core.List.{List, [], _∷_, _++_, append-assoc, append-nil}
 use mathlib.Core.Bool.{true, false}
 use lib.Dec.{eqb}
-use lib.ListN.{length, getD, take, drop, set, length-append, length-set, List·getD-append}
+use lib.ListN.{replicate, length-replicate, getD-replicate, take-append-drop, length, getD, take, drop, set, length-append, length-set, List·getD-append}
 use lib.Seq.{length-take-le, getD-take, drop-append-seam, take-append-le, take-append-seam, getD-append-seam, getD-set-same, getD-set-other, drop-drop}
 use borrow.Author.Tests.{eq-eqb, ne-eqb}
 use Rattle.rules.specs.Lists.{All, Distinct, some}
@@ -17,7 +17,7 @@ use Rattle.stores.specs.NameIndex.{found, new?, buckets, nameHash, hashe
 use Rattle.stores.proofs.ByteLoops.{hash-small}
 use Rattle.stores.proofs.NameChains.{last-ext, bool-true, bool-false, missing-differs, found-among}
 use Rattle.stores.proofs.NamePlaces.{length-decode}
-use Rattle.stores.proofs.NameStores.{not-seen}
+use Rattle.stores.proofs.NameStores.{not-seen, decode-front}
 use Rattle.rules.proofs.Booleans.{T-not-out}
 use Rattle.stores.specs.declared.name_index.Found.{Found}
 use Rattle.stores.specs.declared.name_index.Found.the-variants.{At, Missing}
@@ -34,6 +34,44 @@ distinct-last (y ∷ names) x d f = (go names (d .0), distinct-last names x (d .
     go : (l : List (List ℕ)) → All (λ z. y ≢ z) l → All (λ z. y ≢ z) (l ++ (x ∷ []))
     go [] a = (λ e. f .0 (sym e), tt)
     go (z ∷ l) a = (a .0, go l (a .1))
+
+-- no name yet
+pub index-empty : (bytes starts heads next : List ℕ) → heads ≡ replicate buckets 0 → Indexed [] bytes starts heads next
+unfolding encodeNames lastWith
+index-empty bytes starts heads next e = record {
+  placed = record { stored = refl; room = zero-le; start = λ i l. absurd (omega arith) };
+  different = tt;
+  heads-room = omega (arith, ap length e, length-replicate {A = ℕ} buckets 0);
+  next-room = zero-le;
+  head = λ h l. ap (λ w. getD w h 0) e ∙ getD-replicate buckets h 0 0 l;
+  link = λ i l. absurd (omega arith);
+}
+
+-- the bytes say the names
+pub placed-names : {names : List (List ℕ)} {bytes starts : List ℕ} → Placed names bytes starts → decodeNames (length names) bytes ≡ names
+placed-names {names} {bytes} p = ap (decodeNames (length names)) (sym (p .stored)) ∙ decode-front names (drop (length (encodeNames names)) bytes)
+
+-- bytes behind the names may change
+module _ {names : List (List ℕ)} {bytes starts : List ℕ} (bytes′ : List ℕ) (same : take (length (encodeNames names)) bytes′ ≡ take (length (encodeNames names)) bytes) where
+  pub placed-kept : Placed names bytes starts → Placed names bytes′ starts
+  placed-kept p = record {
+    stored =
+        let n = length (encodeNames names) in
+        let front : take n bytes′ ≡ encodeNames names = same ∙ ap (take n) (sym (p .stored)) ∙ take-append-seam (encodeNames names) (drop n bytes) in
+        ap (λ l. l ++ drop n bytes′) (sym front) ∙ take-append-drop n bytes′;
+    room = p .room;
+    start = p .start;
+  }
+
+  pub index-kept : {heads next : List ℕ} → Indexed names bytes starts heads next → Indexed names bytes′ starts heads next
+  index-kept ix = record {
+    placed = placed-kept (ix .placed);
+    different = ix .different;
+    heads-room = ix .heads-room;
+    next-room = ix .next-room;
+    head = ix .head;
+    link = ix .link;
+  }
 
 -- x follows the names in the bytes, and is none of them
 module _ {names : List (List ℕ)} {bytes starts heads next : List ℕ} (ix : Indexed names bytes starts heads next)

@@ -1,4 +1,4 @@
--- The check of the rule that stands at `at` in the words.
+-- The check of the rule that stands at `at` in the words, and of the rules one after another.
 use Prim.Native.Nat.{ℕ, suc, _+_, _-_, _*_, _≤_, _<_}
 use mathlib.Core.Path.{_≡_, refl, sym, ap, ap₂, _∙_, subst}
 use mathlib.Core.Bool.{Bool, true, false, not, _&&_}
@@ -13,18 +13,18 @@ use borrow.Author.Tests.{not-true, not-false, eq-eqb, ne-eqb}
 use Rattle.kinds.specs.Limits.{occurrenceLimit, ruleLimit}
 use Rattle.kinds.specs.declared.limits.Kind.{Kind}
 use Rattle.kinds.specs.declared.limits.Kind.the-variants.{Plain, Preference}
-use Rattle.rules.specs.Rules.{rule}
+use Rattle.rules.specs.Rules.{Rule, rule}
 use Rattle.stores.specs.RuleStore.{Below, rules?, empty?, heads, bodies, nots, places, ruleAt, lists?, not?, rule?, ruleCheck, pickCheck}
 use Rattle.stores.specs.declared.rule_store.RuleCheck.{RuleCheck}
 use Rattle.stores.specs.declared.rule_store.RuleCheck.the-variants.{Next, Broken}
 use Rattle.stores.proofs.Marks.{below-more}
 use Rattle.stores.proofs.RuleTests.{T-is, RuleTested, rule-tested}
 
-pub limit-small : (kind : Kind) → occurrenceLimit kind ≤ 24000
+pub limit-small : (kind : Kind) → occurrenceLimit kind ≤ occurrenceLimit Plain
 limit-small Plain = omega arith
 limit-small Preference = omega arith
 
-rules-small : (kind : Kind) → ruleLimit kind ≤ 4200
+rules-small : (kind : Kind) → ruleLimit kind ≤ ruleLimit Plain
 rules-small Plain = omega arith
 rules-small Preference = omega arith
 
@@ -47,6 +47,12 @@ module _ (ws : List ℕ) (at : ℕ) where
   abbrev notCount : ℕ
   notCount = getD ws (at + 2) 0
 
+  abbrev atomCount : ℕ
+  atomCount = headCount + bodyCount + notCount
+
+  abbrev listed : Rule ℕ
+  listed = rule (take headCount (drop (at + 3) ws)) (take bodyCount (drop (at + 3 + headCount) ws)) (take notCount (drop (at + 3 + headCount + bodyCount) ws))
+
   heads-at : heads (drop at ws) ≡ headCount
   heads-at = getD-drop at ws 0 0 ∙ ap (λ (i : ℕ). getD ws i 0) (add-zero at)
 
@@ -56,13 +62,13 @@ module _ (ws : List ℕ) (at : ℕ) where
   nots-at : nots (drop at ws) ≡ notCount
   nots-at = getD-drop at ws 2 0
 
-  pub places-at : places (drop at ws) ≡ headCount + bodyCount + notCount
+  places-at : places (drop at ws) ≡ atomCount
   places-at = omega (arith, heads-at, bodies-at, nots-at)
 
   past : (n m : ℕ) → at + n ≡ m → drop n (drop at ws) ≡ drop m ws
   past n m e = drop-drop n at ws ∙ ap (λ (i : ℕ). drop i ws) e
 
-  pub rule-at : ruleAt (drop at ws) ≡ rule (take headCount (drop (at + 3) ws)) (take bodyCount (drop (at + 3 + headCount) ws)) (take notCount (drop (at + 3 + headCount + bodyCount) ws))
+  rule-at : ruleAt (drop at ws) ≡ listed
   unfolding ruleAt
   rule-at =
       let body : at + (3 + heads (drop at ws)) ≡ at + 3 + headCount = omega (arith, heads-at) in
@@ -82,27 +88,27 @@ module _ (ws : List ℕ) (at : ℕ) where
         step true g = absurd (g tt)
         step false g = refl
 
-    pub cut-short : length ws < at + (3 + (headCount + bodyCount + notCount)) → at ≤ length ws → Broken ≡ ruleCheck kind n used at ws
+    pub cut-short : length ws < at + (3 + atomCount) → at ≤ length ws → Broken ≡ ruleCheck kind n used at ws
     cut-short o l = broken (λ t. omega (arith, t .inside, places-at, length-drop at ws))
 
-    pub too-many : occurrenceLimit kind < used + (headCount + bodyCount + notCount) → Broken ≡ ruleCheck kind n used at ws
+    pub too-many : occurrenceLimit kind < used + atomCount → Broken ≡ ruleCheck kind n used at ws
     too-many o = broken (λ t. omega (arith, t .fits, places-at))
 
     pub filled-not : {x : Bool} → x ≡ not? kind notCount → not x ≡ true → Broken ≡ ruleCheck kind n used at ws
     filled-not {x} e f = broken (λ t. subst T (ap (not? kind) nots-at ∙ sym e ∙ not-true x f) (t .nots-fit))
 
-    pub list-wrong : {x : Bool} → x ≡ lists? n (rule (take headCount (drop (at + 3) ws)) (take bodyCount (drop (at + 3 + headCount) ws)) (take notCount (drop (at + 3 + headCount + bodyCount) ws))) → not x ≡ true → Broken ≡ ruleCheck kind n used at ws
+    pub list-wrong : {x : Bool} → x ≡ lists? n listed → not x ≡ true → Broken ≡ ruleCheck kind n used at ws
     list-wrong {x} e f = broken (λ t. subst T (ap (lists? n) rule-at ∙ sym e ∙ not-true x f) (t .lists-fit))
 
     pub passed :
-        at + 3 + (headCount + bodyCount + notCount) ≤ length ws → used + (headCount + bodyCount + notCount) ≤ occurrenceLimit kind
+        at + 3 + atomCount ≤ length ws → used + atomCount ≤ occurrenceLimit kind
         → {x : Bool} → x ≡ not? kind notCount → not x ≡ false
-        → {y : Bool} → y ≡ lists? n (rule (take headCount (drop (at + 3) ws)) (take bodyCount (drop (at + 3 + headCount) ws)) (take notCount (drop (at + 3 + headCount + bodyCount) ws))) → not y ≡ false
-        → Next (at + 3 + (headCount + bodyCount + notCount)) (used + (headCount + bodyCount + notCount)) ≡ ruleCheck kind n used at ws
+        → {y : Bool} → y ≡ lists? n listed → not y ≡ false
+        → Next (at + 3 + atomCount) (used + atomCount) ≡ ruleCheck kind n used at ws
     unfolding ruleCheck
     passed i f {x} e p {y} g q =
-        let next : at + 3 + (headCount + bodyCount + notCount) ≡ at + (3 + places (drop at ws)) = omega (arith, places-at) in
-        let sum : used + (headCount + bodyCount + notCount) ≡ used + places (drop at ws) = omega (arith, places-at) in
+        let next : at + 3 + atomCount ≡ at + (3 + places (drop at ws)) = omega (arith, places-at) in
+        let sum : used + atomCount ≡ used + places (drop at ws) = omega (arith, places-at) in
         let tested : RuleTested kind n used (drop at ws) =
         record {
           inside = omega (arith, i, places-at, length-drop at ws);
@@ -127,7 +133,7 @@ none-left ws at h = step (ℕ-discrete at (length ws))
 pub record Passing (words : List ℕ) (start : ℕ) (kind : Kind) (atoms rules : ℕ) (marks₀ marks : List ℕ) (at used i : ℕ) : Type 0 where
   pub inside : at ≤ length words
   pub fits : used ≤ occurrenceLimit kind
-  pub few : rules ≤ 4200
+  pub few : rules ≤ ruleLimit Plain
   pub passed : i ≤ rules
   pub room : atoms ≤ length marks₀
   pub same-length : length marks ≡ length marks₀

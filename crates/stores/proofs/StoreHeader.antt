@@ -15,7 +15,7 @@ use Rattle.stores.specs.declared.rule_store.RuleStore.the-variants.{Of, 
 use Rattle.stores.proofs.RuleTests.{T-is}
 use Rattle.stores.proofs.RuleStores.{classes-law, words-count}
 
-pub atoms-small : (kind : Kind) → atomLimit kind ≤ 1100
+pub atoms-small : (kind : Kind) → atomLimit kind ≤ atomLimit Plain
 atoms-small Plain = omega arith
 atoms-small Preference = omega arith
 

@@ -74,3 +74,22 @@ words789 u b = ruleWords (loop789 u b)
 
 unfoldable pub words10 : ℕ → ℕ → ℕ → List ℕ
 words10 e u k = flat ruleWords (loop10 e u k)
+
+-- steps 1 to 3, which go by the atoms and rules of the file
+abbrev pub fileWords : List ℕ → List (Rule ℕ) → Offsets → List ℕ
+fileWords ws rs o = each (words1 (o .n)) (from 0 (o .n - 0)) ++ (each (words2 (o .n)) rs ++ each (words3 ws (o .s) (o .u)) rs)
+
+-- steps 4 to 6, which go by its classes and minimised atoms
+abbrev pub classWords : List ℕ → ℕ → ℕ → Offsets → List ℕ
+classWords ws k m o = words4 (o .e) (o .u) ++ (each (words5 ws o) (from 1 (k + 1 - 1)) ++ each (words6 ws o) (from 0 (m - 0)))
+
+-- steps 7 to 10
+abbrev pub lastWords : ℕ → Offsets → List ℕ
+lastWords k o =
+    each (words789 (o .u)) (from (o .s) (o .d - o .s))
+    ++ (each (words789 (o .u)) (from (o .d) (o .e - o .d))
+    ++ (each (words789 (o .u)) (from (o .e) (o .u - o .e))
+    ++ words10 (o .e) (o .u) k))
+
+unfoldable pub stepWords : List ℕ → List (Rule ℕ) → ℕ → ℕ → Offsets → List ℕ
+stepWords ws rs k m o = fileWords ws rs o ++ (classWords ws k m o ++ lastWords k o)

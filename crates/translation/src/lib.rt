@@ -4,4 +4,5 @@ mod classes;
 mod offsets;
 mod rule_steps;
 mod steps;
+mod translated_rules;
 mod words;

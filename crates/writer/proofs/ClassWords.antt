@@ -82,7 +82,7 @@ up-to-rises v w l (x ∷ ws) = go (leb x v) refl (up-to-rises v w l ws)
     go true e h = let k : leb x w ≡ true = le-leb x w (omega (arith, leb-true x v e)) in rw k (omega arith)
     go false e h = omega arith
 
-within : (w : ℕ) (ws : List ℕ) (i : ℕ) → i < upTo w ws → getD ws i 0 ≤ w
+pub within : (w : ℕ) (ws : List ℕ) (i : ℕ) → i < upTo w ws → getD ws i 0 ≤ w
 unfolding upTo
 within w [] i l = absurd (omega arith)
 within w (x ∷ ws) zero l = go (leb x w) refl l
@@ -122,11 +122,11 @@ class-run v w ws r l gap =
     filter-run (λ a. eqb (getD ws a 0) w) (length ws) (upTo v ws) (upTo w ws) (up-to-rises v w (omega arith) ws) (up-to-le w ws)
     (λ i h. ne-eqb (getD ws i 0) w (λ e. omega (arith, within v ws i h, e)))
     (λ i h k.
-    let fits : i < length ws = omega (arith, up-to-le w ws) in
-    eq-eqb (getD ws i 0) w (omega (arith, within w ws i k, gap i fits (past v 0 ws r i h fits))))
+        let fits : i < length ws = omega (arith, up-to-le w ws) in
+        eq-eqb (getD ws i 0) w (omega (arith, within w ws i k, gap i fits (past v 0 ws r i h fits))))
     (λ i h k. ne-eqb (getD ws i 0) w (λ e. omega (arith, past w 0 ws r i h k, e)))
 
-stops : (w : ℕ) (ws : List ℕ) → upTo w ws < length ws → w < getD ws (upTo w ws) 0
+pub stops : (w : ℕ) (ws : List ℕ) → upTo w ws < length ws → w < getD ws (upTo w ws) 0
 unfolding upTo
 stops w [] l = absurd (omega arith)
 stops w (x ∷ ws) l = go (leb x w) refl (stops w ws) l

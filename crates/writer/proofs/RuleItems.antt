@@ -4,15 +4,15 @@ use native.Mathlib.Nat.{add-sub-cancel-left}
 use native.Mathlib.Omega.{arith}
 use mathlib.Core.Path.{_≡_, refl, sym, ap, ap₂, _∙_, subst}
 use mathlib.Core.List.{List, [], _∷_, _++_}
-use lib.ListN.{length, getD, take, drop, length-drop}
+use lib.ListN.{length, take, drop, length-drop}
 use lib.Seq.{take-all, drop-drop}
-use Rattle.rules.specs.Lists.{All, flat}
+use Rattle.rules.specs.Lists.{All}
 use Rattle.rules.specs.Rules.{Rule}
 use Rattle.stores.specs.RuleStore.{heads, bodies, nots, places, ruleAt, rulesFrom}
 use Rattle.writer.specs.Words.{space, open-bracket, close-bracket, line-end, ruleWord, headWord, bodyWord, notWord}
 use Rattle.writer.specs.Text.{openText, ruleLine, ruleText}
 use Rattle.writer.specs.Items.{atomItems, atomPart, ruleItem, ruleItems}
-use Rattle.writer.specs.StoredRules.{RuleBelow, StoredRule, StoredRules}
+use Rattle.writer.specs.StoredRules.{StoredRule, StoredRules}
 use Rattle.writer.specs.Emitted.{Emitted, InRange}
 use Rattle.writer.proofs.Emitting.{Ahead, Emitting, start, turn, finish, range-here}
 

@@ -24,6 +24,10 @@ abbrev pub writtenBytes : Written → List ℕ → List ℕ
 writtenBytes (Text k) text = text
 writtenBytes (Refused f) text = []
 
+-- a text in an output, if there is room for it
+abbrev pub fittedOutput : List ℕ → List ℕ → List ℕ
+fittedOutput text before = over (writtenBytes (fitted text (length before)) text) before
+
 -- the text of two stores
 unfoldable pub storesText : List ℕ → List ℕ → List ℕ
 storesText rules names = textOf (decode rules) (decodeNames (decode rules .atoms) names)

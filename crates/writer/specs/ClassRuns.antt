@@ -3,6 +3,12 @@ use Prim.Native.Nat.{ℕ, suc}
 use mathlib.Core.Bool.{Bool, true, false}
 use mathlib.Core.List.{List, [], _∷_}
 use lib.Dec.{leb}
+use Rattle.kinds.specs.declared.limits.Kind.the-variants.{Preference}
+use Rattle.stores.specs.Program.{ClassesForm}
+
+-- the class words of a preference program with n atoms and k classes
+pub record ClassWordsOf (n k : ℕ) (ws : List ℕ) : Type 0 where
+  pub form : ClassesForm Preference n k ws
 
 abbrev pub countWhile : Bool → ℕ → ℕ
 countWhile true n = suc n

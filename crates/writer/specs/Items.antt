@@ -1,16 +1,23 @@
 -- The names of atoms by their numbers, each after a space, and the lines made of them.
-use Prim.Native.Nat.{ℕ}
+use Prim.Native.Nat.{ℕ, _≤_}
+use mathlib.Core.Path.{_≡_}
 use mathlib.Core.List.{List, [], _∷_, _++_}
 use lib.ListN.{length, getD}
-use Rattle.rules.specs.Lists.{flat}
+use Rattle.rules.specs.Lists.{flat, from}
 use Rattle.rules.specs.Rules.{Rule}
-use Rattle.stores.specs.NameStore.{decodeNames}
-use Rattle.writer.specs.Words.{close-bracket, line-end}
-use Rattle.writer.specs.Text.{item, named, ruleText}
+use Rattle.rules.specs.Preferred.{varying, fixed, ofClass}
+use Rattle.stores.specs.NameStore.{encodeNames, decodeNames}
+use Rattle.writer.specs.Words.{close-bracket, line-end, minWord, varyWord, fixWord}
+use Rattle.writer.specs.Text.{item, listLine, named, ruleText}
 
 -- the names of a store that `starts` has a place for
 abbrev pub storedNames : List ℕ → List ℕ → List (List ℕ)
 storedNames bytes starts = decodeNames (length starts) bytes
+
+-- the bytes are the store of those names, and each place fits in a word
+pub record StoredNames (bytes starts : List ℕ) : Type 0 where
+  pub whole : encodeNames (storedNames bytes starts) ≡ bytes
+  pub short : length bytes ≤ 65536
 
 unfoldable pub atomItem : List (List ℕ) → ℕ → List ℕ
 atomItem names a = item (getD names a [])
@@ -31,3 +38,13 @@ ruleItem names r = ruleText names r
 
 unfoldable pub ruleItems : List (List ℕ) → List (Rule ℕ) → List ℕ
 ruleItems names rs = flat (ruleText names) rs
+
+-- the line of one class word, and the lines of a preference program's class words
+unfoldable pub classItem : List (List ℕ) → List ℕ → List ℕ → ℕ → List ℕ
+classItem names words word w = listLine word (named names (ofClass words w))
+
+unfoldable pub minItems : List (List ℕ) → List ℕ → ℕ → ℕ → List ℕ
+minItems names words class count = flat (classItem names words minWord) (from class count)
+
+unfoldable pub classItems : List (List ℕ) → List ℕ → ℕ → List ℕ
+classItems names words classes = minItems names words 1 classes ++ (classItem names words varyWord varying ++ classItem names words fixWord fixed)

@@ -6,3 +6,4 @@ pub mod Emitted
 pub mod ClassRuns
 pub mod Items
 pub mod StoredRules
+pub mod Sources

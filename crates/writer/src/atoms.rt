@@ -7,7 +7,21 @@ ghost use lib.ListN.{length};
 ghost use Rattle.rules.specs.Lists.{All, from};
 ghost use Rattle.stores.specs.NameIndex.{Placed};
 ghost use Rattle.writer.specs.Emitted.{Emitted, InRange};
-ghost use Rattle.writer.specs.Items.{storedNames, atomItem, atomItems, atomLine};
+ghost use Rattle.writer.specs.Items.{storedNames, StoredNames, atomItem, atomItems, atomLine};
+
+// Fills the table of the places of names.
+pub fn place_names(names: &[u8], starts: &mut [u16])
+    requires { ⌜ StoredNames (now names) (now starts) ⌝ }
+    ensures { λ r. ⌜ Placed (storedNames (now (names .entry)) (now (starts .entry))) (now (names .entry)) (now (starts .exit)) ⌝ }
+{
+    let mut at: usize = 0;
+    let mut i: usize = 0;
+    while i < starts.len() {
+        starts[i] = at as u16;
+        at += 1 + names[at] as usize;
+        i += 1;
+    }
+}
 
 // One atom; `starts` has the place of each name.
 fn emit_atom(atom: usize, names: &[u8], starts: &[u16], out: &mut [u8], at: usize) -> usize
@@ -33,14 +47,7 @@ pub fn emit_atoms(atoms: &[u16], names: &[u8], starts: &[u16], out: &mut [u8], a
 }
 
 // The atoms from `first` up to `end`.
-fn emit_run(
-    first: usize,
-    end: usize,
-    names: &[u8],
-    starts: &[u16],
-    out: &mut [u8],
-    at: usize,
-) -> usize
+fn emit_run(first: usize, end: usize, names: &[u8], starts: &[u16], out: &mut [u8], at: usize) -> usize
     requires { ⌜ Placed (storedNames (now names) (now starts)) (now names) (now starts) × (end ≤ length (now starts)) × InRange at (atomItems (storedNames (now names) (now starts)) (from first (end - first))) ⌝ }
     ensures { λ r. ⌜ Emitted (now (out .entry)) at (atomItems (storedNames (now (names .entry)) (now (starts .entry))) (from first (end - first))) (now (out .exit)) r ⌝ }
 {
@@ -54,15 +61,7 @@ fn emit_run(
 }
 
 // A line of the atoms from `first` up to `end`, after its opening.
-pub fn emit_line(
-    opening: &[u8],
-    first: usize,
-    end: usize,
-    names: &[u8],
-    starts: &[u16],
-    out: &mut [u8],
-    at: usize,
-) -> usize
+pub fn emit_line(opening: &[u8], first: usize, end: usize, names: &[u8], starts: &[u16], out: &mut [u8], at: usize) -> usize
     requires { ⌜ Placed (storedNames (now names) (now starts)) (now names) (now starts) × (end ≤ length (now starts)) × InRange at (atomLine (storedNames (now names) (now starts)) (now opening) (from first (end - first))) ⌝ }
     ensures { λ r. ⌜ Emitted (now (out .entry)) at (atomLine (storedNames (now (names .entry)) (now (starts .entry))) (now (opening .entry)) (from first (end - first))) (now (out .exit)) r ⌝ }
 {

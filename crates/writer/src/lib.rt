@@ -3,11 +3,77 @@ mod atoms;
 mod classes;
 pub mod emit;
 mod rule_lines;
+mod text;
 
+use atoms::place_names;
+use kinds::limits::Plain;
 use kinds::refusals::Refusal;
+use stores::name_store::check_names;
+use stores::rule_store::RuleStore;
+use stores::rule_store::check_rules;
+use text::emit_text;
+ghost use mathlib.Core.Path.{_≡_};
+ghost use Prim.Native.Nat.{_≤_};
+ghost use lib.ListN.{length};
+ghost use Rattle.stores.specs.RuleStore.{StoreOf, decode};
+ghost use Rattle.stores.specs.NameStore.{NamesOf, decodeNames};
+ghost use Rattle.writer.specs.Sources.{Sources, sourceText};
+ghost use Rattle.writer.specs.Answers.{fitted, fittedOutput, storesText, writeAnswer, writeOutput};
 
 // What the writer and the translator answer: the bytes written, or the refusal.
 pub enum Written {
     Text { bytes: usize },
     Refused { refusal: Refusal },
+}
+
+// The text, if the output has room for it: counted first, then written.
+fn write_text(rules: &[u16], names: &[u8], starts: &[u16], out: &mut [u8]) -> Written
+    requires { ⌜ Sources (now rules) (now names) (now starts) ⌝ }
+    ensures answer { λ r. ⌜ r ≡ fitted (sourceText (now (rules .entry)) (now (names .entry)) (now (starts .entry))) (length (now (out .entry))) ⌝ }
+    ensures output { λ r. ⌜ now (out .exit) ≡ fittedOutput (sourceText (now (rules .entry)) (now (names .entry)) (now (starts .entry))) (now (out .entry)) ⌝ }
+{
+    let mut none = [0u8; 0];
+    let bytes = emit_text(rules, names, starts, &mut none);
+    if out.len() < bytes {
+        return Written::Refused { refusal: Refusal::Output };
+    }
+    emit_text(rules, names, starts, out);
+    Written::Text { bytes }
+}
+
+// The same, with room for the table of the places of names.
+fn write_by(rules: &[u16], names: &[u8], table: &mut [u16], out: &mut [u8]) -> Written
+    requires { ⌜ StoreOf (now rules) (decode (now rules)) × NamesOf (now names) (decode (now rules) .kind) (decode (now rules) .atoms) (decodeNames (decode (now rules) .atoms) (now names)) × (1100 ≤ length (now table)) ⌝ }
+    ensures answer { λ r. ⌜ r ≡ fitted (storesText (now (rules .entry)) (now (names .entry))) (length (now (out .entry))) ⌝ }
+    ensures output { λ r. ⌜ now (out .exit) ≡ fittedOutput (storesText (now (rules .entry)) (now (names .entry))) (now (out .entry)) ⌝ }
+{
+    let atoms = rules[1] as usize;
+    place_names(names, &mut table[..atoms]);
+    write_text(rules, names, &table[..atoms], out)
+}
+
+// Writes the text of two stores that are known to be of the form.
+pub fn write_checked(rules: &[u16], names: &[u8], out: &mut [u8]) -> Written
+    requires { ⌜ StoreOf (now rules) (decode (now rules)) × NamesOf (now names) (decode (now rules) .kind) (decode (now rules) .atoms) (decodeNames (decode (now rules) .atoms) (now names)) ⌝ }
+    ensures answer { λ r. ⌜ r ≡ fitted (storesText (now (rules .entry)) (now (names .entry))) (length (now (out .entry))) ⌝ }
+    ensures output { λ r. ⌜ now (out .exit) ≡ fittedOutput (storesText (now (rules .entry)) (now (names .entry))) (now (out .entry)) ⌝ }
+{
+    let mut table = [0u16; Plain::ATOMS];
+    write_by(rules, names, &mut table, out)
+}
+
+// Writes the text of two stores: refusals 10, 14, 9 in this order.
+pub fn write(rules: &[u16], names: &[u8], out: &mut [u8]) -> Written
+    ensures answer { λ r. ⌜ r ≡ writeAnswer (now (rules .entry)) (now (names .entry)) (length (now (out .entry))) ⌝ }
+    ensures output { λ r. ⌜ now (out .exit) ≡ writeOutput (now (rules .entry)) (now (names .entry)) (now (out .entry)) ⌝ }
+{
+    let store = check_rules(rules);
+    let RuleStore::Of(kind) = store else {
+        return Written::Refused { refusal: Refusal::RuleStore };
+    };
+    let atoms = rules[1] as usize;
+    if !check_names(names, kind, atoms) {
+        return Written::Refused { refusal: Refusal::NameStore };
+    }
+    write_checked(rules, names, out)
 }

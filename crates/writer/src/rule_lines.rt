@@ -12,14 +12,7 @@ ghost use Rattle.writer.specs.Items.{storedNames, atomPart, ruleItem, ru
 ghost use Rattle.writer.specs.StoredRules.{StoredRule, StoredRules};
 
 // One list of a rule, after what stands before it.
-fn emit_part(
-    opening: &[u8],
-    atoms: &[u16],
-    names: &[u8],
-    starts: &[u16],
-    out: &mut [u8],
-    at: usize,
-) -> usize
+fn emit_part(opening: &[u8], atoms: &[u16], names: &[u8], starts: &[u16], out: &mut [u8], at: usize) -> usize
     requires { ⌜ Placed (storedNames (now names) (now starts)) (now names) (now starts) × All (λ a. a < length (now starts)) (now atoms) × InRange at (atomPart (storedNames (now names) (now starts)) (now opening) (now atoms)) ⌝ }
     ensures { λ r. ⌜ Emitted (now (out .entry)) at (atomPart (storedNames (now (names .entry)) (now (starts .entry))) (now (opening .entry)) (now (atoms .entry))) (now (out .exit)) r ⌝ }
 {
@@ -49,14 +42,7 @@ fn rule_size(words: &[u16]) -> usize
     3 + words[0] as usize + words[1] as usize + words[2] as usize
 }
 
-pub fn emit_rules(
-    words: &[u16],
-    count: usize,
-    names: &[u8],
-    starts: &[u16],
-    out: &mut [u8],
-    at: usize,
-) -> usize
+pub fn emit_rules(words: &[u16], count: usize, names: &[u8], starts: &[u16], out: &mut [u8], at: usize) -> usize
     requires { ⌜ Placed (storedNames (now names) (now starts)) (now names) (now starts) × StoredRules (length (now starts)) count (now words) × InRange at (ruleItems (storedNames (now names) (now starts)) (rulesFrom count (now words))) ⌝ }
     ensures { λ r. ⌜ Emitted (now (out .entry)) at (ruleItems (storedNames (now (names .entry)) (now (starts .entry))) (rulesFrom count (now (words .entry)))) (now (out .exit)) r ⌝ }
 {

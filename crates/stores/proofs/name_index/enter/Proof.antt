@@ -1,77 +1,57 @@
 use borrow.Author.Needs.{needs}
 use native.Mathlib.Omega.{arith}
-use Prim.Native.Nat.{_-_, _+_}
-use mathlib.Core.Path.{refl, sym, ap, _∙_}
-use lib.ListN.{length, getD, set}
+use Prim.Native.Nat.{_+_}
+use mathlib.Core.Path.{refl, ap}
+use lib.ListN.{getD, set}
 use Rattle.stores.proofs.ByteLoops.{hash-small}
-use borrow.Author.Needs.{needs}
 use Rattle.stores.proofs.name_index.enter.Statement.{statement}
 use Rattle.stores.proofs.name_index.enter.Tie as tie
-use Rattle.stores.proofs.name_index.enter.Reads as reads
-use Rattle.stores.proofs.name_index.enter.Lts as lts
-use Rattle.stores.proofs.name_index.hash.Reads as hash-reads
 
--- src/name_index.rt:94:9
 hash-requires : tie.Need-hash-requires
 hash-requires c κs = search needs
 
--- src/name_index.rt:95:20
 cast-starts : tie.Need-cast-starts
 cast-starts c = search needs
 
--- src/name_index.rt:95:5
 mul-starts : tie.Need-mul-starts
 mul-starts c = search needs
 
--- src/name_index.rt:95:5
 slice-write-starts : tie.Need-slice-write-starts
 slice-write-starts c = search needs
 
--- src/name_index.rt:96:18
 mul-next : tie.Need-mul-next
 mul-next c = omega (arith, c .hash .ensures, hash-small (c .before .before .before .before .before .args .name .now))
 
--- src/name_index.rt:96:18
 slice-read-next : tie.Need-slice-read-next
 slice-read-next c = omega (arith, c .before .hash .ensures, hash-small (c .before .before .before .before .before .before .args .name .now))
 
--- src/name_index.rt:96:5
 mul-next-2 : tie.Need-mul-next-2
 mul-next-2 c = search needs
 
--- src/name_index.rt:96:5
 slice-write-next : tie.Need-slice-write-next
 slice-write-next c = search needs
 
--- src/name_index.rt:97:17
 add-heads : tie.Need-add-heads
 add-heads c = search needs
 
--- src/name_index.rt:97:16
 cast-heads : tie.Need-cast-heads
 cast-heads c = search needs
 
--- src/name_index.rt:97:5
 mul-heads : tie.Need-mul-heads
 mul-heads c = omega (arith, c .before .hash .ensures, hash-small (c .before .before .before .before .before .before .args .name .now))
 
--- src/name_index.rt:97:5
 slice-write-heads : tie.Need-slice-write-heads
 slice-write-heads c = omega (arith, c .before .hash .ensures, hash-small (c .before .before .before .before .before .before .args .name .now))
 
--- src/name_index.rt:88:1
 same-length : tie.Need-same-length
 same-length c = search needs
 
--- src/name_index.rt:88:1
 same-length-2 : tie.Need-same-length-2
 same-length-2 c = search needs
 
--- src/name_index.rt:88:1
 same-length-3 : tie.Need-same-length-3
 same-length-3 c = search needs
 
--- src/name_index.rt:88:1
 returns : tie.Need-returns
 returns c =
     let a = c .before .before .before .before .before .before .args in

@@ -3,63 +3,46 @@ use Rattle.stores.proofs.NameEntries.{length-filled, filled, found-new,
 use borrow.Author.Needs.{needs}
 use Rattle.stores.proofs.name_index.enter_new.Statement.{statement}
 use Rattle.stores.proofs.name_index.enter_new.Tie as tie
-use Rattle.stores.proofs.name_index.enter_new.Reads as reads
-use Rattle.stores.proofs.name_index.enter_new.Lts as lts
-use Rattle.stores.proofs.name_index.enter.Reads as enter-reads
-use Rattle.stores.proofs.name_index.find.Reads as find-reads
 
--- src/name_index.rt:124:38
 slice-reshare-prefix-find : tie.Need-slice-reshare-prefix-find
 slice-reshare-prefix-find c = search needs
 
--- src/name_index.rt:124:38
 slice-aggregate-find : tie.Need-slice-aggregate-find
 slice-aggregate-find c = sym (length-filled (c .before .before .before .before .before .before .args .atom) (c .before .before .before .before .before .before .pre .0))
 
--- src/name_index.rt:124:26
 find-requires : tie.Need-find-requires
 find-requires c κs = filled (c .before .before .before .before .before .before .before .before .args .atom) (c .before .before .before .before .before .before .before .before .pre .0)
 
 enum-told : tie.Need-enum-told
 enum-told c = search needs
 
--- src/name_index.rt:125:9
 enum-told-2 : tie.Need-enum-told-2
 enum-told-2 c = search needs
 
--- src/name_index.rt:125:9
 same-length : tie.Need-same-length
 same-length c = search needs
 
--- src/name_index.rt:125:9
 same-length-2 : tie.Need-same-length-2
 same-length-2 c = search needs
 
--- src/name_index.rt:125:9
 same-length-3 : tie.Need-same-length-3
 same-length-3 c = search needs
 
--- src/name_index.rt:125:9
 returns : tie.Need-returns
 returns c = let a = c .before .before .before .before .before .before .before .before .before .before .before .args in (found-old (a .atom) (c .before .before .before .before .before .before .before .before .before .before .before .pre .0) (a .name .now) (c .before .before .find .ensures) (c .enum-told2 .given .1), (refl, (refl, refl)))
 
--- src/name_index.rt:127:5
 enter-requires : tie.Need-enter-requires
 enter-requires c κs = search needs
 
--- src/name_index.rt:108:1
 same-length-4 : tie.Need-same-length-4
 same-length-4 c = search needs
 
--- src/name_index.rt:108:1
 same-length-5 : tie.Need-same-length-5
 same-length-5 c = search needs
 
--- src/name_index.rt:108:1
 same-length-6 : tie.Need-same-length-6
 same-length-6 c = search needs
 
--- src/name_index.rt:108:1
 returns-2 : tie.Need-returns-2
 returns-2 c = let a = c .before .before .before .before .before .before .before .before .before .before .before .before .before .before .before .before .before .before .before .before .before .args in (found-new (a .atom) (c .before .before .before .before .before .before .before .before .before .before .before .before .before .before .before .before .before .before .before .before .before .pre .0) (a .name .now) (c .before .before .before .before .before .before .before .before .before .before .before .before .find .ensures) (c .before .before .before .before .before .before .before .before .before .before .enum-told .given .1), c .before .before .before .before .before .before .enter .ensures)
 

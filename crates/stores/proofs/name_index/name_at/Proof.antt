@@ -1,56 +1,40 @@
 use borrow.Author.Needs.{needs}
 use native.Mathlib.Omega.{arith}
-use Prim.Native.Nat.{_-_, _+_}
-use mathlib.Core.Path.{sym, ap, _∙_}
-use lib.ListN.{length, getD}
+use lib.ListN.{getD}
 use Rattle.stores.proofs.NamePlaces.{by-number, part-here}
-use borrow.Author.Needs.{needs}
 use Rattle.stores.proofs.name_index.name_at.Statement.{statement}
 use Rattle.stores.proofs.name_index.name_at.Tie as tie
-use Rattle.stores.proofs.name_index.name_at.Reads as reads
-use Rattle.stores.proofs.name_index.name_at.Lts as lts
 
--- src/name_index.rt:65:14
 mul-at : tie.Need-mul-at
 mul-at c = search needs
 
--- src/name_index.rt:65:14
 shared-slice-read-at : tie.Need-shared-slice-read-at
 shared-slice-read-at c = search needs
 
--- src/name_index.rt:65:14
 cast-at : tie.Need-cast-at
 cast-at c = omega (arith, c .shared-slice-known .given (c .before .args .atom))
 
--- src/name_index.rt:66:16
 add-from : tie.Need-add-from
 add-from c = omega (arith, by-number (c .before .args .bytes .now) (c .before .args .starts .now) (c .before .args .atom) (c .before .pre .0) (c .before .pre .1))
 
--- src/name_index.rt:67:21
 shared-slice-read-to : tie.Need-shared-slice-read-to
 shared-slice-read-to c = omega (arith, by-number (c .before .before .args .bytes .now) (c .before .before .args .starts .now) (c .before .before .args .atom) (c .before .before .pre .0) (c .before .before .pre .1))
 
--- src/name_index.rt:67:21
 cast-to : tie.Need-cast-to
 cast-to c = omega (arith, c .shared-slice-known2 .given (getD (c .before .before .args .starts .now) (c .before .before .args .atom) 0))
 
--- src/name_index.rt:67:14
 add-to : tie.Need-add-to
 add-to c = omega (arith, by-number (c .before .before .args .bytes .now) (c .before .before .args .starts .now) (c .before .before .args .atom) (c .before .before .pre .0) (c .before .before .pre .1))
 
--- src/name_index.rt:68:5
 sub-result : tie.Need-sub-result
 sub-result c = search needs
 
--- src/name_index.rt:68:5
 part-result-start : tie.Need-part-result-start
 part-result-start c = search needs
 
--- src/name_index.rt:68:5
 part-result-end : tie.Need-part-result-end
 part-result-end c = omega (arith, by-number (c .before .before .args .bytes .now) (c .before .before .args .starts .now) (c .before .before .args .atom) (c .before .before .pre .0) (c .before .before .pre .1))
 
--- src/name_index.rt:61:1
 returns : tie.Need-returns
 returns c = part-here (by-number (c .before .before .before .args .bytes .now) (c .before .before .before .args .starts .now) (c .before .before .before .args .atom) (c .before .before .before .pre .0) (c .before .before .before .pre .1))
 

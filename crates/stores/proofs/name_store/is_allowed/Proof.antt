@@ -3,20 +3,13 @@ use Rattle.stores.specs.Names.{allowed, takes}
 use borrow.Author.Needs.{needs}
 use Rattle.stores.proofs.name_store.is_allowed.Statement.{statement}
 use Rattle.stores.proofs.name_store.is_allowed.Tie as tie
-use Rattle.stores.proofs.name_store.is_allowed.Reads as reads
-use Rattle.stores.proofs.name_store.is_allowed.Lts as lts
-use Rattle.stores.proofs.names.name_class.Reads as name-class-reads
-use Rattle.stores.proofs.names.takes_class.Reads as takes-class-reads
 
--- src/name_store.rt:18:37
 name-class-requires : tie.Need-name-class-requires
 name-class-requires c κs = search needs
 
--- src/name_store.rt:18:5
 takes-class-requires : tie.Need-takes-class-requires
 takes-class-requires c κs = search needs
 
--- src/name_store.rt:15:1
 returns : tie.Need-returns
 unfolding allowed
 returns c = c .takes-class .ensures ∙ ap (takes (c .before .before .before .args .kind)) (c .before .name-class .ensures)

@@ -2,8 +2,7 @@ use Rattle.writer.proofs.AtomItems.{run-next, run-ends}
 use Rattle.writer.proofs.Emitting.{Emitting, start, turn, finish, range-here, length-kept}
 use Rattle.writer.specs.Items.{storedNames, atomItems}
 use Rattle.rules.specs.Lists.{from}
-use lib.ListN.{length}
-use Prim.Native.Nat.{_≤_, _-_}
+use Prim.Native.Nat.{_-_}
 use borrow.Author.Needs.{needs}
 use Rattle.writer.proofs.atoms.emit_run.Statement.{statement}
 use Rattle.writer.proofs.atoms.emit_run.Tie as tie

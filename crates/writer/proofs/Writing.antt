@@ -1,0 +1,158 @@
+-- What the writer answers and leaves, from what its parts did.
+use Prim.Native.Nat.{ℕ, _+_, _*_, _≤_, _<_}
+use native.Mathlib.Nat.{zero-add}
+use native.Mathlib.Omega.{arith}
+use mathlib.Core.Path.{_≡_, refl, sym, ap, _∙_, subst}
+use mathlib.Core.Bool.{Bool, true, false}
+use mathlib.Core.List.{List, [], _∷_, _++_}
+use lib.Dec.{T}
+use lib.ListN.{length, getD, take, drop, length-append}
+use lib.Seq.{take-at, length-take-le, sets-eq}
+use borrow.Author.Tests.{le-leb, lt-leb}
+use Rattle.kinds.specs.declared.limits.Kind.{Kind}
+use Rattle.kinds.specs.declared.refusals.Refusal.the-variants.{Output, RuleStore, NameStore}
+use Rattle.rules.specs.Lists.{All}
+use Rattle.rules.proofs.Lists.{all-imp}
+use Rattle.stores.specs.Names.{allowed}
+use Rattle.stores.specs.RuleStore.{StoreOf, decode, ruleStore, store?}
+use Rattle.stores.specs.NameStore.{encodeNames, NamesOf, decodeNames, names?}
+use Rattle.stores.specs.NameIndex.{Placed}
+use Rattle.stores.specs.declared.rule_store.RuleStore.the-variants.{Of, Refused as NoStore}
+use Rattle.stores.proofs.NameStores.{allowed-short, decoded-names}
+use Rattle.stores.proofs.RuleStores.{store-law, of-kind, refused}
+use Rattle.stores.proofs.StoreHeader.{atoms-small}
+use Rattle.writer.specs.Text.{textOf}
+use Rattle.writer.specs.Emitted.{Emitted}
+use Rattle.writer.specs.Items.{storedNames, StoredNames}
+use Rattle.writer.specs.Sources.{Sources, sourceText}
+use Rattle.writer.specs.Answers.{fitted, fittedOutput, storesText, writeAnswer, writeOutput}
+use Rattle.writer.specs.declared.Written.{Written}
+use Rattle.writer.specs.declared.Written.the-variants.{Text, Refused}
+use Rattle.writer.proofs.TextLength.{text-fits}
+
+-- counted, then refused or written
+module _ {none none′ w : List ℕ} {size : ℕ} (e : Emitted none 0 w none′ size) where
+  pub too-short : (d : List ℕ) → length d < size → (Refused Output ≡ fitted w (length d)) × (d ≡ fittedOutput w d)
+  too-short d l = let t = lt-leb (length w) (length d) (omega (arith, e .place)) in (rw t, rw t)
+
+  pub written : {d d′ : List ℕ} {size′ : ℕ} → size ≤ length d → Emitted d 0 w d′ size′ → (Text size ≡ fitted w (length d)) × (d′ ≡ fittedOutput w d)
+  written {d} l p =
+      let t = le-leb (length w) (length d) (omega (arith, e .place)) in
+      let c : 0 + length w ≤ length d = omega (arith, e .place) in (
+        rw t (ap Text (e .place ∙ zero-add (length w))),
+        rw t (p .bytes ∙ sets-eq w d 0 c ∙ ap (λ (m : ℕ). w ++ drop m d) (zero-add (length w))),
+      )
+
+-- a name store of short names is short
+encoded-length : (names : List (List ℕ)) → All (λ x. length x ≤ 18) names → length (encodeNames names) ≤ 19 * length names
+unfolding encodeNames
+encoded-length [] h = omega arith
+encoded-length (x ∷ names) h = omega (arith, length-append x (encodeNames names), encoded-length names (h .1), h .0)
+
+-- two stores of the form
+module _ {rules names : List ℕ} (s : StoreOf rules (decode rules)) (m : NamesOf names (decode rules .kind) (decode rules .atoms) (decodeNames (decode rules .atoms) names)) where
+  pub few-atoms : getD rules 1 0 ≤ 1100
+  unfolding decode
+  few-atoms = omega (arith, s .form .atoms-fit, atoms-small (decode rules .kind))
+
+  names-short : length names ≤ 65536
+  names-short =
+      let all = decodeNames (decode rules .atoms) names in
+      let short = all-imp (λ x. T (allowed (decode rules .kind) x)) (λ x. length x ≤ 18) (allowed-short (decode rules .kind)) all (m .form .all-allowed) in
+      omega (arith, encoded-length all short, ap length (m .bytes), m .form .count, s .form .atoms-fit, atoms-small (decode rules .kind))
+
+  module _ (starts : List ℕ) (n : length starts ≡ getD rules 1 0) where
+    counts : decode rules .atoms ≡ length starts
+    unfolding decode
+    counts = sym n
+
+    pub names-stored : StoredNames names starts
+    names-stored = record { whole = subst (λ (c : ℕ). encodeNames (decodeNames c names) ≡ names) counts (m .bytes); short = names-short }
+
+    pub text-same : sourceText rules names starts ≡ storesText rules names
+    unfolding sourceText storesText
+    text-same = ap (λ (c : ℕ). textOf (decode rules) (decodeNames c names)) (sym counts)
+
+    pub sources : Placed (storedNames names starts) names starts → Sources rules names starts
+    unfolding storesText
+    sources p = record { store = s; count = sym counts; placed = p; range = record { below = omega (arith, text-fits (s .form) (m .form), ap length text-same) } }
+
+  -- the table: its front is filled, and handed on
+  module _ (table : List ℕ) (room : 1100 ≤ length table) where
+    pub front-inside : getD rules 1 0 ≤ length table
+    front-inside = omega (arith, few-atoms)
+
+    pub front-length : length (take (getD rules 1 0) table) ≡ getD rules 1 0
+    front-length = length-take-le (getD rules 1 0) table front-inside
+
+    pub front-stored : StoredNames names (take (getD rules 1 0) table)
+    front-stored = names-stored (take (getD rules 1 0) table) front-length
+
+    module _ (filled : List ℕ) (k : length filled ≡ length (take (getD rules 1 0) table)) where
+      abbrev handed : List ℕ
+      handed = take (getD rules 1 0) (filled ++ drop (getD rules 1 0) table)
+
+      filled-handed : filled ≡ handed
+      filled-handed = sym (take-at filled (drop (getD rules 1 0) table) (getD rules 1 0) (k ∙ front-length))
+
+      pub table-inside : getD rules 1 0 ≤ length (filled ++ drop (getD rules 1 0) table)
+      table-inside = omega (arith, length-append filled (drop (getD rules 1 0) table), k, front-length)
+
+      pub handed-length : length handed ≡ getD rules 1 0
+      handed-length = ap length (sym filled-handed) ∙ k ∙ front-length
+
+      pub handed-sources : Placed (storedNames names (take (getD rules 1 0) table)) names filled → Sources rules names handed
+      handed-sources p =
+          sources handed handed-length
+          (subst (λ (f : List ℕ). Placed (storedNames names f) names f) filled-handed
+          (subst (λ (n : ℕ). Placed (decodeNames n names) names filled) (sym k) p))
+
+      pub handed-answer : (before : List ℕ) {r : Written} {after : List ℕ} → (r ≡ fitted (sourceText rules names handed) (length before)) × (after ≡ fittedOutput (sourceText rules names handed) before)
+          → (r ≡ fitted (storesText rules names) (length before)) × (after ≡ fittedOutput (storesText rules names) before)
+      handed-answer before h =
+          let e = text-same handed handed-length in
+          (h .0 ∙ ap (λ (t : List ℕ). fitted t (length before)) e, h .1 ∙ ap (λ (t : List ℕ). fittedOutput t before) e)
+
+-- the refusals, in their order
+
+store-true : (b : Bool) → T b → b ≡ true
+store-true true h = refl
+store-true false h = absurd h
+
+store-false : (b : Bool) → (T b → ⊥) → b ≡ false
+store-false true h = absurd (h tt)
+store-false false h = refl
+
+module _ (rules names before : List ℕ) where
+  pub no-store : ruleStore rules ≡ NoStore → (Refused RuleStore ≡ writeAnswer rules names (length before)) × (before ≡ writeOutput rules names before)
+  unfolding writeAnswer writeOutput
+  no-store e = let t : store? rules ≡ false = store-false (store? rules) (refused rules .0 e) in (rw t, rw t)
+
+  module _ (kind : Kind) (e : ruleStore rules ≡ Of kind) where
+    pub store-here : StoreOf rules (decode rules)
+    store-here = of-kind rules kind e .0
+
+    is-store : store? rules ≡ true
+    is-store = store-true (store? rules) (store-law rules .1 (decode rules, store-here))
+
+    pub atoms-fit : getD rules 1 0 ≤ 1100
+    unfolding decode
+    atoms-fit = omega (arith, store-here .form .atoms-fit, atoms-small (decode rules .kind))
+
+    module _ (b : Bool) (f : b ≡ names? kind (getD rules 1 0) names) where
+      fits : names? (decode rules .kind) (decode rules .atoms) names ≡ b
+      unfolding decode
+      fits = ap (λ (k : Kind). names? k (getD rules 1 0) names) (of-kind rules kind e .1) ∙ sym f
+
+      pub no-names : b ≡ false → (Refused NameStore ≡ writeAnswer rules names (length before)) × (before ≡ writeOutput rules names before)
+      unfolding writeAnswer writeOutput
+      no-names g = let t = fits ∙ g in (rw (is-store, t), rw (is-store, t))
+
+      module _ (g : b ≡ true) where
+        pub both-stores : StoreOf rules (decode rules) × NamesOf names (decode rules .kind) (decode rules .atoms) (decodeNames (decode rules .atoms) names)
+        both-stores = (store-here, decoded-names (decode rules .kind) (decode rules .atoms) names (subst T (sym (fits ∙ g)) tt))
+
+        pub answered : {r : Written} {after : List ℕ} → (r ≡ fitted (storesText rules names) (length before)) × (after ≡ fittedOutput (storesText rules names) before)
+            → (r ≡ writeAnswer rules names (length before)) × (after ≡ writeOutput rules names before)
+        unfolding writeAnswer writeOutput
+        answered h = let t = fits ∙ g in (rw (is-store, t) (h .0), rw (is-store, t) (h .1))
