@@ -3,3 +3,7 @@ pub mod Roles
 pub mod StepLaws
 pub mod RuleSteps
 pub mod ClassSteps
+pub mod StoreWords
+pub mod FileStore
+pub mod NameLaws
+pub mod FileNames

@@ -4,5 +4,6 @@ mod classes;
 mod offsets;
 mod rule_steps;
 mod steps;
+mod translated_names;
 mod translated_rules;
 mod words;

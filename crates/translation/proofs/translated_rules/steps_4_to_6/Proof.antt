@@ -1,31 +1,26 @@
+use Rattle.translation.proofs.RuleSteps.{in-front}
+use Rattle.writer.proofs.AtomItems.{last-run}
+use Rattle.writer.proofs.Emitting.{start, turn, finish, range-begin, range-here}
+use mathlib.Core.Path.{refl}
+use native.Mathlib.Omega.{arith}
 use borrow.Author.Needs.{needs}
 use Rattle.translation.proofs.translated_rules.steps_4_to_6.Statement.{statement}
 use Rattle.translation.proofs.translated_rules.steps_4_to_6.Tie as tie
-use Rattle.translation.proofs.translated_rules.steps_4_to_6.Reads as reads
-use Rattle.translation.proofs.translated_rules.steps_4_to_6.Lts as lts
-use Rattle.translation.proofs.class_steps.step5.Reads as step5-reads
-use Rattle.translation.proofs.steps.step4.Reads as step4-reads
-use Rattle.translation.proofs.steps.step6.Reads as step6-reads
 
--- src/translated_rules.rt:36:9
 step4-requires : tie.Need-step4-requires
-step4-requires c κs = ?
+step4-requires c κs = range-begin (c .before .before .before .pre .1) (in-front _ _)
 
--- src/translated_rules.rt:37:9
 step5-requires : tie.Need-step5-requires
-step5-requires c κs = ?
+step5-requires c κs = (omega (arith, c .before .before .before .before .before .before .before .pre .0 .atoms, c .before .before .before .before .before .before .before .pre .0 .small .n-fits), c .before .before .before .before .before .before .before .pre .0 .first .low, c .before .before .before .before .before .before .before .pre .0 .rising, c .before .before .before .before .before .before .before .pre .0 .classes, c .before .before .before .before .before .before .before .pre .0 .small, range-here (turn (start (c .before .before .before .before .before .before .before .pre .1)) (in-front _ _) (c .before .before .before .step4 .ensures)) (in-front _ _))
 
--- src/translated_rules.rt:38:5
 step6-requires : tie.Need-step6-requires
-step6-requires c κs = ?
+step6-requires c κs = (omega (arith, c .before .before .before .before .before .before .before .before .before .before .before .pre .0 .atoms, c .before .before .before .before .before .before .before .before .before .before .before .pre .0 .small .n-fits), c .before .before .before .before .before .before .before .before .before .before .before .pre .0 .first, c .before .before .before .before .before .before .before .before .before .before .before .pre .0 .small, range-here (turn (turn (start (c .before .before .before .before .before .before .before .before .before .before .before .pre .1)) (in-front _ _) (c .before .before .before .before .before .before .before .step4 .ensures)) (in-front _ _) (c .before .before .before .step5 .ensures)) (last-run _))
 
--- src/translated_rules.rt:32:1
 same-length : tie.Need-same-length
 same-length c = search needs
 
--- src/translated_rules.rt:32:1
 returns : tie.Need-returns
-returns c = ?
+returns c = finish (turn (turn (turn (start (c .before .before .before .before .before .before .before .before .before .before .before .before .before .before .pre .1)) (in-front _ _) (c .before .before .before .before .before .before .before .before .before .before .step4 .ensures)) (in-front _ _) (c .before .before .before .before .before .before .step5 .ensures)) (last-run _) (c .before .before .step6 .ensures)) refl
 
 pub steps-4-to-6-spec : {M : Type 1} → statement M
 steps-4-to-6-spec =

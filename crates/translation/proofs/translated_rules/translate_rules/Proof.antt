@@ -1,133 +1,101 @@
+use Rattle.translation.proofs.FileStore.{few-atoms, few-classes, few-rules, long, few-words, low, few-m, few-q, small, file-fits, classes-fit, header-ahead, store-range}
+use Rattle.writer.proofs.AtomItems.{last-run}
+use Rattle.writer.proofs.Emitting.{start, turn, finish, range-begin, range-here}
+use mathlib.Core.Path.{refl}
+use native.Mathlib.Omega.{arith}
 use borrow.Author.Needs.{needs}
 use Rattle.translation.proofs.translated_rules.translate_rules.Statement.{statement}
 use Rattle.translation.proofs.translated_rules.translate_rules.Tie as tie
-use Rattle.translation.proofs.translated_rules.translate_rules.Reads as reads
-use Rattle.translation.proofs.translated_rules.translate_rules.Lts as lts
-use Rattle.translation.proofs.classes.count_minimised.Reads as count-minimised-reads
-use Rattle.translation.proofs.classes.count_unfixed.Reads as count-unfixed-reads
-use Rattle.translation.proofs.offsets.numbered.Reads as numbered-reads
-use Rattle.translation.proofs.translated_rules.emit_steps.Reads as emit-steps-reads
-use Rattle.translation.proofs.words.emit.Reads as emit-reads
 
--- src/translated_rules.rt:66:17
 shared-slice-read-atoms : tie.Need-shared-slice-read-atoms
-shared-slice-read-atoms c = ?
+shared-slice-read-atoms c = omega (arith, long (c .before .before .before .pre))
 
--- src/translated_rules.rt:67:13
 shared-slice-read-k : tie.Need-shared-slice-read-k
-shared-slice-read-k c = ?
+shared-slice-read-k c = omega (arith, long (c .before .before .before .before .pre))
 
--- src/translated_rules.rt:68:17
 shared-slice-read-count : tie.Need-shared-slice-read-count
-shared-slice-read-count c = ?
+shared-slice-read-count c = omega (arith, long (c .before .before .before .before .before .pre))
 
--- src/translated_rules.rt:69:21
 cast-start : tie.Need-cast-start
-cast-start c = ?
+cast-start c = omega (arith, few-atoms (c .before .before .before .before .before .pre))
 
--- src/translated_rules.rt:69:17
 add-start : tie.Need-add-start
-add-start c = ?
+add-start c = omega (arith, few-atoms (c .before .before .before .before .before .pre))
 
--- src/translated_rules.rt:70:19
 sub-classes : tie.Need-sub-classes
 sub-classes c = search needs
 
--- src/translated_rules.rt:70:19
 part-classes-start : tie.Need-part-classes-start
 part-classes-start c = search needs
 
--- src/translated_rules.rt:70:19
 part-classes-end : tie.Need-part-classes-end
-part-classes-end c = ?
+part-classes-end c = omega (arith, long (c .before .before .before .before .before .pre))
 
--- src/translated_rules.rt:71:9
 count-minimised-requires : tie.Need-count-minimised-requires
-count-minimised-requires c κs = ?
+count-minimised-requires c κs = (few-words (c .before .before .before .before .before .before .pre), low (c .before .before .before .before .before .before .pre))
 
--- src/translated_rules.rt:72:9
 count-unfixed-requires : tie.Need-count-unfixed-requires
-count-unfixed-requires c κs = ?
+count-unfixed-requires c κs = few-words (c .before .before .before .before .before .before .before .pre)
 
--- src/translated_rules.rt:73:9
 numbered-requires : tie.Need-numbered-requires
-numbered-requires c κs = ?
+numbered-requires c κs = (few-atoms (c .before .before .before .before .before .before .before .before .pre), few-classes (c .before .before .before .before .before .before .before .before .pre), few-m (c .before .before .before .before .before .before .before .before .pre) (c .before .count-minimised .ensures) (c .count-unfixed .ensures), few-q (c .before .before .before .before .before .before .before .before .pre) (c .before .count-minimised .ensures) (c .count-unfixed .ensures))
 
--- src/translated_rules.rt:74:22
 add-t14 : tie.Need-add-t14
-add-t14 c = ?
+add-t14 c = omega (arith, small (c .before .before .before .before .before .before .before .before .before .before .pre) (c .before .before .before .count-minimised .ensures) (c .before .before .count-unfixed .ensures) (c .before .numbered .ensures) .u-fits)
 
--- src/translated_rules.rt:74:34
 mul-t20 : tie.Need-mul-t20
-mul-t20 c = ?
+mul-t20 c = omega (arith, few-atoms (c .before .before .before .before .before .before .before .before .before .before .pre), few-classes (c .before .before .before .before .before .before .before .before .before .before .pre), few-rules (c .before .before .before .before .before .before .before .before .before .before .pre), few-m (c .before .before .before .before .before .before .before .before .before .before .pre) (c .before .before .before .count-minimised .ensures) (c .before .before .count-unfixed .ensures), few-q (c .before .before .before .before .before .before .before .before .before .before .pre) (c .before .before .before .count-minimised .ensures) (c .before .before .count-unfixed .ensures))
 
--- src/translated_rules.rt:74:34
 add-t21 : tie.Need-add-t21
-add-t21 c = ?
+add-t21 c = omega (arith, few-atoms (c .before .before .before .before .before .before .before .before .before .before .pre), few-classes (c .before .before .before .before .before .before .before .before .before .before .pre), few-rules (c .before .before .before .before .before .before .before .before .before .before .pre), few-m (c .before .before .before .before .before .before .before .before .before .before .pre) (c .before .before .before .count-minimised .ensures) (c .before .before .count-unfixed .ensures), few-q (c .before .before .before .before .before .before .before .before .before .before .pre) (c .before .before .before .count-minimised .ensures) (c .before .before .count-unfixed .ensures))
 
--- src/translated_rules.rt:74:56
 mul-t22 : tie.Need-mul-t22
-mul-t22 c = ?
+mul-t22 c = omega (arith, few-atoms (c .before .before .before .before .before .before .before .before .before .before .pre), few-classes (c .before .before .before .before .before .before .before .before .before .before .pre), few-rules (c .before .before .before .before .before .before .before .before .before .before .pre), few-m (c .before .before .before .before .before .before .before .before .before .before .pre) (c .before .before .before .count-minimised .ensures) (c .before .before .count-unfixed .ensures), few-q (c .before .before .before .before .before .before .before .before .before .before .pre) (c .before .before .before .count-minimised .ensures) (c .before .before .count-unfixed .ensures))
 
--- src/translated_rules.rt:74:34
 add-t23 : tie.Need-add-t23
-add-t23 c = ?
+add-t23 c = omega (arith, few-atoms (c .before .before .before .before .before .before .before .before .before .before .pre), few-classes (c .before .before .before .before .before .before .before .before .before .before .pre), few-rules (c .before .before .before .before .before .before .before .before .before .before .pre), few-m (c .before .before .before .before .before .before .before .before .before .before .pre) (c .before .before .before .count-minimised .ensures) (c .before .before .count-unfixed .ensures), few-q (c .before .before .before .before .before .before .before .before .before .before .pre) (c .before .before .before .count-minimised .ensures) (c .before .before .count-unfixed .ensures))
 
--- src/translated_rules.rt:74:68
 mul-t24 : tie.Need-mul-t24
-mul-t24 c = ?
+mul-t24 c = omega (arith, few-atoms (c .before .before .before .before .before .before .before .before .before .before .pre), few-classes (c .before .before .before .before .before .before .before .before .before .before .pre), few-rules (c .before .before .before .before .before .before .before .before .before .before .pre), few-m (c .before .before .before .before .before .before .before .before .before .before .pre) (c .before .before .before .count-minimised .ensures) (c .before .before .count-unfixed .ensures), few-q (c .before .before .before .before .before .before .before .before .before .before .pre) (c .before .before .before .count-minimised .ensures) (c .before .before .count-unfixed .ensures))
 
--- src/translated_rules.rt:74:34
 add-t25 : tie.Need-add-t25
-add-t25 c = ?
+add-t25 c = omega (arith, few-atoms (c .before .before .before .before .before .before .before .before .before .before .pre), few-classes (c .before .before .before .before .before .before .before .before .before .before .pre), few-rules (c .before .before .before .before .before .before .before .before .before .before .pre), few-m (c .before .before .before .before .before .before .before .before .before .before .pre) (c .before .before .before .count-minimised .ensures) (c .before .before .count-unfixed .ensures), few-q (c .before .before .before .before .before .before .before .before .before .before .pre) (c .before .before .before .count-minimised .ensures) (c .before .before .count-unfixed .ensures))
 
--- src/translated_rules.rt:74:84
 mul-t26 : tie.Need-mul-t26
-mul-t26 c = ?
+mul-t26 c = omega (arith, few-atoms (c .before .before .before .before .before .before .before .before .before .before .pre), few-classes (c .before .before .before .before .before .before .before .before .before .before .pre), few-rules (c .before .before .before .before .before .before .before .before .before .before .pre), few-m (c .before .before .before .before .before .before .before .before .before .before .pre) (c .before .before .before .count-minimised .ensures) (c .before .before .count-unfixed .ensures), few-q (c .before .before .before .before .before .before .before .before .before .before .pre) (c .before .before .before .count-minimised .ensures) (c .before .before .count-unfixed .ensures))
 
--- src/translated_rules.rt:74:34
 add-t27 : tie.Need-add-t27
-add-t27 c = ?
+add-t27 c = omega (arith, few-atoms (c .before .before .before .before .before .before .before .before .before .before .pre), few-classes (c .before .before .before .before .before .before .before .before .before .before .pre), few-rules (c .before .before .before .before .before .before .before .before .before .before .pre), few-m (c .before .before .before .before .before .before .before .before .before .before .pre) (c .before .before .before .count-minimised .ensures) (c .before .before .count-unfixed .ensures), few-q (c .before .before .before .before .before .before .before .before .before .before .pre) (c .before .before .before .count-minimised .ensures) (c .before .before .count-unfixed .ensures))
 
--- src/translated_rules.rt:74:34
 add-t28 : tie.Need-add-t28
-add-t28 c = ?
+add-t28 c = omega (arith, few-atoms (c .before .before .before .before .before .before .before .before .before .before .pre), few-classes (c .before .before .before .before .before .before .before .before .before .before .pre), few-rules (c .before .before .before .before .before .before .before .before .before .before .pre), few-m (c .before .before .before .before .before .before .before .before .before .before .pre) (c .before .before .before .count-minimised .ensures) (c .before .before .count-unfixed .ensures), few-q (c .before .before .before .before .before .before .before .before .before .before .pre) (c .before .before .before .count-minimised .ensures) (c .before .before .count-unfixed .ensures))
 
--- src/translated_rules.rt:75:21
 slice-aggregate-emit : tie.Need-slice-aggregate-emit
 slice-aggregate-emit c = search needs
 
--- src/translated_rules.rt:75:9
 emit-requires : tie.Need-emit-requires
-emit-requires c κs = search needs
+emit-requires c κs = range-begin (store-range (c .before .before .before .before .before .before .before .before .before .before .before .before .pre)) (header-ahead (c .before .before .before .before .before .before .before .before .before .before .before .before .pre) (c .before .before .before .before .before .count-minimised .ensures) (c .before .before .before .before .count-unfixed .ensures) (c .before .before .before .numbered .ensures))
 
--- src/translated_rules.rt:76:25
 mul-emit-steps : tie.Need-mul-emit-steps
-mul-emit-steps c = ?
+mul-emit-steps c = omega (arith, long (c .before .before .before .before .before .before .before .before .before .before .before .before .before .before .before .pre))
 
--- src/translated_rules.rt:76:25
 sub-emit-steps : tie.Need-sub-emit-steps
-sub-emit-steps c = ?
+sub-emit-steps c = omega (arith, long (c .before .before .before .before .before .before .before .before .before .before .before .before .before .before .before .pre))
 
--- src/translated_rules.rt:76:25
 part-emit-steps-start : tie.Need-part-emit-steps-start
-part-emit-steps-start c = ?
+part-emit-steps-start c = omega (arith, long (c .before .before .before .before .before .before .before .before .before .before .before .before .before .before .before .pre))
 
--- src/translated_rules.rt:76:25
 part-emit-steps-end : tie.Need-part-emit-steps-end
 part-emit-steps-end c = search needs
 
--- src/translated_rules.rt:76:5
 emit-steps-requires : tie.Need-emit-steps-requires
-emit-steps-requires c κs = ?
+emit-steps-requires c κs = (file-fits (c .before .before .before .before .before .before .before .before .before .before .before .before .before .before .before .before .before .pre) (c .before .before .before .before .before .before .before .before .before .before .count-minimised .ensures) (c .before .before .before .before .before .before .before .before .before .count-unfixed .ensures) (c .before .before .before .before .before .before .before .before .numbered .ensures), classes-fit (c .before .before .before .before .before .before .before .before .before .before .before .before .before .before .before .before .before .pre) (c .before .before .before .before .before .before .before .before .before .before .count-minimised .ensures) (c .before .before .before .before .before .before .before .before .before .count-unfixed .ensures) (c .before .before .before .before .before .before .before .before .numbered .ensures), range-here (turn (start (store-range (c .before .before .before .before .before .before .before .before .before .before .before .before .before .before .before .before .before .pre))) (header-ahead (c .before .before .before .before .before .before .before .before .before .before .before .before .before .before .before .before .before .pre) (c .before .before .before .before .before .before .before .before .before .before .count-minimised .ensures) (c .before .before .before .before .before .before .before .before .before .count-unfixed .ensures) (c .before .before .before .before .before .before .before .before .numbered .ensures)) (c .before .before .before .before .emit .ensures)) (last-run _))
 
--- src/translated_rules.rt:62:1
 same-length : tie.Need-same-length
 same-length c = search needs
 
--- src/translated_rules.rt:62:1
 returns : tie.Need-returns
-returns c = ?
+returns c = finish (turn (turn (start (store-range (c .before .before .before .before .before .before .before .before .before .before .before .before .before .before .before .before .before .before .before .before .pre))) (header-ahead (c .before .before .before .before .before .before .before .before .before .before .before .before .before .before .before .before .before .before .before .before .pre) (c .before .before .before .before .before .before .before .before .before .before .before .before .before .count-minimised .ensures) (c .before .before .before .before .before .before .before .before .before .before .before .before .count-unfixed .ensures) (c .before .before .before .before .before .before .before .before .before .before .before .numbered .ensures)) (c .before .before .before .before .before .before .before .emit .ensures)) (last-run _) (c .before .before .emit-steps .ensures)) refl
 
 pub translate-rules-spec : {M : Type 1} → statement M
 translate-rules-spec =
