@@ -7,3 +7,4 @@ pub mod StoreWords
 pub mod FileStore
 pub mod NameLaws
 pub mod FileNames
+pub mod Translating

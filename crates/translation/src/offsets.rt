@@ -20,5 +20,11 @@ pub fn numbered(atoms: u16, classes: u16, minimised: u16, unfixed: u16) -> Offse
     let d = s + unfixed;
     let e = d + minimised;
     let u = e + (classes + 1);
-    Offsets { n: atoms, s: s, d: d, e: e, u: u }
+    Offsets {
+        n: atoms,
+        s: s,
+        d: d,
+        e: e,
+        u: u,
+    }
 }

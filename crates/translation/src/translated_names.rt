@@ -68,7 +68,15 @@ fn end_names(k: u8, out: &mut [u8], at: usize) -> usize
 }
 
 // All N., S. of the unfixed, D. of the minimised, which are the first ones, E.0 to E.k, U.
-fn generated_names(names: &[u8], atoms: u16, unfixed: u16, minimised: u16, k: u8, out: &mut [u8], at: usize) -> usize
+fn generated_names(
+    names: &[u8],
+    atoms: u16,
+    unfixed: u16,
+    minimised: u16,
+    k: u8,
+    out: &mut [u8],
+    at: usize,
+) -> usize
     requires { ⌜ FileNames atoms (now names) × FileNames unfixed (now names) × FileNames minimised (now names) × (k ≤ 16) × InRange at (generatedBytes (now names) atoms unfixed minimised k) ⌝ }
     ensures { λ r. ⌜ Emitted (now (out .entry)) at (generatedBytes (now (names .entry)) atoms unfixed minimised k) (now (out .exit)) r ⌝ }
 {

@@ -9,8 +9,8 @@ use crate::rule_steps::step3;
 use crate::steps::step1;
 use crate::steps::step4;
 use crate::steps::step6;
-use crate::steps::step789;
 use crate::steps::step10;
+use crate::steps::step789;
 use crate::words::emit;
 ghost use Prim.Native.Nat.{_≤_};
 ghost use Rattle.stores.specs.RuleStore.{decode, rulesFrom, encode};
@@ -20,7 +20,14 @@ ghost use Rattle.translation.specs.Offsets.{Small, FileFits, ClassesFit}
 ghost use Rattle.translation.specs.StepWords.{fileWords, classWords, lastWords, stepWords};
 ghost use Rattle.translation.specs.PreferenceStore.{PreferenceStore};
 
-fn steps_1_to_3(classes: &[u16], rules: &[u16], count: u16, o: Offsets, out: &mut [u16], at: usize) -> usize
+fn steps_1_to_3(
+    classes: &[u16],
+    rules: &[u16],
+    count: u16,
+    o: Offsets,
+    out: &mut [u16],
+    at: usize,
+) -> usize
     requires { ⌜ FileFits (now classes) (now rules) count o × InRange at (fileWords (now classes) (rulesFrom count (now rules)) o) ⌝ }
     ensures { λ r. ⌜ Emitted (now (out .entry)) at (fileWords (now (classes .entry)) (rulesFrom count (now (rules .entry))) o) (now (out .exit)) r ⌝ }
 {
@@ -29,7 +36,14 @@ fn steps_1_to_3(classes: &[u16], rules: &[u16], count: u16, o: Offsets, out: &mu
     step3(rules, count, classes, o.s, o.u, out, third)
 }
 
-fn steps_4_to_6(classes: &[u16], k: u16, minimised: u16, o: Offsets, out: &mut [u16], at: usize) -> usize
+fn steps_4_to_6(
+    classes: &[u16],
+    k: u16,
+    minimised: u16,
+    o: Offsets,
+    out: &mut [u16],
+    at: usize,
+) -> usize
     requires { ⌜ ClassesFit (now classes) k minimised o × InRange at (classWords (now classes) k minimised o) ⌝ }
     ensures { λ r. ⌜ Emitted (now (out .entry)) at (classWords (now (classes .entry)) k minimised o) (now (out .exit)) r ⌝ }
 {
@@ -49,7 +63,16 @@ fn steps_7_to_10(k: u16, o: Offsets, out: &mut [u16], at: usize) -> usize
 }
 
 // The rules of all steps.
-fn emit_steps(classes: &[u16], rules: &[u16], count: u16, k: u16, minimised: u16, o: Offsets, out: &mut [u16], at: usize) -> usize
+fn emit_steps(
+    classes: &[u16],
+    rules: &[u16],
+    count: u16,
+    k: u16,
+    minimised: u16,
+    o: Offsets,
+    out: &mut [u16],
+    at: usize,
+) -> usize
     requires { ⌜ FileFits (now classes) (now rules) count o × ClassesFit (now classes) k minimised o × InRange at (stepWords (now classes) (rulesFrom count (now rules)) k minimised o) ⌝ }
     ensures { λ r. ⌜ Emitted (now (out .entry)) at (stepWords (now (classes .entry)) (rulesFrom count (now (rules .entry))) k minimised o) (now (out .exit)) r ⌝ }
 {
@@ -71,7 +94,12 @@ pub fn translate_rules(store: &[u16], out: &mut [u16]) -> usize
     let minimised = count_minimised(classes);
     let unfixed = count_unfixed(classes);
     let o = numbered(atoms, k, minimised, unfixed);
-    let header = [0, o.u + 1, 0, 2 * atoms + unfixed + 2 * count + 5 * minimised + 2 * k + 4];
+    let header = [
+        0,
+        o.u + 1,
+        0,
+        2 * atoms + unfixed + 2 * count + 5 * minimised + 2 * k + 4,
+    ];
     let next = emit(&header, out, 0);
     emit_steps(classes, &store[start..], count, k, minimised, o, out, next)
 }
