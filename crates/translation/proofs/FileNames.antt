@@ -9,7 +9,7 @@ use Rattle.kinds.specs.declared.limits.Kind.the-variants.{Plain, Preference}
 use Rattle.rules.specs.Lists.{from}
 use Rattle.stores.specs.Program.{Form}
 use Rattle.stores.specs.RuleStore.{decode}
-use Rattle.stores.specs.NameStore.{NamesForm, NamesOf, nameBytes, encodeNames, decodeNames}
+use Rattle.names.specs.NameStore.{NamesForm, NamesOf, nameBytes, encodeNames, decodeNames}
 use Rattle.pairing.specs.Atoms.{minimisedAtoms, unfixedAtoms, decimal}
 use Rattle.pairing.specs.Loops.{dot, loopedNames}
 use Rattle.pairing.specs.Translated.{translated, translatedNames}

@@ -13,9 +13,9 @@ use Rattle.kinds.specs.declared.limits.Kind.{Kind}
 use Rattle.kinds.specs.declared.limits.Kind.the-variants.{Plain, Preference}
 use Rattle.rules.specs.Lists.{All, flat, from}
 use Rattle.rules.proofs.Lists.{all-imp}
-use Rattle.stores.specs.Names.{allowed}
-use Rattle.stores.specs.NameStore.{NamesForm, NamesOf, nameBytes, encodeNames, firstName, decodeNames}
-use Rattle.stores.proofs.NameStores.{allowed-short, decode-front}
+use Rattle.names.specs.Names.{allowed}
+use Rattle.names.specs.NameStore.{NamesForm, NamesOf, nameBytes, encodeNames, firstName, decodeNames}
+use Rattle.names.proofs.NameStores.{allowed-short, decode-front}
 use Rattle.pairing.specs.Atoms.{decimal}
 use Rattle.pairing.specs.Loops.{dot}
 use Rattle.writer.specs.Emitted.{Emitted, InRange}

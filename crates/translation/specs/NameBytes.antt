@@ -3,7 +3,7 @@ use Prim.Native.Nat.{ℕ, zero, suc, _+_, _-_, _≤_}
 use mathlib.Core.List.{List, [], _∷_, _++_}
 use lib.ListN.{length, getD, drop}
 use Rattle.rules.specs.Lists.{from}
-use Rattle.stores.specs.NameStore.{nameBytes, decodeNames}
+use Rattle.names.specs.NameStore.{nameBytes, decodeNames}
 use Rattle.pairing.specs.Atoms.{decimal}
 use Rattle.pairing.specs.Loops.{dot}
 use Rattle.translation.specs.StepWords.{each}

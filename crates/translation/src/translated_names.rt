@@ -6,7 +6,7 @@ ghost use Prim.Native.Nat.{_+_, _-_, _≤_};
 ghost use Rattle.kinds.specs.declared.limits.Kind.the-variants.{Preference};
 ghost use Rattle.rules.specs.Lists.{from};
 ghost use Rattle.stores.specs.RuleStore.{decode};
-ghost use Rattle.stores.specs.NameStore.{NamesOf, firstName, decodeNames, encodeNames};
+ghost use Rattle.names.specs.NameStore.{NamesOf, firstName, decodeNames, encodeNames};
 ghost use Rattle.writer.specs.Emitted.{Emitted, InRange};
 ghost use Rattle.pairing.specs.Translated.{translatedNames};
 ghost use Rattle.translation.specs.NameBytes.{FileName, FileNames, dottedBytes, endBytes, generatedBytes};
