@@ -1,2 +1,10 @@
 -- The laws of programs and their stores.
 pub mod ClassWord
+pub mod RuleTests
+pub mod RuleStores
+pub mod Marks
+pub mod RulePlace
+pub mod Parts
+pub mod Rising
+pub mod StoreHeader
+pub mod RuleStoreClauses

@@ -1,5 +1,5 @@
 -- The rule store of a program, and the test whether words are one (document 01, "The rule store is a slice of u16").
-use Prim.Native.Nat.{ℕ, zero, suc, _+_}
+use Prim.Native.Nat.{ℕ, zero, suc, _+_, _<_}
 use mathlib.Core.Path.{_≡_}
 use mathlib.Core.Bool.{Bool, true, false, not, _&&_}
 use mathlib.Core.List.{List, [], _∷_, _++_}
@@ -13,6 +13,8 @@ use Rattle.rules.specs.Rules.{Rule, rule}
 use Rattle.stores.specs.Program.{Program, Form, roleOf}
 use Rattle.stores.specs.declared.roles.Role.{Role}
 use Rattle.stores.specs.declared.roles.Role.the-variants.{Minimised, Varying, Fixed, Unknown}
+use Rattle.stores.specs.declared.rule_store.RuleCheck.{RuleCheck}
+use Rattle.stores.specs.declared.rule_store.RuleCheck.the-variants.{Next, Broken}
 use Rattle.stores.specs.declared.rule_store.RuleStore.{RuleStore}
 use Rattle.stores.specs.declared.rule_store.RuleStore.the-variants.{Of, Refused}
 
@@ -97,10 +99,17 @@ abbrev pub classes? : Kind → ℕ → ℕ → List ℕ → Bool
 classes? Plain n k ws = eqb k 0
 classes? Preference n k ws = leb k classLimit && (leb n (length ws) && words? k 0 (take n ws))
 
+-- the check keeps a mark for each atom: the stamp of the last list that had it, each list having a higher one
+pub record Below (stamp : ℕ) (marks : List ℕ) : Type 0 where
+  pub mark : (a : ℕ) → getD marks a 0 < stamp
+
 -- atom numbers below n, none among those seen before nor twice
 unfoldable pub list? : ℕ → List ℕ → List ℕ → Bool
 list? n seen [] = true
 list? n seen (a ∷ xs) = ltb a n && (not (some (eqb a) seen) && list? n (a ∷ seen) xs)
+
+unfoldable pub lists? : ℕ → Rule ℕ → Bool
+lists? n r = list? n [] (r .head) && (list? n [] (r .body) && list? n [] (r .nots))
 
 abbrev pub not? : Kind → ℕ → Bool
 not? Plain c = true
@@ -111,8 +120,15 @@ unfoldable pub rule? : Kind → ℕ → ℕ → List ℕ → Bool
 rule? kind n used ws =
     leb (3 + places ws) (length ws)
     && (leb (used + places ws) (occurrenceLimit kind)
-    && (not? kind (nots ws)
-    && (list? n [] (ruleAt ws .head) && (list? n [] (ruleAt ws .body) && list? n [] (ruleAt ws .nots)))))
+    && (not? kind (nots ws) && lists? n (ruleAt ws)))
+
+abbrev pub pickCheck : Bool → RuleCheck → RuleCheck → RuleCheck
+pickCheck true a b = a
+pickCheck false a b = b
+
+-- past the rule that stands at `at`: the place of the next one and the occurrences so far
+unfoldable pub ruleCheck : Kind → ℕ → ℕ → ℕ → List ℕ → RuleCheck
+ruleCheck kind n used at ws = pickCheck (rule? kind n used (drop at ws)) (Next (at + (3 + places (drop at ws))) (used + places (drop at ws))) Broken
 
 unfoldable pub rules? : Kind → ℕ → ℕ → ℕ → List ℕ → Bool
 rules? kind n used zero ws = empty? ws
