@@ -8,3 +8,11 @@ pub mod Parts
 pub mod Rising
 pub mod StoreHeader
 pub mod RuleStoreClauses
+pub mod NameForms
+pub mod NameStores
+pub mod ByteLoops
+pub mod NamePlaces
+pub mod NameChains
+pub mod NameEntries
+pub mod NameChecks
+pub mod NameClauses

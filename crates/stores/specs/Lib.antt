@@ -3,3 +3,4 @@ pub mod Program
 pub mod RuleStore
 pub mod Names
 pub mod NameStore
+pub mod NameIndex
