@@ -1,4 +1,4 @@
--- The laws of programs and their stores.
+-- The laws of programs and their rule stores.
 pub mod ClassWord
 pub mod RuleTests
 pub mod RuleStores

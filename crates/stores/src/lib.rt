@@ -1,3 +1,3 @@
-// The two stores of a program: rules as u16 words, names as bytes (document 01, "The two kinds of file").
+// The rule store of a program: u16 words (document 01, "The two kinds of file").
 pub mod roles;
 pub mod rule_store;
