@@ -3,3 +3,4 @@ pub mod Scanning
 pub mod Tags
 pub mod NameLists
 pub mod LineShapes
+pub mod NameNumbers

@@ -6,3 +6,4 @@ pub mod Faults
 pub mod Said
 pub mod Answers
 pub mod Shapes
+pub mod Numbers

@@ -122,8 +122,8 @@ class-run v w ws r l gap =
     filter-run (λ a. eqb (getD ws a 0) w) (length ws) (upTo v ws) (upTo w ws) (up-to-rises v w (omega arith) ws) (up-to-le w ws)
     (λ i h. ne-eqb (getD ws i 0) w (λ e. omega (arith, within v ws i h, e)))
     (λ i h k.
-        let fits : i < length ws = omega (arith, up-to-le w ws) in
-        eq-eqb (getD ws i 0) w (omega (arith, within w ws i k, gap i fits (past v 0 ws r i h fits))))
+    let fits : i < length ws = omega (arith, up-to-le w ws) in
+    eq-eqb (getD ws i 0) w (omega (arith, within w ws i k, gap i fits (past v 0 ws r i h fits))))
     (λ i h k. ne-eqb (getD ws i 0) w (λ e. omega (arith, past w 0 ws r i h k, e)))
 
 stops : (w : ℕ) (ws : List ℕ) → upTo w ws < length ws → w < getD ws (upTo w ws) 0

@@ -33,7 +33,14 @@ pub fn emit_atoms(atoms: &[u16], names: &[u8], starts: &[u16], out: &mut [u8], a
 }
 
 // The atoms from `first` up to `end`.
-fn emit_run(first: usize, end: usize, names: &[u8], starts: &[u16], out: &mut [u8], at: usize) -> usize
+fn emit_run(
+    first: usize,
+    end: usize,
+    names: &[u8],
+    starts: &[u16],
+    out: &mut [u8],
+    at: usize,
+) -> usize
     requires { ⌜ Placed (storedNames (now names) (now starts)) (now names) (now starts) × (end ≤ length (now starts)) × InRange at (atomItems (storedNames (now names) (now starts)) (from first (end - first))) ⌝ }
     ensures { λ r. ⌜ Emitted (now (out .entry)) at (atomItems (storedNames (now (names .entry)) (now (starts .entry))) (from first (end - first))) (now (out .exit)) r ⌝ }
 {
@@ -47,7 +54,15 @@ fn emit_run(first: usize, end: usize, names: &[u8], starts: &[u16], out: &mut [u
 }
 
 // A line of the atoms from `first` up to `end`, after its opening.
-pub fn emit_line(opening: &[u8], first: usize, end: usize, names: &[u8], starts: &[u16], out: &mut [u8], at: usize) -> usize
+pub fn emit_line(
+    opening: &[u8],
+    first: usize,
+    end: usize,
+    names: &[u8],
+    starts: &[u16],
+    out: &mut [u8],
+    at: usize,
+) -> usize
     requires { ⌜ Placed (storedNames (now names) (now starts)) (now names) (now starts) × (end ≤ length (now starts)) × InRange at (atomLine (storedNames (now names) (now starts)) (now opening) (from first (end - first))) ⌝ }
     ensures { λ r. ⌜ Emitted (now (out .entry)) at (atomLine (storedNames (now (names .entry)) (now (starts .entry))) (now (opening .entry)) (from first (end - first))) (now (out .exit)) r ⌝ }
 {
