@@ -4,3 +4,4 @@ pub mod Tags
 pub mod NameLists
 pub mod LineShapes
 pub mod NameNumbers
+pub mod RuleLists

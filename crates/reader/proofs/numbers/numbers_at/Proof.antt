@@ -36,7 +36,7 @@ same-length-2 : tie.Need-same-length-2 Inv-loop μ-loop
 same-length-2 c = c .before .before .before .loop .inv .1
 
 returns : tie.Need-returns Inv-loop μ-loop
-returns c = numbers-end (c .before .before .before .loop .inv .2) (c .before .before .item-at .ensures) (c .enum-told .given .1)
+returns c = record { says = numbers-end (c .before .before .before .loop .inv .2) (c .before .before .item-at .ensures) (c .enum-told .given .1) }
 
 add-start : tie.Need-add-start Inv-loop μ-loop
 add-start c = omega (arith, number-inside (c .before .before .before .before .loop .inv .2) (c .before .before .before .item-at .ensures) (c .before .n .given .1))
@@ -69,7 +69,7 @@ same-length-4 : tie.Need-same-length-4 Inv-loop μ-loop
 same-length-4 c = c .before .before .before .before .before .before .before .before .loop .inv .1
 
 returns-2 : tie.Need-returns-2 Inv-loop μ-loop
-returns-2 c = not-declared (c .before .before .before .before .before .before .before .before .loop .inv .2) (c .before .before .before .before .before .before .before .item-at .ensures) (c .before .before .before .before .before .n .given .1) (c .before .before .find .ensures) (c .enum-told2 .given .1)
+returns-2 c = record { says = not-declared (c .before .before .before .before .before .before .before .before .loop .inv .2) (c .before .before .before .before .before .before .before .item-at .ensures) (c .before .before .before .before .before .n .given .1) (c .before .before .find .ensures) (c .enum-told2 .given .1) }
 
 mark-requires : tie.Need-mark-requires Inv-loop μ-loop
 mark-requires c κs = atom-marked (c .before .before .before .before .before .before .before .before .before .before .loop .inv .2) (c .before .before .before .before .before .before .before .before .before .item-at .ensures) (c .before .before .before .before .before .before .before .n .given .1) (c .before .before .before .before .find .ensures) (c .before .before .atom .given .1)
@@ -91,7 +91,8 @@ loop-again c =
     let f = c .before .before .before .before .before .before .before .before .before .before .before .before .find .ensures in
     let g = c .before .before .before .before .before .before .before .before .before .before .atom .given .1 in
     let m = c .before .before .before .before .before .before .before .mark .ensures in
-    let w = c .before .before .push-word .ensures in (
+    let w = c .before .before .push-word .ensures in
+    (
       ap length (m .1) ∙ (length-set (c .before .before .before .before .before .before .before .before .before .before .before .before .before .before .before .before .before .before .loop .marks) _ _ ∙ h .0),
       same-length-of w ∙ h .1,
       ⊎-elim (λ t. number-again (h .2) e d f g (m .0) (m .1) w (t .0 .taken) (t .1)) (λ t. number-new (h .2) e d f g (m .0) (m .1) w (t .0 .left) (t .1)) (c .before .before .before .before .if1 .came),
