@@ -5,3 +5,5 @@ pub mod NameLists
 pub mod LineShapes
 pub mod NameNumbers
 pub mod RuleLists
+pub mod KeptRules
+pub mod HeldState

@@ -7,3 +7,4 @@ pub mod Said
 pub mod Answers
 pub mod Shapes
 pub mod Numbers
+pub mod Gathered

@@ -1,5 +1,7 @@
 // Text to stores, of both kinds (document 01, "The two kinds of file" and "Who can be turned back").
 pub mod answers;
 pub mod forms;
+pub mod gathered;
 pub mod numbers;
+pub mod rule_line;
 pub mod scan;
