@@ -1,21 +1,25 @@
 -- The scratch decodes to the state that it holds, and a list written behind what is filled.
-use Prim.Native.Nat.{ℕ, zero, suc, _+_, _*_, _≤_, zero-le}
+use Prim.Native.Nat.{ℕ, suc, _+_, _*_, _≤_}
 use native.Mathlib.Numerals.{add-one, one-add}
-use native.Mathlib.Nat.{add-zero, zero-add}
 use native.Mathlib.Omega.{arith}
-use mathlib.Core.Path.{_≡_, refl, sym, ap, ap₂, _∙_, subst}
+use mathlib.Core.Path.{_≡_, refl, sym, ap, ap₂, _∙_}
 use mathlib.Core.List.{List, [], _∷_, _++_, append-assoc, append-nil}
 use lib.ListN.{length, take, drop, set, length-append}
 use lib.Seq.{take-at, drop-at, drop-drop, drop-append-seam, take-append-seam, sets, set-append-seam}
+use Rattle.kinds.specs.Limits.{atomLimit}
 use Rattle.kinds.specs.declared.limits.Kind.{Kind}
+use Rattle.kinds.specs.declared.limits.Kind.the-variants.{Plain, Preference}
 use Rattle.rules.specs.Lists.{sum, flat}
 use Rattle.rules.specs.Rules.{Rule, occurrences}
 use Rattle.stores.specs.NameStore.{encodeNames, decodeNames}
 use Rattle.stores.specs.RuleStore.{ruleWords, wordCount, rulesFrom}
+use Rattle.stores.specs.NameIndex.{Indexed}
 use Rattle.stores.proofs.RuleTests.{rule-front, past-front}
+use Rattle.stores.proofs.NameEntries.{length-filled, filled}
 use Rattle.reader.specs.declared.gathered.Gathered.{Gathered}
 use Rattle.reader.specs.Faults.{State}
 use Rattle.reader.specs.Gathered.{stateOf, storedWords, Filled, Held}
+use Rattle.reader.proofs.KeptRules.{rules-small, occurrences-small}
 
 -- decoding what stands at the front
 
@@ -106,3 +110,42 @@ rules-length (r ∷ rs) = omega (arith, length-append (ruleWords r) (flat ruleWo
 pub sum-last : (rs : List (Rule ℕ)) (r : Rule ℕ) → sum occurrences (rs ++ (r ∷ [])) ≡ sum occurrences rs + occurrences r
 sum-last [] r = omega arith
 sum-last (s ∷ rs) r = omega (arith, sum-last rs r)
+
+atoms-small : (kind : Kind) → atomLimit kind ≤ 1100
+atoms-small Plain = omega arith
+atoms-small Preference = omega arith
+
+-- the counts are small
+pub record Small (g : Gathered) : Type 0 where
+  pub words : g .words ≤ 36604
+  pub bytes : g .bytes ≤ 20900
+  pub atoms : g .atoms ≤ 1100
+  pub rules : g .rules ≤ 4200
+  pub occurrences : g .occurrences ≤ 24000
+
+pub held-small : {kind : Kind} {st : State} {g : Gathered} {words bytes starts heads links marks : List ℕ} → Held kind st g words bytes starts heads links marks → Small g
+held-small {kind} {st} {g} {words} h =
+    let f = h .stored in
+    record {
+      words = omega (arith, f .ends, f .before, h .words-room, ap length (f .is) ∙ length-append (f .front ++ storedWords st) (f .rest), length-append (f .front) (storedWords st));
+      bytes = omega (arith, h .short, h .atoms-fit, atoms-small kind);
+      atoms = omega (arith, h .atoms-fit, atoms-small kind);
+      rules = omega (arith, h .rules-fit, rules-small kind);
+      occurrences = omega (arith, h .occurrences-fit, occurrences-small kind);
+    }
+
+-- the index, cut to the atoms so far
+module _ {kind : Kind} {g : Gathered} {words bytes starts heads links marks : List ℕ} (h : Held kind (stateOf kind g words bytes) g words bytes starts heads links marks) where
+  pub held-index : Indexed (decodeNames (g .atoms) bytes) bytes starts heads links
+  unfolding stateOf
+  held-index = h .index
+
+  pub known-starts : length (take (g .atoms) starts) ≡ g .atoms
+  known-starts = length-filled (g .atoms) held-index
+
+  pub known-index : Indexed (decodeNames (length (take (g .atoms) starts)) bytes) bytes (take (g .atoms) starts) heads links
+  known-index = filled (g .atoms) held-index
+
+  pub known-names : decodeNames (length (take (g .atoms) starts)) bytes ≡ stateOf kind g words bytes .names
+  unfolding stateOf
+  known-names = ap (λ n. decodeNames n bytes) known-starts

@@ -7,3 +7,4 @@ pub mod NameNumbers
 pub mod RuleLists
 pub mod KeptRules
 pub mod HeldState
+pub mod RuleSteps

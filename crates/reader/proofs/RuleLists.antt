@@ -1,14 +1,13 @@
 -- The three lists of a rule to numbers, one after another.
-use Prim.Native.Nat.{ℕ, _+_, _*_, _^_, _≤_, _<_}
+use Prim.Native.Nat.{ℕ, _+_, _≤_}
 use native.Mathlib.Omega.{arith}
 use mathlib.Core.Path.{_≡_, refl, _∙_, subst}
-use mathlib.Core.List.{List, map}
+use mathlib.Core.List.{List}
 use mathlib.Core.Bool.{Bool, true, false, _||_}
 use lib.ListN.{length, drop, length-map}
-use Rattle.rules.specs.Lists.{some, sum}
-use Rattle.stores.specs.RuleStore.{Below}
+use Rattle.rules.specs.Lists.{some}
 use Rattle.writer.proofs.Emitting.{then}
-use Rattle.reader.specs.Items.{items, span}
+use Rattle.reader.specs.Items.{items}
 use Rattle.reader.specs.Faults.{undeclared, numberOf, anyOf}
 use Rattle.reader.specs.declared.numbers.Numbers.{Numbers}
 use Rattle.reader.specs.declared.numbers.Numbers.the-variants as Answer

@@ -16,7 +16,6 @@ use Rattle.rules.specs.Rules.{occurrences}
 use Rattle.stores.specs.NameStore.{encodeNames, decodeNames}
 use Rattle.stores.specs.NameIndex.{Indexed}
 use Rattle.stores.specs.RuleStore.{ruleWords, wordCount, rulesFrom, Below}
-use Rattle.reader.specs.declared.answers.Stage.{Stage}
 use Rattle.reader.specs.declared.gathered.Gathered.{Gathered}
 use Rattle.reader.specs.declared.gathered.Line.{Line}
 use Rattle.reader.specs.declared.gathered.Line.the-variants as Line

@@ -12,10 +12,12 @@ ghost use mathlib.Core.Bool.{_&&_};
 ghost use mathlib.Core.List.{[], _∷_};
 ghost use lib.Dec.{leb};
 ghost use lib.ListN.{length};
-ghost use Rattle.kinds.specs.Limits.{ruleLimit, occurrenceLimit};
-ghost use Rattle.writer.specs.Emitted.{Emitted, InRange};
+ghost use Rattle.kinds.specs.Limits.{ruleLimit, occurrenceLimit, textLimit};
+ghost use Rattle.writer.specs.Emitted.{Emitted};
+ghost use Rattle.reader.specs.Forms.{formOf};
 ghost use Rattle.reader.specs.Faults.{ruling?};
-ghost use Rattle.reader.specs.Gathered.{filledCount, Kept};
+ghost use Rattle.reader.specs.Shapes.{Ruled};
+ghost use Rattle.reader.specs.Gathered.{stateOf, Held, LineIs, filledCount, Kept};
 
 fn is_ruling(stage: Stage) -> bool
     ensures { λ r. ⌜ r ≡ ruling? stage ⌝ }
@@ -84,4 +86,49 @@ fn keep_rule(kind: Kind, gathered: Gathered, heads: usize, bodies: usize, nots: 
         words: end,
         bytes,
     })
+}
+
+// A line of a rule's form, its lists at the places that the form gives.
+pub fn add_rule(
+    line: &[u8],
+    kind: Kind,
+    gathered: Gathered,
+    head: usize,
+    body: usize,
+    not: usize,
+    heads: usize,
+    bodies: usize,
+    nots: usize,
+    refused: bool,
+    words: &mut [u16],
+    bytes: &[u8],
+    starts: &[u16],
+    firsts: &[u16],
+    links: &[u16],
+    marks: &mut [u16],
+) -> Line
+    requires { ⌜ Ruled kind (now line) (formOf (now line)) head body not heads bodies nots refused ⌝ }
+    requires { ⌜ length (now line) ≤ textLimit ⌝ }
+    requires { ⌜ Held kind (stateOf kind gathered (now words) (now bytes)) gathered (now words) (now bytes) (now starts) (now firsts) (now links) (now marks) ⌝ }
+    ensures { λ r. ⌜ LineIs kind (stateOf kind gathered (now (words .entry)) (now (bytes .entry))) (formOf (now (line .entry))) (now (words .exit)) (now (bytes .entry)) (now (starts .entry)) (now (firsts .entry)) (now (links .entry)) (now (marks .exit)) r ⌝ }
+{
+    let stage = gathered.stage;
+    let ruling = is_ruling(stage);
+    if !ruling {
+        return Line::Fault(Refusal::Form);
+    }
+    if refused {
+        return Line::Fault(Refusal::Name);
+    }
+    let atoms = gathered.atoms;
+    let rules = gathered.rules;
+    let at = gathered.words + 3;
+    let stamp = (3 * rules + 1) as u16;
+    let Numbers::List { end, twice } = numbers::rule_numbers(line, head, body, not, bytes, &starts[..atoms], firsts, links, marks, stamp, words, at) else {
+        return Line::Fault(Refusal::Undeclared);
+    };
+    if twice {
+        return Line::Fault(Refusal::TwiceInList);
+    }
+    keep_rule(kind, gathered, heads, bodies, nots, end, words)
 }
