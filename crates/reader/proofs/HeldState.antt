@@ -46,7 +46,7 @@ module _ {d : List ℕ} {skipped used : ℕ} {list : List ℕ} (f : Filled d ski
   pub behind : drop skipped d ≡ list ++ f .rest
   behind = ap (drop skipped) (f .is ∙ append-assoc (f .front) list (f .rest)) ∙ drop-at (f .front) (list ++ f .rest) skipped (f .before)
 
-sets-seam : (p q w : List ℕ) → length w ≤ length q → sets (p ++ q) (length p) w ≡ p ++ (w ++ drop (length w) q)
+pub sets-seam : (p q w : List ℕ) → length w ≤ length q → sets (p ++ q) (length p) w ≡ p ++ (w ++ drop (length w) q)
 sets-seam p q [] l = refl
 sets-seam p [] (a ∷ w) l = absurd (omega arith)
 sets-seam p (b ∷ q) (a ∷ w) l =

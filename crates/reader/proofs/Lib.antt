@@ -8,3 +8,5 @@ pub mod RuleLists
 pub mod KeptRules
 pub mod HeldState
 pub mod RuleSteps
+pub mod NewNames
+pub mod Entering

@@ -8,3 +8,4 @@ pub mod Answers
 pub mod Shapes
 pub mod Numbers
 pub mod Gathered
+pub mod Entries

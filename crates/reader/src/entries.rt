@@ -1,0 +1,90 @@
+// Declared names entered into the scratch name store and its index.
+use crate::scan;
+use crate::scan::Item;
+use kinds::limits::Plain;
+use stores::name_index;
+use stores::name_index::Found;
+use writer::emit;
+ghost use mathlib.Core.Path.{_≡_};
+ghost use Prim.Native.Nat.{_≤_, _<_};
+ghost use lib.ListN.{length, drop};
+ghost use Rattle.stores.specs.NameStore.{nameBytes, decodeNames};
+ghost use Rattle.stores.specs.NameIndex.{Indexed};
+ghost use Rattle.writer.specs.Emitted.{Emitted, InRange};
+ghost use Rattle.rules.specs.Lists.{some};
+ghost use Rattle.reader.specs.Items.{items};
+ghost use Rattle.reader.specs.Entries.{EntryRoom, EntryIs, Room, Stored, Short, EnteredIs, among};
+
+// What entering the names of a line gives: all are entered; or those before `at`, where the store is full; or a name stands twice.
+pub enum Entered {
+    All { atoms: usize, bytes: usize },
+    Full { at: usize },
+    Twice,
+}
+
+fn put_name(name: &[u8], bytes: &mut [u8], at: usize) -> usize
+    requires { ⌜ (length (now name) < 256) × InRange at (nameBytes (now name)) ⌝ }
+    ensures { λ r. ⌜ Emitted (now (bytes .entry)) at (nameBytes (now (name .entry))) (now (bytes .exit)) r ⌝ }
+{
+    let from = emit::push(name.len() as u8, bytes, at);
+    emit::emit(name, bytes, from)
+}
+
+// Enters a name as that of the next atom, unless an atom before has it.
+fn enter_name(name: &[u8], bytes: &mut [u8], starts: &mut [u16], heads: &mut [u16], links: &mut [u16], atom: usize, at: usize) -> bool
+    requires { ⌜ Indexed (decodeNames atom (now bytes)) (now bytes) (now starts) (now heads) (now links) ⌝ }
+    requires { ⌜ EntryRoom (decodeNames atom (now bytes)) (now name) (now bytes) (now starts) (now links) atom at ⌝ }
+    ensures { λ r. ⌜ EntryIs (decodeNames atom (now (bytes .entry))) (now (name .entry)) (now (bytes .exit)) (now (starts .exit)) (now (heads .exit)) (now (links .exit)) r ⌝ }
+{
+    put_name(name, bytes, at);
+    name_index::enter_new(bytes, name, starts, heads, links, atom, at)
+}
+
+// Enters the names from `from` on behind `count` others, whose bytes end at `used`.
+pub fn enter_names(line: &[u8], from: usize, bytes: &mut [u8], starts: &mut [u16], heads: &mut [u16], links: &mut [u16], count: usize, used: usize) -> Entered
+    requires { ⌜ (from ≤ length (now line)) × Short (items (drop from (now line))) ⌝ }
+    requires { ⌜ Room (now bytes) (now starts) (now links) ⌝ }
+    requires { ⌜ Stored (decodeNames count (now bytes)) (now bytes) (now starts) (now heads) (now links) count used ⌝ }
+    ensures { λ r. ⌜ EnteredIs (decodeNames count (now (bytes .entry))) (now (line .entry)) from (now (bytes .exit)) (now (starts .exit)) (now (heads .exit)) (now (links .exit)) r ⌝ }
+{
+    let mut i = from;
+    let mut atom = count;
+    let mut at = used;
+    loop {
+        let Item::At(n) = scan::item_at(line, i) else {
+            return Entered::All { atoms: atom, bytes: at };
+        };
+        if Plain::ATOMS <= atom {
+            return Entered::Full { at: i };
+        }
+        let start = i + 1;
+        let to = start + n;
+        if enter_name(&line[start..to], bytes, starts, heads, links, atom, at) {
+            i = to;
+            atom += 1;
+            at += 1 + n;
+        } else {
+            return Entered::Twice;
+        }
+    }
+}
+
+// Whether a name from `from` on is in the index.
+pub fn any_known(line: &[u8], from: usize, bytes: &[u8], starts: &[u16], heads: &[u16], links: &[u16]) -> bool
+    requires { ⌜ from ≤ length (now line) ⌝ }
+    requires { ⌜ Indexed (decodeNames (length (now starts)) (now bytes)) (now bytes) (now starts) (now heads) (now links) ⌝ }
+    ensures { λ r. ⌜ r ≡ some (among (decodeNames (length (now (starts .entry))) (now (bytes .entry)))) (items (drop from (now (line .entry)))) ⌝ }
+{
+    let mut i = from;
+    loop {
+        let Item::At(n) = scan::item_at(line, i) else {
+            return false;
+        };
+        let start = i + 1;
+        let to = start + n;
+        let Found::Missing = name_index::find(bytes, starts, heads, links, &line[start..to]) else {
+            return true;
+        };
+        i = to;
+    }
+}
