@@ -10,3 +10,4 @@ pub mod HeldState
 pub mod RuleSteps
 pub mod NewNames
 pub mod Entering
+pub mod NameBlocks

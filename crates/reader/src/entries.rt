@@ -7,12 +7,14 @@ use stores::name_index::Found;
 use writer::emit;
 ghost use mathlib.Core.Path.{_≡_};
 ghost use Prim.Native.Nat.{_≤_, _<_};
-ghost use lib.ListN.{length, drop};
+ghost use mathlib.Core.List.{[]};
+ghost use lib.ListN.{length, drop, replicate};
 ghost use Rattle.stores.specs.NameStore.{nameBytes, decodeNames};
-ghost use Rattle.stores.specs.NameIndex.{Indexed};
+ghost use Rattle.stores.specs.NameIndex.{Indexed, buckets};
 ghost use Rattle.writer.specs.Emitted.{Emitted, InRange};
 ghost use Rattle.rules.specs.Lists.{some};
 ghost use Rattle.reader.specs.Items.{items};
+ghost use Rattle.reader.specs.Faults.{twice};
 ghost use Rattle.reader.specs.Entries.{EntryRoom, EntryIs, Room, Stored, Short, EnteredIs, among};
 
 // What entering the names of a line gives: all are entered; or those before `at`, where the store is full; or a name stands twice.
@@ -86,5 +88,37 @@ pub fn any_known(line: &[u8], from: usize, bytes: &[u8], starts: &[u16], heads: 
             return true;
         };
         i = to;
+    }
+}
+
+fn clear(heads: &mut [u16])
+    ensures { λ r. ⌜ now (heads .exit) ≡ replicate (length (now (heads .entry))) 0 ⌝ }
+{
+    let mut i: usize = 0;
+    while i < heads.len() {
+        heads[i] = 0;
+        i += 1;
+    }
+}
+
+// Whether a name stands twice from `from` on, by blocks of as many names as the index has room for.
+pub fn any_twice(line: &[u8], from: usize, bytes: &mut [u8], starts: &mut [u16], heads: &mut [u16], links: &mut [u16]) -> bool
+    requires { ⌜ (from ≤ length (now line)) × Short (items (drop from (now line))) ⌝ }
+    requires { ⌜ Room (now bytes) (now starts) (now links) × (buckets ≤ length (now heads)) ⌝ }
+    ensures { λ r. ⌜ r ≡ twice [] (items (drop from (now (line .entry)))) ⌝ }
+{
+    let mut at = from;
+    loop {
+        clear(heads);
+        match enter_names(line, at, bytes, starts, heads, links, 0, 0) {
+            Entered::All { atoms: _, bytes: _ } => return false,
+            Entered::Twice => return true,
+            Entered::Full { at: rest } => {
+                if any_known(line, rest, bytes, starts, heads, links) {
+                    return true;
+                }
+                at = rest;
+            }
+        }
     }
 }
