@@ -11,3 +11,5 @@ pub mod RuleSteps
 pub mod NewNames
 pub mod Entering
 pub mod NameBlocks
+pub mod KeptAtoms
+pub mod DeclaredSteps

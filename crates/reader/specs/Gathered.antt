@@ -10,7 +10,7 @@ use Rattle.kinds.specs.Limits.{atomLimit, ruleLimit, occurrenceLimit, classLimi
 use Rattle.kinds.specs.declared.limits.Kind.{Kind}
 use Rattle.kinds.specs.declared.limits.Kind.the-variants.{Plain, Preference}
 use Rattle.kinds.specs.declared.refusals.Refusal.{Refusal}
-use Rattle.kinds.specs.declared.refusals.Refusal.the-variants.{Limit, FilledNot}
+use Rattle.kinds.specs.declared.refusals.Refusal.the-variants.{DeclaredTwice, Limit, FilledNot}
 use Rattle.rules.specs.Lists.{sum, flat}
 use Rattle.rules.specs.Rules.{occurrences}
 use Rattle.stores.specs.NameStore.{encodeNames, decodeNames}
@@ -19,8 +19,8 @@ use Rattle.stores.specs.RuleStore.{ruleWords, wordCount, rulesFrom, Below}
 use Rattle.reader.specs.declared.gathered.Gathered.{Gathered}
 use Rattle.reader.specs.declared.gathered.Line.{Line}
 use Rattle.reader.specs.declared.gathered.Line.the-variants as Line
-use Rattle.reader.specs.Forms.{Form}
-use Rattle.reader.specs.Faults.{State, next, fault, ruling?, stepForm}
+use Rattle.reader.specs.Forms.{Form, Word}
+use Rattle.reader.specs.Faults.{State, next, fault, ruling?, stageAfter, classesAfter, classWords, stepForm}
 
 -- the lengths of the scratch stores and of their index
 abbrev pub scratchWords : ℕ
@@ -122,3 +122,29 @@ keptRule kind g more nots end =
 pub record Kept (kind : Kind) (g : Gathered) (heads bodies nots end : ℕ) (before after : List ℕ) (r : Line) : Type 0 where
   pub answer : r ≡ keptRule kind g (heads + bodies + nots) nots end
   pub words : after ≡ sets before (g .words) (countsIf r (heads ∷ bodies ∷ nots ∷ []))
+
+-- a line that declares atoms
+
+abbrev pub withNames : Gathered → Word → ℕ → ℕ → ℕ → Gathered
+withNames g w atoms used end = record {
+  stage = stageAfter w;
+  classes = classesAfter w (g .classes);
+  atoms = atoms;
+  rules = g .rules;
+  occurrences = g .occurrences;
+  words = end;
+  bytes = used;
+}
+
+unfoldable pub keptNames : Kind → Gathered → Word → ℕ → ℕ → ℕ → Line
+keptNames kind g w atoms used end =
+    firstLine (not (leb atoms (atomLimit kind) && leb (classesAfter w (g .classes)) classLimit)) Limit (Line.Next (withNames g w atoms used end))
+
+pub record KeptNames (kind : Kind) (g : Gathered) (w : Word) (count atoms used : ℕ) (before after : List ℕ) (r : Line) : Type 0 where
+  pub answer : r ≡ keptNames kind g w atoms used (g .words + length (classWords w (g .classes) count))
+  pub words : after ≡ sets before (g .words) (countsIf r (classWords w (g .classes) count))
+
+-- past the store's room: whether a name stands twice decides
+abbrev pub pastRefusal : Bool → Refusal
+pastRefusal true = DeclaredTwice
+pastRefusal false = Limit
