@@ -14,6 +14,7 @@ use Rattle.kinds.specs.declared.limits.Kind.the-variants.{Plain, Preference}
 use Rattle.kinds.specs.declared.refusals.Refusal.{Refusal}
 use Rattle.kinds.specs.declared.refusals.Refusal.the-variants.{Form as BrokenForm, Name, DeclaredTwice, Limit}
 use Rattle.rules.specs.Lists.{All, some, flat}
+use Rattle.rules.proofs.Lists.{all-app-r}
 use Rattle.stores.specs.Names.{allowed}
 use Rattle.stores.specs.NameStore.{decodeNames}
 use Rattle.stores.specs.NameIndex.{buckets, Indexed}
@@ -89,6 +90,9 @@ module _ {kind : Kind} {st : State} {g : Gathered} {words bytes starts heads lin
   pub held-room : Room bytes starts links
   held-room = record { bytes-long = h .bytes-room; starts-long = h .starts-room; links-long = h .links-room }
 
+  pub room-kept : {bytes′ starts′ links′ : List ℕ} → length bytes′ ≡ length bytes → length starts′ ≡ length starts → length links′ ≡ length links → Room bytes′ starts′ links′
+  room-kept b c k = record { bytes-long = b ∙ h .bytes-room; starts-long = c ∙ h .starts-room; links-long = k ∙ h .links-room }
+
   pub held-stored : Stored (st .names) bytes starts heads links (g .atoms) (g .bytes)
   held-stored = record { index = h .index; count = h .atoms-is; ends = h .bytes-is; short = h .short; few = held-small h .atoms }
 
@@ -134,6 +138,9 @@ module _ {kind : Kind} {st : State} {g : Gathered} {words bytes starts heads lin
           pub full-index : Indexed (decodeNames (length starts′) bytes′) bytes′ starts′ heads′ links′
           full-index = subst (λ ns. Indexed ns bytes′ starts′ heads′ links′) (sym names-are) (s .index)
 
+          pub rest-short : Short (items (drop at l))
+          rest-short = all-app-r (λ x. length x ≤ 18) (s .passed) (items (drop at l)) (subst Short (sym (s .all)) all-short)
+
           parts : twice (st .names) xs ≡ (some (among held) (items (drop at l)) || twice [] (items (drop at l)))
           parts =
               ap (twice (st .names)) (sym (s .all))
@@ -154,3 +161,96 @@ module _ {kind : Kind} {st : State} {g : Gathered} {words bytes starts heads lin
               go : (b : Bool) → twice (st .names) xs ≡ b → a ≡ pastRefusal b → stepForm st f ≡ fault a
               go true z q = declared-twice z ∙ ap fault (sym q)
               go false z q = step-counts z ∙ rw is-over (ap fault (sym q))
+
+        -- every name is entered
+        module _ {bytes′ starts′ heads′ links′ : List ℕ} {n used : ℕ} (a : AllEntered (st .names) xs bytes′ starts′ heads′ links′ n used)
+            (b : length bytes′ ≡ length bytes) (c : length starts′ ≡ length starts) (k : length links′ ≡ length links) where
+          abbrev class-list : List ℕ
+          class-list = classWords w (st .classes) (length xs)
+
+          class-list-is : classWords w (g .classes) count ≡ class-list
+          class-list-is = ap₂ (classWords w) (h .classes-is) (p .is-count)
+
+          before-rules : ruling? (st .stage) ≡ false
+          before-rules = expected (st .kind) (st .stage) w (sym is-expected ∙ not-false r d) .0
+
+          no-rules : st .program-rules ≡ []
+          no-rules = h .no-rules before-rules
+
+          many : n ≡ g .atoms + length xs
+          many = omega (arith, a .stored .count, h .atoms-is, length-append (st .names) xs)
+
+          class-count : wordCount kind (g .atoms) + length class-list ≡ wordCount kind n
+          class-count =
+              subst (λ q. wordCount q (g .atoms) + length class-list ≡ wordCount q (g .atoms + length xs)) (h .kind-is) (expected (st .kind) (st .stage) w (sym is-expected ∙ not-false r d) .1 (st .classes) (length xs) (g .atoms))
+              ∙ ap (wordCount kind) (sym many)
+
+          counts-are : over ≡ not (leb n (atomLimit kind) && leb (classesAfter w (g .classes)) classLimit)
+          counts-are =
+              let total : length (st .names) + length xs ≡ n = omega (arith, a .stored .count, length-append (st .names) xs) in
+              λ i. not (leb (total i) (atomLimit (h .kind-is i)) && leb (classesAfter w (sym (h .classes-is) i)) classLimit)
+
+          stored-words : storedWords st ≡ st .words
+          stored-words = ap (λ rs. st .words ++ flat ruleWords rs) no-rules ∙ append-nil (st .words)
+
+          stored-after : storedWords st ++ class-list ≡ storedWords (declared st w xs)
+          stored-after =
+              ap (λ x. x ++ class-list) stored-words
+              ∙ sym (append-nil (st .words ++ class-list))
+              ∙ ap (λ rs. (st .words ++ class-list) ++ flat ruleWords rs) (sym no-rules)
+
+          fits-words : n ≤ atomLimit kind → g .words + length class-list ≤ length words
+          fits-words l = omega (arith, h .words-room, h .stored .ends, ap length stored-words, h .class-words, class-count, class-room kind n l)
+
+          abbrev end : ℕ
+          end = g .words + length (classWords w (g .classes) count)
+
+          written : {words₂ : List ℕ} → words₂ ≡ sets words (g .words) (classWords w (g .classes) count) → words₂ ≡ sets words (g .words) class-list
+          written q = q ∙ ap (sets words (g .words)) class-list-is
+
+          declared-held : n ≤ atomLimit kind → classesAfter w (g .classes) ≤ classLimit → {words₂ : List ℕ} → words₂ ≡ sets words (g .words) (classWords w (g .classes) count)
+              → Held kind (declared st w xs) (withNames g w n used end) words₂ bytes′ starts′ heads′ links′ marks
+          declared-held l m {words₂} q =
+              record {
+                kind-is = h .kind-is;
+                stage-is = refl;
+                classes-is = ap (classesAfter w) (h .classes-is);
+                atoms-is = a .stored .count;
+                rules-is = h .rules-is;
+                occurrences-is = h .occurrences-is;
+                class-words = length-append (st .words) class-list ∙ ap (λ x. x + length class-list) (h .class-words) ∙ class-count;
+                stored =
+                    subst (λ x. Filled words₂ 4 end x) stored-after
+                    (subst (λ x. Filled words₂ 4 (g .words + length x) (storedWords st ++ class-list)) (sym class-list-is)
+                    (subst (λ x. Filled x 4 (g .words + length class-list) (storedWords st ++ class-list)) (sym (written q)) (fill-more (h .stored) class-list (fits-words l))));
+                index = a .stored .index;
+                bytes-is = a .stored .ends;
+                short = a .stored .short;
+                atoms-fit = l;
+                rules-fit = h .rules-fit;
+                occurrences-fit = h .occurrences-fit;
+                classes-fit = m;
+                no-rules = λ z. no-rules;
+                marks-below = h .marks-below;
+                words-room = ap length q ∙ length-sets words (g .words) (classWords w (g .classes) count) ∙ h .words-room;
+                bytes-room = b ∙ h .bytes-room;
+                starts-room = c ∙ h .starts-room;
+                links-room = k ∙ h .links-room;
+                marks-room = h .marks-room;
+              }
+
+          pub declared-line : {words₂ : List ℕ} {o : Line} → KeptNames kind g w count n used words words₂ o → LineIs kind st f words₂ bytes′ starts′ heads′ links′ marks o
+          unfolding keptNames
+          declared-line {words₂} {o} s = record { says = go (leb n (atomLimit kind) && leb (classesAfter w (g .classes)) classLimit) refl (step-counts (a .once) ∙ ap (λ x. first x Limit (next (declared st w xs))) counts-are) (s .answer) (s .words) }
+            where
+              go : (x : Bool) → (leb n (atomLimit kind) && leb (classesAfter w (g .classes)) classLimit) ≡ x → stepForm st f ≡ first (not x) Limit (next (declared st w xs))
+                  → o ≡ firstLine (not x) Limit (Next (withNames g w n used end))
+                  → words₂ ≡ sets words (g .words) (countsIf o (classWords w (g .classes) count))
+                  → LineSays kind st f words₂ bytes′ starts′ heads′ links′ marks o
+              go false q z y v = subst (LineSays kind st f words₂ bytes′ starts′ heads′ links′ marks) (sym y) z
+              go true q z y v =
+                  let within = both (leb n (atomLimit kind)) (leb (classesAfter w (g .classes)) classLimit) q in
+                  let held = declared-held (leb-true n (atomLimit kind) (within .0)) (leb-true (classesAfter w (g .classes)) classLimit (within .1)) (v ∙ ap (λ j. sets words (g .words) (countsIf j (classWords w (g .classes) count))) y) in
+                  let is = held-is held in
+                  subst (LineSays kind st f words₂ bytes′ starts′ heads′ links′ marks) (sym y)
+                  (z ∙ ap next is, subst (λ j. Held kind j (withNames g w n used end) words₂ bytes′ starts′ heads′ links′ marks) is held)

@@ -15,16 +15,17 @@ ghost use mathlib.Core.Bool.{_&&_, _||_};
 ghost use mathlib.Core.List.{[]};
 ghost use lib.Dec.{leb};
 ghost use lib.ListN.{length, drop, replicate};
-ghost use Rattle.kinds.specs.Limits.{atomLimit, classLimit};
+ghost use Rattle.kinds.specs.Limits.{atomLimit, classLimit, textLimit};
 ghost use Rattle.rules.specs.Lists.{some};
 ghost use Rattle.stores.specs.NameStore.{decodeNames};
 ghost use Rattle.stores.specs.NameIndex.{Indexed, buckets};
 ghost use Rattle.writer.specs.Emitted.{Emitted};
 ghost use Rattle.reader.specs.Items.{items};
+ghost use Rattle.reader.specs.Forms.{formOf};
 ghost use Rattle.reader.specs.Faults.{expects, stageAfter, classesAfter, classWords, twice};
-ghost use Rattle.reader.specs.Shapes.{wordOf};
+ghost use Rattle.reader.specs.Shapes.{wordOf, Declared};
 ghost use Rattle.reader.specs.Entries.{Room, Short, among};
-ghost use Rattle.reader.specs.Gathered.{pastRefusal, KeptNames};
+ghost use Rattle.reader.specs.Gathered.{stateOf, Held, LineIs, pastRefusal, KeptNames};
 
 fn is_expected(kind: Kind, stage: Stage, word: Keyword) -> bool
     ensures { λ r. ⌜ r ≡ expects kind stage (wordOf word) ⌝ }
@@ -158,4 +159,42 @@ fn past_limit(line: &[u8], at: usize, bytes: &mut [u8], starts: &mut [u16], head
         return Refusal::DeclaredTwice;
     }
     Refusal::Limit
+}
+
+// A line of the form that declares atoms, its names at the place that the form gives. The marks are only carried along.
+pub fn declare_atoms(
+    line: &[u8],
+    kind: Kind,
+    gathered: Gathered,
+    word: Keyword,
+    from: usize,
+    count: usize,
+    refused: bool,
+    words: &mut [u16],
+    bytes: &mut [u8],
+    starts: &mut [u16],
+    firsts: &mut [u16],
+    links: &mut [u16],
+    marks: &[u16],
+) -> Line
+    requires { ⌜ Declared kind (now line) (formOf (now line)) word from count refused ⌝ }
+    requires { ⌜ length (now line) ≤ textLimit ⌝ }
+    requires { ⌜ Held kind (stateOf kind gathered (now words) (now bytes)) gathered (now words) (now bytes) (now starts) (now firsts) (now links) (now marks) ⌝ }
+    ensures { λ r. ⌜ LineIs kind (stateOf kind gathered (now (words .entry)) (now (bytes .entry))) (formOf (now (line .entry))) (now (words .exit)) (now (bytes .exit)) (now (starts .exit)) (now (firsts .exit)) (now (links .exit)) (now (marks .entry)) r ⌝ }
+{
+    let stage = gathered.stage;
+    let expected = is_expected(kind, stage, word);
+    if !expected {
+        return Line::Fault(Refusal::Form);
+    }
+    if refused {
+        return Line::Fault(Refusal::Name);
+    }
+    let before = gathered.atoms;
+    let filled = gathered.bytes;
+    match entries::enter_names(line, from, bytes, starts, firsts, links, before, filled) {
+        Entered::All { atoms, bytes: used } => keep_names(kind, gathered, word, count, atoms, used, words),
+        Entered::Full { at } => Line::Fault(past_limit(line, at, bytes, starts, firsts, links)),
+        Entered::Twice => Line::Fault(Refusal::DeclaredTwice),
+    }
 }
