@@ -13,3 +13,4 @@ pub mod Entering
 pub mod NameBlocks
 pub mod KeptAtoms
 pub mod DeclaredSteps
+pub mod LineByLine

@@ -9,3 +9,4 @@ pub mod Shapes
 pub mod Numbers
 pub mod Gathered
 pub mod Entries
+pub mod Gathering

@@ -5,5 +5,6 @@ pub mod entries;
 pub mod forms;
 pub mod gathered;
 pub mod numbers;
+pub mod reading;
 pub mod rule_line;
 pub mod scan;

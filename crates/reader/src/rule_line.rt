@@ -19,7 +19,7 @@ ghost use Rattle.reader.specs.Faults.{ruling?};
 ghost use Rattle.reader.specs.Shapes.{Ruled};
 ghost use Rattle.reader.specs.Gathered.{stateOf, Held, LineIs, filledCount, Kept};
 
-fn is_ruling(stage: Stage) -> bool
+pub fn is_ruling(stage: Stage) -> bool
     ensures { λ r. ⌜ r ≡ ruling? stage ⌝ }
 {
     match stage {
