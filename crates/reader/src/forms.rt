@@ -137,7 +137,7 @@ fn declared_shape(line: &[u8], kind: Kind, word: Keyword, tag: &[u8]) -> Shape
     Shape::Broken
 }
 
-fn any(a: bool, b: bool, c: bool) -> bool
+pub fn any(a: bool, b: bool, c: bool) -> bool
     ensures { λ r. ⌜ r ≡ (a || (b || c)) ⌝ }
 {
     if a {
