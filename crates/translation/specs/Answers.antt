@@ -1,6 +1,6 @@
 -- The translator's answer and what it leaves in the lent output: refusals 10 (a plain store too), 14, 9 in this order.
 use Prim.Native.Nat.{ℕ}
-use mathlib.Core.Bool.{Bool, cond}
+use mathlib.Core.Bool.{cond}
 use mathlib.Core.List.{List}
 use lib.ListN.{length}
 use Rattle.kinds.specs.declared.limits.Kind.the-variants.{Preference}
