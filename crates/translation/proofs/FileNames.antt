@@ -9,8 +9,13 @@ use Rattle.kinds.specs.declared.limits.Kind.the-variants.{Plain, Preference}
 use Rattle.rules.specs.Lists.{from}
 use Rattle.stores.specs.Program.{Form}
 use Rattle.stores.specs.RuleStore.{decode}
+<<<<<<< HEAD
 use Rattle.names.specs.NameStore.{NamesForm, NamesOf, nameBytes, encodeNames, decodeNames}
 use Rattle.pairing.specs.Atoms.{minimisedAtoms, unfixedAtoms, decimal}
+=======
+use Rattle.names.specs.NameStore.{NamesForm, NamesOf, nameBytes, encodeNames, decodeNames}
+use Rattle.pairing.specs.Atoms.{decimal}
+>>>>>>> translation
 use Rattle.pairing.specs.Loops.{dot, loopedNames}
 use Rattle.pairing.specs.Translated.{translated, translatedNames}
 use Rattle.pairing.proofs.Looped.{looped-names}
@@ -18,11 +23,11 @@ use Rattle.pairing.proofs.PlainForm.{plain-form}
 use Rattle.pairing.proofs.PlainNames.{plain-names}
 use Rattle.writer.specs.Emitted.{InRange}
 use Rattle.writer.proofs.Emitting.{Ahead}
-use Rattle.translation.specs.NameBytes.{FileNames, dottedBytes, endBytes, generatedBytes}
+use Rattle.translation.specs.NameBytes.{FileNames, dottedBytes, generatedBytes}
 use Rattle.translation.specs.PreferenceStore.{PreferenceStore}
 use Rattle.translation.specs.Roles.{minimisedCount, unfixedCount}
 use Rattle.translation.specs.StepWords.{each}
-use Rattle.translation.proofs.NameLaws.{Short, short-of, first-names, first-decoded, names-length, dotted-run, ends-run}
+use Rattle.translation.proofs.NameLaws.{short-of, first-names, first-decoded, names-length, dotted-run, ends-run}
 use Rattle.translation.proofs.StoreWords.{flat-append}
 use Rattle.translation.proofs.FileStore.{classPart, atoms-at, classes-at, minimised-count, unfixed-count, few-minimised, few-unfixed}
 

@@ -1,24 +1,24 @@
 -- What the store of a preference program holds, place by place, and the store of its translation.
 use Prim.Native.Nat.{ℕ, suc, _+_, _-_, _*_, _≤_, _<_}
 use native.Mathlib.Omega.{arith}
-use mathlib.Core.Path.{_≡_, refl, sym, ap, ap₂, _∙_, subst}
+use mathlib.Core.Path.{_≡_, refl, sym, ap, _∙_, subst}
 use mathlib.Core.Bool.{not}
 use mathlib.Core.List.{List, [], _∷_, _++_}
-use lib.Dec.{T, leb, leb→le}
+use lib.Dec.{T, leb→le}
 use lib.ListN.{length, getD, take, drop, length-append, length-drop}
 use lib.Seq.{take-all, drop-at, drop-drop}
-use Rattle.kinds.specs.Limits.{classLimit, occurrenceLimit, ruleLimit}
+use Rattle.kinds.specs.Limits.{classLimit, occurrenceLimit}
 use Rattle.kinds.specs.declared.limits.Kind.{Kind}
-use Rattle.kinds.specs.declared.limits.Kind.the-variants.{Plain, Preference}
+use Rattle.kinds.specs.declared.limits.Kind.the-variants.{Preference}
 use Rattle.rules.specs.Lists.{All, filter, flat, from, sum}
 use Rattle.rules.specs.Rules.{Rule, occurrences}
-use Rattle.rules.proofs.Lists.{all-imp, all-filter, all-from, from-all}
+use Rattle.rules.proofs.Lists.{all-filter, all-from, from-all}
 use Rattle.stores.specs.Program.{Program, Form, ClassesForm, Rising}
-use Rattle.stores.specs.RuleStore.{ruleWords, encode, decode, StoreOf, kindOf, wordCount, places, ruleAt, rulesFrom}
+use Rattle.stores.specs.RuleStore.{ruleWords, encode, decode, wordCount, rulesFrom}
 use Rattle.stores.proofs.RuleTests.{rule-front, past-front}
 use Rattle.pairing.specs.Atoms.{originals, classWord, fixed?, minimised?, minimisedAtoms, unfixedAtoms, fixedAtoms, declared}
-use Rattle.pairing.specs.Loops.{fixedWord?, looped}
-use Rattle.pairing.specs.Translated.{translated, translatedRules, numbers}
+use Rattle.pairing.specs.Loops.{looped}
+use Rattle.pairing.specs.Translated.{translated, numbers}
 use Rattle.pairing.proofs.Fit.{Fit, Inside, fit-of}
 use Rattle.pairing.proofs.ListLaws.{length-from}
 use Rattle.pairing.proofs.SumLaws.{length-parts}
@@ -29,7 +29,7 @@ use Rattle.pairing.proofs.PlainForm.{plain-form}
 use Rattle.writer.specs.Emitted.{InRange}
 use Rattle.writer.proofs.Emitting.{Ahead}
 use Rattle.translation.specs.declared.offsets.Offsets.{Offsets}
-use Rattle.translation.specs.FileRules.{FileRule, FileRules}
+use Rattle.translation.specs.FileRules.{FileRules}
 use Rattle.translation.specs.Offsets.{offsetsOf, Small, FileFits, ClassesFit}
 use Rattle.translation.specs.PreferenceStore.{PreferenceStore}
 use Rattle.translation.specs.Roles.{Low, FirstMinimised, minimisedCount, unfixedCount}

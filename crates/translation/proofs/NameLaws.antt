@@ -3,19 +3,24 @@ use Prim.Native.Nat.{ℕ, zero, suc, _+_, _-_, _*_, _≤_, _<_}
 use native.Mathlib.Omega.{arith}
 use native.Mathlib.Nat.{add-zero}
 use mathlib.Core.Path.{_≡_, refl, sym, ap, ap₂, _∙_, subst}
-use mathlib.Core.Bool.{Bool, true, false, cond}
+use mathlib.Core.Bool.{Bool, cond}
 use mathlib.Core.List.{List, [], _∷_, _++_, map}
-use lib.Dec.{T, ltb}
+use lib.Dec.{T}
 use lib.ListN.{length, getD, take, drop, length-append, length-drop}
 use lib.Seq.{take-all, drop-drop, length-take-le, getD-drop, take-append-seam, drop-append-seam}
 use borrow.Author.Tests.{lt-ltb, le-ltb}
 use Rattle.kinds.specs.declared.limits.Kind.{Kind}
-use Rattle.kinds.specs.declared.limits.Kind.the-variants.{Plain, Preference}
 use Rattle.rules.specs.Lists.{All, flat, from}
 use Rattle.rules.proofs.Lists.{all-imp}
+<<<<<<< HEAD
 use Rattle.names.specs.Names.{allowed}
 use Rattle.names.specs.NameStore.{NamesForm, NamesOf, nameBytes, encodeNames, firstName, decodeNames}
 use Rattle.names.proofs.NameStores.{allowed-short, decode-front}
+=======
+use Rattle.names.specs.Names.{allowed}
+use Rattle.names.specs.NameStore.{nameBytes, encodeNames, firstName, decodeNames}
+use Rattle.names.proofs.NameStores.{allowed-short}
+>>>>>>> translation
 use Rattle.pairing.specs.Atoms.{decimal}
 use Rattle.pairing.specs.Loops.{dot}
 use Rattle.writer.specs.Emitted.{Emitted, InRange}

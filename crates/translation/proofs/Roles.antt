@@ -1,27 +1,26 @@
 -- What the code learns of an atom from its class word.
-use Prim.Native.Nat.{ℕ, zero, suc, _+_, _-_, _≤_, _<_}
+use Prim.Native.Nat.{ℕ, suc, _+_, _-_, _≤_, _<_}
 use native.Mathlib.Omega.{arith}
 use native.Mathlib.Numerals.{add-one}
-use mathlib.Core.Path.{_≡_, refl, sym, ap, _∙_, subst}
+use mathlib.Core.Path.{_≡_, sym, ap, _∙_, subst}
 use mathlib.Core.Bool.{Bool, true, false, not}
-use mathlib.Core.List.{List, [], _∷_}
+use mathlib.Core.List.{List}
 use lib.Dec.{leb, eqb}
 use lib.ListN.{length, getD, drop, drop-of-length-le}
 use lib.Seq.{drop-cons}
-use borrow.Author.Tests.{le-leb, lt-leb, leb-true, leb-false, eq-eqb, ne-eqb}
+use borrow.Author.Tests.{le-leb, lt-leb, eq-eqb, ne-eqb}
 use native.Mathlib.Decide.{decLe, ℕ-discrete}
 use Rattle.kinds.specs.Limits.{classLimit}
-use Rattle.rules.specs.Lists.{All, keep, filter, from}
+use Rattle.rules.specs.Lists.{keep, filter, from}
 use Rattle.rules.specs.Preferred.{varying, fixed}
-use Rattle.stores.specs.Program.{RoleForm, roleOf}
+use Rattle.stores.specs.Program.{roleOf}
 use Rattle.stores.specs.declared.roles.Role.{Role}
 use Rattle.stores.specs.declared.roles.Role.the-variants.{Minimised, Varying, Fixed, Unknown}
 use Rattle.stores.proofs.ClassWord.{minimised, varies, is-fixed, below, above}
 use Rattle.pairing.specs.Loops.{fixedWord?}
 use Rattle.writer.specs.ClassRuns.{upTo}
-use Rattle.writer.proofs.AtomItems.{all-at}
 use Rattle.writer.proofs.ClassWords.{up-to-more, up-to-stop}
-use Rattle.translation.specs.Roles.{pickClass, classOf, Low, minimisedCount, unfixedCount, fixedAmong}
+use Rattle.translation.specs.Roles.{pickClass, classOf, Low, fixedAmong}
 
 -- the class word behind a role
 pub data Told (w : ℕ) : Role → Type 0 where

@@ -98,9 +98,6 @@ module _ (ws : List ℕ) where
         let c : length rest2 ≡ heads ws + bodies ws = omega (arith, length-append headPart (each (raised n) bodyPart), head-length, ap length (each-raised n bodyPart) ∙ length-map bodyPart (λ a. n + a), body-length) in
         record { is = ap (λ (l : List ℕ). 0 ∷ 0 ∷ length l ∷ l) e ∙ ap (λ (k : ℕ). 0 ∷ 0 ∷ k ∷ rest2) c }
 
-    pub small-counts : heads ws + bodies ws ≤ 8192
-    small-counts = omega (arith, h .few)
-
     -- step 3
     pub lists-fit : {cs : List ℕ} → n ≡ length cs → length cs ≤ 256 → Lists3 cs headPart bodyPart
     lists-fit {cs} e l =

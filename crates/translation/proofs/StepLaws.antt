@@ -5,14 +5,12 @@ use native.Mathlib.Numerals.{add-one}
 use native.Mathlib.Nat.{add-zero}
 use mathlib.Core.Path.{_≡_, refl, sym, ap, _∙_}
 use mathlib.Core.Bool.{Bool, true, false, not}
-use mathlib.Core.List.{List, [], _∷_, _++_, append-nil}
+use mathlib.Core.List.{List, [], _∷_, _++_}
 use lib.ListN.{length, getD, drop, drop-of-length-le}
 use lib.Seq.{drop-cons}
-use borrow.Author.Tests.{not-true}
 use Rattle.rules.specs.Lists.{keep, from}
 use Rattle.pairing.specs.Loops.{fixedWord?}
-use Rattle.writer.specs.Emitted.{Emitted, InRange}
-use Rattle.writer.proofs.Emitting.{Ahead, none, renamed, range-renamed}
+use Rattle.writer.proofs.Emitting.{Ahead}
 use Rattle.translation.specs.StepWords.{each, single, raised, copyOf, fixedOf, words4, classWords6, words6}
 use Rattle.translation.specs.declared.offsets.Offsets.{Offsets}
 use Rattle.translation.specs.Roles.{classOf, FirstMinimised}
@@ -71,6 +69,27 @@ module _ (ws : List ℕ) (a : ℕ) {fixed : Bool} (h : fixed ≡ fixedWord? ws a
 pub ends-words : (e u : ℕ) → words4 e u ≡ 2 ∷ 0 ∷ 0 ∷ e ∷ u ∷ []
 unfolding words4
 ends-words e u = ap (λ (x : ℕ). 2 ∷ 0 ∷ 0 ∷ x ∷ u ∷ []) (add-zero e)
+
+-- the four rules of step 6, one after the other
+module _ (o : Offsets) (i a : ℕ) where
+  abbrev fourth6 : List ℕ
+  fourth6 = 2 ∷ 1 ∷ 1 ∷ (o .s + a) ∷ o .u ∷ (o .e + i) ∷ (o .n + a) ∷ []
+
+  abbrev third6 : List ℕ
+  third6 = 1 ∷ 2 ∷ 1 ∷ o .u ∷ (o .e + (i - 1)) ∷ (o .s + a) ∷ a ∷ []
+
+  abbrev second6 : List ℕ
+  second6 = 1 ∷ 2 ∷ 0 ∷ o .u ∷ (o .d + a) ∷ (o .s + a) ∷ []
+
+  pub first-ahead : Ahead (classWords6 o i a) (1 ∷ 1 ∷ 1 ∷ o .u ∷ (o .d + a) ∷ a ∷ []) (second6 ++ (third6 ++ fourth6))
+  unfolding classWords6
+  first-ahead = record { is = refl }
+
+  pub second-ahead : Ahead (second6 ++ (third6 ++ fourth6)) second6 (third6 ++ fourth6)
+  second-ahead = record { is = refl }
+
+  pub third-ahead : Ahead (third6 ++ fourth6) third6 fourth6
+  third-ahead = record { is = refl }
 
 -- the class of a minimised atom is its class word
 module _ {m : ℕ} {ws : List ℕ} (h : FirstMinimised m ws) {a : ℕ} (l : a < m) {class : ℕ} (e : class ≡ classOf ws a) where

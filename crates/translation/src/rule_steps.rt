@@ -29,9 +29,11 @@ fn step2_rule(words: &[u16], n: u16, out: &mut [u16], at: usize) -> usize
     let counts = [0, 0, words[0] + words[1]];
     let body = 3 + words[0] as usize;
     let end = body + words[1] as usize;
+    let heads = &words[3..body];
+    let bodies = &words[body..end];
     let counted = emit(&counts, out, at);
-    let headed = emit(&words[3..body], out, counted);
-    emit_raised(&words[body..end], n, out, headed)
+    let headed = emit(heads, out, counted);
+    emit_raised(bodies, n, out, headed)
 }
 
 pub fn step2(words: &[u16], count: u16, n: u16, out: &mut [u16], at: usize) -> usize

@@ -46,39 +46,14 @@ fn step6_atom(a: u16, class: u16, o: Offsets, out: &mut [u16], at: usize) -> usi
     requires { ⌜ (a ≤ 256) × (1 ≤ class) × (class ≤ 16) × Small o × InRange at (classWords6 o class a) ⌝ }
     ensures { λ r. ⌜ Emitted (now (out .entry)) at (classWords6 o class a) (now (out .exit)) r ⌝ }
 {
-    let own = o.e + class;
-    let earlier = o.e + (class - 1);
-    let copy = o.s + a;
-    let difference = o.d + a;
-    let words = [
-        1,
-        1,
-        1,
-        o.u,
-        difference,
-        a,
-        1,
-        2,
-        0,
-        o.u,
-        difference,
-        copy,
-        1,
-        2,
-        1,
-        o.u,
-        earlier,
-        copy,
-        a,
-        2,
-        1,
-        1,
-        copy,
-        o.u,
-        own,
-        o.n + a,
-    ];
-    emit(&words, out, at)
+    let first = [1, 1, 1, o.u, o.d + a, a];
+    let second = [1, 2, 0, o.u, o.d + a, o.s + a];
+    let third = [1, 2, 1, o.u, o.e + (class - 1), o.s + a, a];
+    let fourth = [2, 1, 1, o.s + a, o.u, o.e + class, o.n + a];
+    let one = emit(&first, out, at);
+    let two = emit(&second, out, one);
+    let three = emit(&third, out, two);
+    emit(&fourth, out, three)
 }
 
 pub fn step6(classes: &[u16], minimised: u16, o: Offsets, out: &mut [u16], at: usize) -> usize

@@ -1,8 +1,6 @@
 use Rattle.translation.proofs.StepLaws.{no-copy, a-copy}
 use Rattle.writer.proofs.Emitting.{none, renamed, range-renamed}
 use mathlib.Core.Path.{sym}
-use mathlib.Core.Bool.{not}
-use native.Mathlib.Omega.{arith}
 use borrow.Author.Needs.{needs}
 use Rattle.translation.proofs.classes.push_copy.Statement.{statement}
 use Rattle.translation.proofs.classes.push_copy.Tie as tie

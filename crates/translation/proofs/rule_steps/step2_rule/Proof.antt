@@ -34,44 +34,44 @@ cast-end c = search needs
 add-end-2 : tie.Need-add-end-2
 add-end-2 c = search needs
 
+sub-heads : tie.Need-sub-heads
+sub-heads c = search needs
+
+part-heads-start : tie.Need-part-heads-start
+part-heads-start c = search needs
+
+part-heads-end : tie.Need-part-heads-end
+part-heads-end c = search needs
+
+mul-bodies : tie.Need-mul-bodies
+mul-bodies c = search needs
+
+sub-bodies : tie.Need-sub-bodies
+sub-bodies c = search needs
+
+part-bodies-start : tie.Need-part-bodies-start
+part-bodies-start c = search needs
+
+part-bodies-end : tie.Need-part-bodies-end
+part-bodies-end c = search needs
+
 slice-aggregate-emit : tie.Need-slice-aggregate-emit
 slice-aggregate-emit c = search needs
 
 emit-requires : tie.Need-emit-requires
-emit-requires c κs = range-begin (c .before .before .before .before .before .before .before .before .pre .2) (counts-ahead _ (c .before .before .before .before .before .before .before .before .pre .1))
-
-sub-emit : tie.Need-sub-emit
-sub-emit c = search needs
-
-part-emit-start : tie.Need-part-emit-start
-part-emit-start c = search needs
-
-part-emit-end : tie.Need-part-emit-end
-part-emit-end c = search needs
+emit-requires c κs = range-begin (c .before .before .before .before .before .before .before .before .before .before .pre .2) (counts-ahead _ (c .before .before .before .before .before .before .before .before .before .before .pre .1))
 
 emit-requires-2 : tie.Need-emit-requires-2
-emit-requires-2 c κs = range-here (turn (start (c .before .before .before .before .before .before .before .before .before .before .before .before .before .pre .2)) (counts-ahead _ (c .before .before .before .before .before .before .before .before .before .before .before .before .before .pre .1)) (c .before .before .before .before .emit .ensures)) (in-front _ _)
-
-mul-emit-raised : tie.Need-mul-emit-raised
-mul-emit-raised c = search needs
-
-sub-emit-raised : tie.Need-sub-emit-raised
-sub-emit-raised c = search needs
-
-part-emit-raised-start : tie.Need-part-emit-raised-start
-part-emit-raised-start c = search needs
-
-part-emit-raised-end : tie.Need-part-emit-raised-end
-part-emit-raised-end c = search needs
+emit-requires-2 c κs = range-here (turn (start (c .before .before .before .before .before .before .before .before .before .before .before .before .before .before .pre .2)) (counts-ahead _ (c .before .before .before .before .before .before .before .before .before .before .before .before .before .before .pre .1)) (c .before .before .before .emit .ensures)) (in-front _ _)
 
 emit-raised-requires : tie.Need-emit-raised-requires
-emit-raised-requires c κs = (bodies-few _ (c .before .before .before .before .before .before .before .before .before .before .before .before .before .before .before .before .before .before .pre .1) (c .before .before .before .before .before .before .before .before .before .before .before .before .before .before .before .before .before .before .pre .0), omega arith, range-here (turn (turn (start (c .before .before .before .before .before .before .before .before .before .before .before .before .before .before .before .before .before .before .pre .2)) (counts-ahead _ (c .before .before .before .before .before .before .before .before .before .before .before .before .before .before .before .before .before .before .pre .1)) (c .before .before .before .before .before .before .before .before .before .emit .ensures)) (in-front _ _) (c .before .before .before .before .emit2 .ensures)) (last-run _))
+emit-raised-requires c κs = (bodies-few _ (c .before .before .before .before .before .before .before .before .before .before .before .before .before .before .before .before .before .before .pre .1) (c .before .before .before .before .before .before .before .before .before .before .before .before .before .before .before .before .before .before .pre .0), omega arith, range-here (turn (turn (start (c .before .before .before .before .before .before .before .before .before .before .before .before .before .before .before .before .before .before .pre .2)) (counts-ahead _ (c .before .before .before .before .before .before .before .before .before .before .before .before .before .before .before .before .before .before .pre .1)) (c .before .before .before .before .before .before .before .emit .ensures)) (in-front _ _) (c .before .before .before .emit2 .ensures)) (last-run _))
 
 same-length : tie.Need-same-length
 same-length c = search needs
 
 returns : tie.Need-returns
-returns c = finish (turn (turn (turn (start (c .before .before .before .before .before .before .before .before .before .before .before .before .before .before .before .before .before .before .before .before .before .pre .2)) (counts-ahead _ (c .before .before .before .before .before .before .before .before .before .before .before .before .before .before .before .before .before .before .before .before .before .pre .1)) (c .before .before .before .before .before .before .before .before .before .before .before .before .emit .ensures)) (in-front _ _) (c .before .before .before .before .before .before .before .emit2 .ensures)) (last-run _) (c .before .before .emit-raised .ensures)) refl
+returns c = finish (turn (turn (turn (start (c .before .before .before .before .before .before .before .before .before .before .before .before .before .before .before .before .before .before .before .before .before .pre .2)) (counts-ahead _ (c .before .before .before .before .before .before .before .before .before .before .before .before .before .before .before .before .before .before .before .before .before .pre .1)) (c .before .before .before .before .before .before .before .before .before .before .emit .ensures)) (in-front _ _) (c .before .before .before .before .before .before .emit2 .ensures)) (last-run _) (c .before .before .emit-raised .ensures)) refl
 
 pub step2-rule-spec : {M : Type 1} → statement M
 step2-rule-spec =
@@ -86,16 +86,16 @@ step2-rule-spec =
     shared-slice-read-end-3
     cast-end
     add-end-2
+    sub-heads
+    part-heads-start
+    part-heads-end
+    mul-bodies
+    sub-bodies
+    part-bodies-start
+    part-bodies-end
     slice-aggregate-emit
     emit-requires
-    sub-emit
-    part-emit-start
-    part-emit-end
     emit-requires-2
-    mul-emit-raised
-    sub-emit-raised
-    part-emit-raised-start
-    part-emit-raised-end
     emit-raised-requires
     same-length
     returns)
