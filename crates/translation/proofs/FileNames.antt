@@ -9,13 +9,8 @@ use Rattle.kinds.specs.declared.limits.Kind.the-variants.{Plain, Preference}
 use Rattle.rules.specs.Lists.{from}
 use Rattle.stores.specs.Program.{Form}
 use Rattle.stores.specs.RuleStore.{decode}
-<<<<<<< HEAD
-use Rattle.names.specs.NameStore.{NamesForm, NamesOf, nameBytes, encodeNames, decodeNames}
-use Rattle.pairing.specs.Atoms.{minimisedAtoms, unfixedAtoms, decimal}
-=======
 use Rattle.names.specs.NameStore.{NamesForm, NamesOf, nameBytes, encodeNames, decodeNames}
 use Rattle.pairing.specs.Atoms.{decimal}
->>>>>>> translation
 use Rattle.pairing.specs.Loops.{dot, loopedNames}
 use Rattle.pairing.specs.Translated.{translated, translatedNames}
 use Rattle.pairing.proofs.Looped.{looped-names}

@@ -12,15 +12,9 @@ use borrow.Author.Tests.{lt-ltb, le-ltb}
 use Rattle.kinds.specs.declared.limits.Kind.{Kind}
 use Rattle.rules.specs.Lists.{All, flat, from}
 use Rattle.rules.proofs.Lists.{all-imp}
-<<<<<<< HEAD
-use Rattle.names.specs.Names.{allowed}
-use Rattle.names.specs.NameStore.{NamesForm, NamesOf, nameBytes, encodeNames, firstName, decodeNames}
-use Rattle.names.proofs.NameStores.{allowed-short, decode-front}
-=======
 use Rattle.names.specs.Names.{allowed}
 use Rattle.names.specs.NameStore.{nameBytes, encodeNames, firstName, decodeNames}
 use Rattle.names.proofs.NameStores.{allowed-short}
->>>>>>> translation
 use Rattle.pairing.specs.Atoms.{decimal}
 use Rattle.pairing.specs.Loops.{dot}
 use Rattle.writer.specs.Emitted.{Emitted, InRange}

@@ -12,12 +12,7 @@ use Rattle.kinds.specs.declared.limits.Kind.the-variants.{Plain, Preference}
 use Rattle.kinds.specs.declared.refusals.Refusal.the-variants.{RuleStore, NameStore}
 use Rattle.stores.specs.Program.{Program, Form}
 use Rattle.stores.specs.RuleStore.{StoreOf, encode, decode, ruleStore, isOf}
-<<<<<<< HEAD
 use Rattle.names.specs.NameStore.{NamesForm, NamesOf, encodeNames, decodeNames, names?}
-use Rattle.stores.specs.declared.rule_store.RuleStore.{RuleStore as Store}
-=======
-use Rattle.names.specs.NameStore.{NamesForm, NamesOf, encodeNames, decodeNames, names?}
->>>>>>> translation
 use Rattle.stores.specs.declared.rule_store.RuleStore.the-variants.{Of, Refused as NoStore}
 use Rattle.names.proofs.NameStores.{decode-names, decoded-names}
 use Rattle.stores.proofs.RuleStores.{decode-encode, of-kind}
