@@ -75,7 +75,7 @@ fn budgets(random: &mut Random, needed: u64) -> [u64; 3] {
         0 => BUDGET_LIMIT,
         1 => BUDGET_LIMIT + 1,
         2 => u64::MAX,
-        3 => random.next() % (needed + 1),
+        3 => random.any() % (needed + 1),
         _ => needed + 1,
     };
     [needed, small, other]
@@ -95,7 +95,7 @@ pub fn verdicts(check: &mut Checker, random: &mut Random, program: &Program) -> 
     let mut chosen: Vec<u64> = if sets <= 8 {
         (0..sets).collect()
     } else {
-        (0..6).map(|_| random.next() % sets).collect()
+        (0..6).map(|_| random.any() % sets).collect()
     };
     chosen.extend([sets - 1, sets, u64::MAX]);
     for set in chosen {
@@ -113,7 +113,7 @@ pub fn verdicts(check: &mut Checker, random: &mut Random, program: &Program) -> 
 
 fn next_states(check: &mut Checker, random: &mut Random, rules: &[u16], sets: u64) -> Checked {
     check.next_state(rules, sets, 0)?;
-    check.next_state(rules, sets + 1, random.next() % 9)?;
+    check.next_state(rules, sets + 1, random.any() % 9)?;
     let mut start = 0;
     for _ in 0..6 {
         let Ok(next) = lent::next_state(rules, start, BUDGET_LIMIT) else {
@@ -131,7 +131,7 @@ fn next_states(check: &mut Checker, random: &mut Random, rules: &[u16], sets: u6
             None => break,
         }
     }
-    check.next_state(rules, random.next() % sets, BUDGET_LIMIT)
+    check.next_state(rules, random.any() % sets, BUDGET_LIMIT)
 }
 
 /// A valid small file and all that can be asked of it.
@@ -159,11 +159,11 @@ pub fn translated(check: &mut Checker, random: &mut Random) -> Checked {
     let rules = rule_store(&plain);
     // Sets with the generated atoms that a stable set has, so that verdicts go deep.
     for _ in 0..8 {
-        let chosen = random.next() & ((1 << file.atoms) - 1);
+        let chosen = random.any() & ((1 << file.atoms) - 1);
         let unchosen = (!chosen & ((1 << file.atoms) - 1)) << file.atoms;
         let others = ((1u64 << plain.atoms) - 1) & !((1 << (2 * file.atoms)) - 1);
         check.stable(&rules, chosen | unchosen | others, BUDGET_LIMIT)?;
-        check.stable(&rules, random.next() & ((1 << plain.atoms) - 1), 1_000)?;
+        check.stable(&rules, random.any() & ((1 << plain.atoms) - 1), 1_000)?;
     }
     Ok(())
 }
@@ -172,10 +172,14 @@ pub fn translated(check: &mut Checker, random: &mut Random) -> Checked {
 pub fn damaged_text(check: &mut Checker, random: &mut Random) -> Checked {
     let (program, names) = either(random, Size::SMALL);
     let whole = writer::write(&program, &names);
-    for _ in 0..40 {
+    for turn in 0..40 {
         let mut text = whole.clone();
         for _ in 0..random.within(1, 3) {
-            spoil::text(random, &mut text);
+            if turn % 2 == 0 {
+                spoil::text(random, &mut text);
+            } else {
+                spoil::names_of_text(random, &mut text);
+            }
         }
         read(check, random, &text)?;
     }
@@ -270,11 +274,11 @@ pub fn many_atoms(check: &mut Checker, random: &mut Random) -> Checked {
     let sets = 1u64 << program.atoms;
     for _ in 0..6 {
         // The models among the sets near the full one and near the empty one.
-        let mut set = random.next() & random.next() & random.next() & (sets - 1);
+        let mut set = random.any() & random.any() & random.any() & (sets - 1);
         if random.once_in(2) {
             set ^= sets - 1;
         }
-        for budget in [0, 1, random.next() % 700] {
+        for budget in [0, 1, random.any() % 700] {
             check.preferred(&rules, set, budget)?;
             check.stable(&rules, set, budget)?;
             check.next_state(&rules, set, budget)?;
@@ -322,9 +326,9 @@ pub fn long(check: &mut Checker, random: &mut Random) -> Checked {
         }
         check.write(&rules, &names, 700_000)?;
         check.translate(&rules, &names, 700_000)?;
-        check.preferred(&rules, random.next(), 5)?;
-        check.stable(&rules, random.next(), 5)?;
-        check.next_state(&rules, random.next(), 5)?;
+        check.preferred(&rules, random.any(), 5)?;
+        check.stable(&rules, random.any(), 5)?;
+        check.next_state(&rules, random.any(), 5)?;
     }
     Ok(())
 }

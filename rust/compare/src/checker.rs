@@ -4,7 +4,8 @@
 //! with a pattern; after the call the whole piece is compared, so a write before or past the lent
 //! part shows, and so does a byte that should have kept its content.
 
-use crate::engine::{Engine, Reference};
+use crate::engine::{Engine, Reference, TextAnswer, VerdictAnswer};
+use std::collections::BTreeMap;
 use std::fmt::Debug;
 
 /// What two engines answered differently.
@@ -65,6 +66,31 @@ pub struct Checker<'e> {
     engine: &'e dyn Engine,
     /// How many calls were compared.
     pub comparisons: u64,
+    /// How often each function gave which outcome: a refusal's number, or 0, or a verdict's kind.
+    pub outcomes: BTreeMap<(&'static str, Outcome), u64>,
+}
+
+/// The outcome of a call, without its values.
+#[derive(Clone, Copy, Debug, PartialEq, Eq, PartialOrd, Ord)]
+pub enum Outcome {
+    Done,
+    /// A verdict's or a next state's kind: 0 to 3.
+    Kind(u64),
+    Refused(u64),
+}
+
+fn outcome_of_text(refusal: u64) -> Outcome {
+    match refusal {
+        0 => Outcome::Done,
+        number => Outcome::Refused(number),
+    }
+}
+
+fn outcome_of_verdict(answer: VerdictAnswer) -> Outcome {
+    match answer.kind {
+        4 => Outcome::Refused(answer.value),
+        kind => Outcome::Kind(kind),
+    }
 }
 
 impl<'e> Checker<'e> {
@@ -72,17 +98,21 @@ impl<'e> Checker<'e> {
         Checker {
             engine,
             comparisons: 0,
+            outcomes: BTreeMap::new(),
         }
     }
 
     /// Counts one comparison; gives a difference where the two outcomes are not equal.
     fn same<T: PartialEq + Debug>(
         &mut self,
+        function: &'static str,
+        outcome: Outcome,
         ours: &T,
         theirs: &T,
         call: impl Fn() -> String,
     ) -> Checked {
         self.comparisons += 1;
+        *self.outcomes.entry((function, outcome)).or_default() += 1;
         if ours == theirs {
             return Ok(());
         }
@@ -102,7 +132,8 @@ impl<'e> Checker<'e> {
             (answer, rules.memory, names.memory, input == text)
         };
         let (ours, theirs) = (outcome(&Reference), outcome(self.engine));
-        self.same(&ours, &theirs, || {
+        let outcome = outcome_of_text(ours.0.refusal);
+        self.same("read", outcome, &ours, &theirs, || {
             format!(
                 "read, outputs {rules_len} and {names_len}, text:\n{}",
                 shown(text)
@@ -112,11 +143,11 @@ impl<'e> Checker<'e> {
 
     fn text_call(
         &mut self,
-        name: &str,
+        name: &'static str,
         rules: &[u16],
         names: &[u8],
         out_len: usize,
-        call: impl Fn(&dyn Engine, &[u16], &[u8], &mut [u8]) -> crate::engine::TextAnswer,
+        call: impl Fn(&dyn Engine, &[u16], &[u8], &mut [u8]) -> TextAnswer,
     ) -> Checked {
         let outcome = |engine: &dyn Engine| {
             let input = (rules.to_vec(), names.to_vec());
@@ -125,7 +156,8 @@ impl<'e> Checker<'e> {
             (answer, out.memory, input.0 == rules && input.1 == names)
         };
         let (ours, theirs) = (outcome(&Reference), outcome(self.engine));
-        self.same(&ours, &theirs, || {
+        let outcome = outcome_of_text(ours.0.refusal);
+        self.same(name, outcome, &ours, &theirs, || {
             format!(
                 "{name}, output {out_len}, rules: {}\nnames: {}",
                 shown_words(rules),
@@ -156,11 +188,11 @@ impl<'e> Checker<'e> {
 
     fn verdict_call(
         &mut self,
-        name: &str,
+        name: &'static str,
         rules: &[u16],
         number: u64,
         budget: u64,
-        call: impl Fn(&dyn Engine, &[u16]) -> crate::engine::VerdictAnswer,
+        call: impl Fn(&dyn Engine, &[u16]) -> VerdictAnswer,
     ) -> Checked {
         let outcome = |engine: &dyn Engine| {
             let input = rules.to_vec();
@@ -168,7 +200,8 @@ impl<'e> Checker<'e> {
             (answer, input == rules)
         };
         let (ours, theirs) = (outcome(&Reference), outcome(self.engine));
-        self.same(&ours, &theirs, || {
+        let outcome = outcome_of_verdict(ours.0);
+        self.same(name, outcome, &ours, &theirs, || {
             format!(
                 "{name} {number}, budget {budget}, rules: {}",
                 shown_words(rules)

@@ -1,9 +1,10 @@
 //! A run: the families in turn, from one seed, until enough is compared.
 
 use crate::cases;
-use crate::checker::{Checked, Checker, Difference};
+use crate::checker::{Checked, Checker, Difference, Outcome};
 use crate::engine::Engine;
 use crate::random::Random;
+use std::collections::BTreeMap;
 use std::time::{Duration, Instant};
 
 type Family = fn(&mut Checker, &mut Random) -> Checked;
@@ -31,6 +32,8 @@ pub struct Report {
     pub comparisons: u64,
     /// The comparisons of each family.
     pub families: Vec<(&'static str, u64)>,
+    /// How often each function gave which outcome.
+    pub outcomes: BTreeMap<(&'static str, Outcome), u64>,
     pub time: Duration,
 }
 
@@ -39,8 +42,6 @@ pub fn run(engine: &dyn Engine, seed: u64, until: Until) -> Result<Report, Diffe
     let start = Instant::now();
     let mut check = Checker::new(engine);
     let mut counts = [0; FAMILIES.len()];
-    cases::limits(&mut check, &mut Random::new(seed))?;
-    let limits = check.comparisons;
     let mut round = 0u64;
     while check.comparisons < until.comparisons || start.elapsed() < until.time {
         for (place, (name, family, turns)) in FAMILIES.iter().enumerate() {
@@ -57,7 +58,9 @@ pub fn run(engine: &dyn Engine, seed: u64, until: Until) -> Result<Report, Diffe
         }
         round += 1;
     }
-    let mut families = vec![("limits", limits)];
+    let before = check.comparisons;
+    cases::limits(&mut check, &mut Random::new(seed))?;
+    let mut families = vec![("limits", check.comparisons - before)];
     families.extend(
         FAMILIES
             .iter()
@@ -67,6 +70,65 @@ pub fn run(engine: &dyn Engine, seed: u64, until: Until) -> Result<Report, Diffe
     Ok(Report {
         comparisons: check.comparisons,
         families,
+        outcomes: check.outcomes,
         time: start.elapsed(),
     })
+}
+
+/// The outcomes that a run has to see, or its cases are too poor.
+pub fn wanted_outcomes() -> Vec<(&'static str, Outcome)> {
+    let mut wanted = Vec::new();
+    let mut refusals = |function: &'static str, numbers: &[u64]| {
+        wanted.extend(
+            numbers
+                .iter()
+                .map(|&number| (function, Outcome::Refused(number))),
+        );
+    };
+    refusals("read", &[1, 2, 3, 4, 5, 6, 7, 8, 9]);
+    refusals("write", &[10, 14, 9]);
+    refusals("translate", &[10, 14, 9]);
+    refusals("preferred", &[10, 11, 12, 13]);
+    refusals("stable", &[10, 11, 12, 13]);
+    refusals("next_state", &[10, 11, 12, 13]);
+    for function in ["read", "write", "translate"] {
+        wanted.push((function, Outcome::Done));
+    }
+    for kind in [0, 1, 2, 3] {
+        wanted.push(("preferred", Outcome::Kind(kind)));
+        wanted.push(("stable", Outcome::Kind(kind)));
+    }
+    for kind in [0, 1, 3] {
+        wanted.push(("next_state", Outcome::Kind(kind)));
+    }
+    wanted
+}
+
+impl Report {
+    pub fn print(&self) {
+        for (name, count) in &self.families {
+            println!("{count:>9}  {name}");
+        }
+        let mut last = "";
+        for ((function, outcome), count) in &self.outcomes {
+            if *function != last {
+                print!("{}{function}:", if last.is_empty() { "" } else { "\n" });
+                last = function;
+            }
+            match outcome {
+                Outcome::Done => print!(" done {count}"),
+                Outcome::Kind(kind) => print!(" kind {kind} {count}"),
+                Outcome::Refused(number) => print!(" refused {number} {count}"),
+            }
+        }
+        let seconds = self.time.as_secs_f64();
+        println!("\n{} comparisons in {seconds:.1} s", self.comparisons);
+    }
+
+    /// The wanted outcomes that were not seen.
+    pub fn unseen(&self) -> Vec<(&'static str, Outcome)> {
+        let mut wanted = wanted_outcomes();
+        wanted.retain(|outcome| !self.outcomes.contains_key(outcome));
+        wanted
+    }
 }

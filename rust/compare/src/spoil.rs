@@ -100,6 +100,17 @@ fn with_lines(text: &mut Vec<u8>, change: impl FnOnce(&mut Vec<Vec<u8>>)) {
 
 /// Damages the text in one way. At times the text stays valid.
 pub fn text(random: &mut Random, text: &mut Vec<u8>) {
+    let way = random.below(20);
+    text_in_way(random, text, way);
+}
+
+/// Damages names, lists and lines and mostly leaves the form, so that the higher refusals show.
+pub fn names_of_text(random: &mut Random, text: &mut Vec<u8>) {
+    let way = *random.pick(&[5, 8, 8, 9, 10, 10, 11, 15, 19, 19]);
+    text_in_way(random, text, way);
+}
+
+fn text_in_way(random: &mut Random, text: &mut Vec<u8>, way: usize) {
     const BYTES: &[u8] = b"() \n\tab zAZ09_.NSDEU-\r\0\x7f\xff";
     const WORDS: [&str; 11] = [
         "min", "vary", "fix", "atoms", "rule", "head", "body", "not", "mi", "atomsx", "",
@@ -121,7 +132,7 @@ pub fn text(random: &mut Random, text: &mut Vec<u8>) {
         "(vary) (fix)\n",
     ];
     let length = text.len();
-    match random.below(20) {
+    match way {
         0 if length > 0 => text[random.below(length)] = *random.pick(BYTES),
         1 => text.insert(random.within(0, length), *random.pick(BYTES)),
         2 if length > 0 => {
@@ -139,7 +150,7 @@ pub fn text(random: &mut Random, text: &mut Vec<u8>) {
                 }
             }
         }
-        5 | 6 | 7 => {
+        5..=7 => {
             if let Some(item) = random_item(random, text) {
                 let name = odd_name(random);
                 text.splice(item, name);
@@ -191,20 +202,43 @@ pub fn text(random: &mut Random, text: &mut Vec<u8>) {
             text.pop();
         }
         _ => {
-            // A `not` list filled, in whatever kind.
-            if let Some(item) = random_item(random, text) {
-                let name = [b" ", &text[item]].concat();
-                if let Some(at) = find(text, b"(not)") {
-                    text.splice(at + 4..at + 4, name);
+            // An atom more in some list: a filled `not` list, in whatever kind.
+            if let Some(name) = random_declared(random, text) {
+                const LISTS: [&[u8]; 5] = [b"(not", b"(not", b"(head", b"(body", b"(vary"];
+                let list = random.pick(&LISTS);
+                let starts = places(text, list);
+                if !starts.is_empty() {
+                    let at = random.pick(&starts) + list.len();
+                    text.splice(at..at, [b" ", name.as_slice()].concat());
                 }
             }
         }
     }
 }
 
-fn find(text: &[u8], wanted: &[u8]) -> Option<usize> {
-    text.windows(wanted.len())
-        .position(|window| window == wanted)
+/// The places where these bytes stand.
+fn places(text: &[u8], wanted: &[u8]) -> Vec<usize> {
+    let windows = text.windows(wanted.len()).enumerate();
+    windows
+        .filter(|(_, window)| *window == wanted)
+        .map(|(at, _)| at)
+        .collect()
+}
+
+/// The name of a declared atom.
+fn random_declared(random: &mut Random, text: &[u8]) -> Option<Vec<u8>> {
+    let declarations = lines(text)
+        .into_iter()
+        .filter(|line| !line.starts_with(b"(rule"));
+    let names: Vec<Vec<u8>> = declarations
+        .flat_map(|line| {
+            let items = line.split(|b| matches!(b, b'(' | b')' | b' ' | b'\n'));
+            let items: Vec<Vec<u8>> = items.map(<[u8]>::to_vec).collect();
+            // The first piece is what stands before the bracket, the second the line's word.
+            items.into_iter().skip(2).filter(|item| !item.is_empty())
+        })
+        .collect();
+    (!names.is_empty()).then(|| random.pick(&names).clone())
 }
 
 /// Bytes that look like pieces of a file, without any order.
@@ -244,7 +278,7 @@ pub fn soup(random: &mut Random, pieces: usize) -> Vec<u8> {
     let mut text = Vec::new();
     for _ in 0..random.within(0, pieces) {
         if random.once_in(40) {
-            text.push(random.next() as u8);
+            text.push(random.any() as u8);
         } else {
             text.extend_from_slice(random.pick(&PIECES).as_bytes());
         }
