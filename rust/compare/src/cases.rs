@@ -10,7 +10,7 @@ use reference::program::{Names, Program, Role, Rule};
 use reference::reader;
 use reference::stores::{name_store, rule_store};
 use reference::translator;
-use reference::verdicts::{Next, Verdict};
+use reference::verdicts::{is_model, Next, Verdict};
 use reference::writer;
 
 /// The lengths of outputs worth lending where the result has this length.
@@ -95,7 +95,13 @@ pub fn verdicts(check: &mut Checker, random: &mut Random, program: &Program) -> 
     let mut chosen: Vec<u64> = if sets <= 8 {
         (0..sets).collect()
     } else {
-        (0..6).map(|_| random.any() % sets).collect()
+        let models: Vec<u64> = (0..sets)
+            .filter(|&set| is_model(&program.rules, set))
+            .collect();
+        let places = random.choose(5, models.len());
+        let some = places.into_iter().map(|place| models[place]);
+        some.chain([random.any() % sets, random.any() % sets])
+            .collect()
     };
     chosen.extend([sets - 1, sets, u64::MAX]);
     for set in chosen {
