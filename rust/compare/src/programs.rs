@@ -4,7 +4,7 @@ use crate::checker::Difference;
 use crate::generate::{either, preference, Size};
 use crate::random::Random;
 use crate::spoil;
-use reference::{programs, writer};
+use reference::{programs, reader, writer};
 use std::io::{self, Read, Write};
 use std::path::{Path, PathBuf};
 use std::process::{Command, Stdio};
@@ -85,16 +85,22 @@ fn inputs(random: &mut Random) -> Vec<u8> {
     text
 }
 
+/// May the listing take longer than anybody waits? A damaged text can still be a file of many
+/// atoms.
+fn lists_for_long(text: &[u8]) -> bool {
+    reader::read(text).is_ok_and(|(program, _)| (13..=60).contains(&program.atoms))
+}
+
 /// Runs both programs on random inputs; gives the number of comparisons.
 pub fn compare(directory: &Path, seed: u64, inputs_count: u64) -> Result<u64, Difference> {
     let mut random = Random::new(seed);
     let mut comparisons = 0;
     for _ in 0..inputs_count {
         let text = inputs(&mut random);
-        let expected = [
-            ("translate", programs::translate(&text)),
-            ("states", programs::states(&text)),
-        ];
+        let mut expected = vec![("translate", programs::translate(&text))];
+        if !lists_for_long(&text) {
+            expected.push(("states", programs::states(&text)));
+        }
         for (name, expected) in expected {
             comparisons += 1;
             let printed = output(&directory.join(name), &text).map_err(|error| Difference {
