@@ -14,3 +14,4 @@ pub mod NameBlocks
 pub mod KeptAtoms
 pub mod DeclaredSteps
 pub mod LineByLine
+pub mod Delivering
