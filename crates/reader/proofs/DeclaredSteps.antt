@@ -1,23 +1,23 @@
 -- The step that a declared line makes, one law for each answer.
-use Prim.Native.Nat.{ℕ, suc, _+_, _*_, _≤_, _<_}
+use Prim.Native.Nat.{ℕ, suc, _+_, _≤_, _<_}
 use native.Mathlib.Omega.{arith}
 use mathlib.Core.Path.{_≡_, refl, sym, ap, ap₂, _∙_, subst}
 use mathlib.Core.Bool.{Bool, true, false, not, _&&_, _||_}
-use mathlib.Core.List.{List, [], _∷_, _++_, append-assoc, append-nil}
+use mathlib.Core.List.{List, [], _∷_, _++_, append-nil}
 use lib.Dec.{T, leb}
 use lib.ListN.{length, drop, length-append, length-replicate}
 use lib.Seq.{sets, length-sets}
-use borrow.Author.Tests.{lt-leb, leb-true, not-true, not-false}
+use borrow.Author.Tests.{lt-leb, leb-true, not-false}
 use Rattle.kinds.specs.Limits.{atomLimit, classLimit}
 use Rattle.kinds.specs.declared.limits.Kind.{Kind}
 use Rattle.kinds.specs.declared.limits.Kind.the-variants.{Plain, Preference}
 use Rattle.kinds.specs.declared.refusals.Refusal.{Refusal}
 use Rattle.kinds.specs.declared.refusals.Refusal.the-variants.{Form as BrokenForm, Name, DeclaredTwice, Limit}
-use Rattle.rules.specs.Lists.{All, some, flat}
+use Rattle.rules.specs.Lists.{some, flat}
 use Rattle.rules.proofs.Lists.{all-app-r}
 use Rattle.stores.specs.Names.{allowed}
 use Rattle.stores.specs.NameStore.{decodeNames}
-use Rattle.stores.specs.NameIndex.{buckets, Indexed}
+use Rattle.stores.specs.NameIndex.{Indexed}
 use Rattle.stores.specs.RuleStore.{ruleWords, wordCount}
 use Rattle.stores.proofs.NameStores.{allowed-short}
 use Rattle.reader.specs.declared.answers.Stage.{Stage}
@@ -25,14 +25,13 @@ use Rattle.reader.specs.declared.answers.Stage.the-variants.{Declaring, 
 use Rattle.reader.specs.declared.forms.Keyword.{Keyword}
 use Rattle.reader.specs.declared.gathered.Gathered.{Gathered}
 use Rattle.reader.specs.declared.gathered.Line.{Line}
-use Rattle.reader.specs.declared.gathered.Line.the-variants.{Next, Fault}
-use Rattle.reader.specs.declared.entries.Entered.{Entered}
+use Rattle.reader.specs.declared.gathered.Line.the-variants.{Next}
 use Rattle.reader.specs.Items.{items}
 use Rattle.reader.specs.Forms.{Form, Word, atoms, min, vary, fix}
-use Rattle.reader.specs.Faults.{State, next, fault, expects, ruling?, stageAfter, classesAfter, classWords, twice, refusedName, first, declared, declare, stepForm}
+use Rattle.reader.specs.Faults.{State, next, fault, expects, ruling?, classesAfter, classWords, twice, refusedName, first, declared, declare, stepForm}
 use Rattle.reader.specs.Shapes.{wordOf, Declared}
 use Rattle.reader.specs.Entries.{Room, Stored, Short, AllEntered, SomeEntered, among}
-use Rattle.reader.specs.Gathered.{stateOf, storedWords, Filled, Held, LineSays, LineIs, firstLine, countsIf, withNames, keptNames, KeptNames, pastRefusal}
+use Rattle.reader.specs.Gathered.{storedWords, Filled, Held, LineSays, LineIs, firstLine, countsIf, withNames, keptNames, KeptNames, pastRefusal}
 use Rattle.reader.proofs.HeldState.{fill-more, held-is, held-small}
 use Rattle.reader.proofs.NewNames.{decoded}
 use Rattle.reader.proofs.Entering.{twice-split, twice-apart}
@@ -152,7 +151,7 @@ module _ {kind : Kind} {st : State} {g : Gathered} {words bytes starts heads lin
           is-over : over ≡ true
           is-over =
               let many : atomLimit (st .kind) < length (st .names) + length xs =
-                omega (arith, s .full, s .more, length-append (st .names) (s .passed), ap length (sym (s .all)) ∙ length-append (s .passed) (items (drop at l)), atoms-small (st .kind)) in
+              omega (arith, s .full, s .more, length-append (st .names) (s .passed), ap length (sym (s .all)) ∙ length-append (s .passed) (items (drop at l)), atoms-small (st .kind)) in
               rw (lt-leb (length (st .names) + length xs) (atomLimit (st .kind)) many)
 
           pub past-room : {a : Refusal} → a ≡ pastRefusal (some (among (decodeNames (length starts′) bytes′)) (items (drop at l)) || twice [] (items (drop at l))) → stepForm st f ≡ fault a

@@ -1,25 +1,22 @@
 -- The gathered stores in the two lent outputs.
-use Prim.Native.Nat.{ℕ, _+_, _-_, _^_, _≤_, _<_}
-use native.Mathlib.Nat.{zero-add}
+use Prim.Native.Nat.{ℕ, _≤_, _<_}
 use native.Mathlib.Omega.{arith}
-use mathlib.Core.Path.{_≡_, refl, sym, ap, ap₂, _∙_, subst}
-use mathlib.Core.Bool.{Bool, true, false, cond, _&&_}
-use mathlib.Core.List.{List, [], _∷_, _++_, append-assoc}
+use mathlib.Core.Path.{_≡_, refl, sym, ap, _∙_}
+use mathlib.Core.Bool.{Bool, true, false, _&&_}
+use mathlib.Core.List.{List, [], _∷_, _++_}
 use lib.Dec.{leb}
-use lib.ListN.{length, take, drop, length-append}
-use lib.Seq.{sets, take-at, drop-at, length-take-le}
+use lib.ListN.{length, take, drop}
+use lib.Seq.{sets, take-at}
 use borrow.Author.Tests.{lt-leb, le-leb}
 use Rattle.kinds.specs.declared.limits.Kind.{Kind}
 use Rattle.kinds.specs.declared.refusals.Refusal.the-variants.{Output}
-use Rattle.rules.specs.Lists.{flat}
 use Rattle.stores.specs.NameStore.{encodeNames}
-use Rattle.stores.specs.RuleStore.{kindWord, ruleWords, encode}
+use Rattle.stores.specs.RuleStore.{kindWord, encode}
 use Rattle.writer.specs.Emitted.{Emitted, InRange}
 use Rattle.writer.specs.Answers.{over}
 use Rattle.reader.specs.declared.answers.Read.the-variants.{Accepted, Refused}
 use Rattle.reader.specs.declared.gathered.Gathered.{Gathered}
 use Rattle.reader.specs.Faults.{State}
-use Rattle.reader.specs.Said.{programOf}
 use Rattle.reader.specs.Answers.{ruleWordsOf, nameBytesOf}
 use Rattle.reader.specs.Gathered.{storedWords, Held}
 use Rattle.reader.specs.Gathering.{headerWords, Delivered}

@@ -1,12 +1,11 @@
 -- Names entered one after another: a turn of the walk.
-use Prim.Native.Nat.{ℕ, suc, _+_, _-_, _*_, _≤_, _<_, zero-le}
-use native.Mathlib.Numerals.{add-one}
+use Prim.Native.Nat.{ℕ, suc, _+_, _≤_, _<_}
 use native.Mathlib.Omega.{arith}
 use mathlib.Core.Path.{_≡_, refl, sym, ap, ap₂, _∙_, subst}
 use mathlib.Core.Bool.{Bool, true, false, _||_}
 use mathlib.Core.List.{List, [], _∷_, _++_, append-assoc, append-nil}
-use lib.ListN.{length, take, drop, length-append}
-use Rattle.rules.specs.Lists.{All, some}
+use lib.ListN.{length, drop, length-append}
+use Rattle.rules.specs.Lists.{some}
 use Rattle.stores.specs.NameStore.{nameBytes, encodeNames, decodeNames, sameBytes}
 use Rattle.stores.specs.NameIndex.{found, Indexed}
 use Rattle.stores.specs.declared.name_index.Found.{Found}
@@ -161,7 +160,7 @@ module _ {names : List (List ℕ)} {s : List ℕ} {from : ℕ} {bytes starts hea
             let k = said g in
             let grown : held ++ (x ∷ []) ≡ names ++ (h .passed ++ (x ∷ [])) = append-assoc names (h .passed) (x ∷ []) in
             let size : length (encodeNames (held ++ (x ∷ []))) ≡ length (encodeNames held) + (1 + n) =
-                ap length (encode-last held x) ∙ length-append (encodeNames held) (nameBytes x) ∙ ap (λ m. length (encodeNames held) + m) (plus-one (item-length s i e d)) in
+            ap length (encode-last held x) ∙ length-append (encodeNames held) (nameBytes x) ∙ ap (λ m. length (encodeNames held) + m) (plus-one (item-length s i e d)) in
             record {
               passed = h .passed ++ (x ∷ []);
               inside = entry-inside;

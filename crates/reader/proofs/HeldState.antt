@@ -82,10 +82,10 @@ held-is {kind} {st} {g} {words} {bytes} h =
     let all : drop 4 words ≡ st .words ++ (flat ruleWords (st .program-rules) ++ rest) = behind (h .stored) ∙ append-assoc (st .words) (flat ruleWords (st .program-rules)) rest in
     let class-words : take c (drop 4 words) ≡ st .words = ap (take c) all ∙ take-at (st .words) (flat ruleWords (st .program-rules) ++ rest) c (h .class-words) in
     let names : decodeNames (g .atoms) bytes ≡ st .names =
-        ap₂ decodeNames (h .atoms-is) (sym (h .index .placed .stored)) ∙ names-front (st .names) (drop (length (encodeNames (st .names))) bytes) in
+    ap₂ decodeNames (h .atoms-is) (sym (h .index .placed .stored)) ∙ names-front (st .names) (drop (length (encodeNames (st .names))) bytes) in
     let rules : rulesFrom (g .rules) (drop (4 + c) words) ≡ st .program-rules =
-        ap₂ rulesFrom (h .rules-is) (sym (drop-drop c 4 words) ∙ ap (drop c) all ∙ drop-at (st .words) (flat ruleWords (st .program-rules) ++ rest) c (h .class-words))
-        ∙ rules-front (st .program-rules) rest in
+    ap₂ rulesFrom (h .rules-is) (sym (drop-drop c 4 words) ∙ ap (drop c) all ∙ drop-at (st .words) (flat ruleWords (st .program-rules) ++ rest) c (h .class-words))
+    ∙ rules-front (st .program-rules) rest in
     λ i. record {
       kind = h .kind-is i;
       stage = sym (h .stage-is) i;

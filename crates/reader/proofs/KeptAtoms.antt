@@ -1,16 +1,15 @@
 -- A declared line whose names are in order: the counts, and its class words in the scratch.
-use Prim.Native.Nat.{ℕ, suc, _+_, _^_, _≤_, _<_, zero-le}
+use Prim.Native.Nat.{ℕ, _+_, _^_, _≤_, _<_, zero-le}
 use native.Mathlib.Numerals.{add-one}
 use native.Mathlib.Omega.{arith}
-use mathlib.Core.Path.{_≡_, refl, sym, ap, _∙_, subst}
+use mathlib.Core.Path.{_≡_, refl, sym, ap, _∙_}
 use mathlib.Core.Bool.{Bool, true, false, not, _&&_, _||_}
-use mathlib.Core.List.{List, [], _∷_, _++_}
+use mathlib.Core.List.{List, [], _∷_}
 use lib.Dec.{leb}
-use lib.ListN.{length, replicate, length-replicate, replicate-append-replicate}
+use lib.ListN.{replicate, length-replicate, replicate-append-replicate}
 use borrow.Author.Tests.{lt-leb, le-leb}
 use Rattle.kinds.specs.Limits.{atomLimit, classLimit}
 use Rattle.kinds.specs.declared.limits.Kind.{Kind}
-use Rattle.kinds.specs.declared.refusals.Refusal.{Refusal}
 use Rattle.kinds.specs.declared.refusals.Refusal.the-variants.{DeclaredTwice, Limit}
 use Rattle.writer.specs.Emitted.{Emitted, InRange}
 use Rattle.writer.proofs.Emitting.{none, then, renamed}
@@ -22,7 +21,7 @@ use Rattle.reader.specs.declared.answers.Stage.{Stage}
 use Rattle.reader.specs.Forms.{Word}
 use Rattle.reader.specs.Faults.{stageAfter, classesAfter, classWords}
 use Rattle.reader.specs.Shapes.{wordOf}
-use Rattle.reader.specs.Gathered.{withNames, keptNames, KeptNames, pastRefusal}
+use Rattle.reader.specs.Gathered.{keptNames, KeptNames, pastRefusal}
 
 module _ (kind : Kind) (atoms classes : ℕ) {limit : ℕ} (e : limit ≡ atomLimit kind) where
   pub atoms-over : limit < atoms → false ≡ (leb atoms (atomLimit kind) && leb classes classLimit)

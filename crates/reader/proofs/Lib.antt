@@ -15,3 +15,4 @@ pub mod KeptAtoms
 pub mod DeclaredSteps
 pub mod LineByLine
 pub mod Delivering
+pub mod WholeText

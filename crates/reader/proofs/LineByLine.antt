@@ -6,8 +6,8 @@ use mathlib.Core.Path.{_≡_, refl, sym, ap, ap₂, _∙_, subst}
 use mathlib.Core.Bool.{Bool, true, false, cond}
 use mathlib.Core.List.{List, [], _∷_}
 use lib.Dec.{eqb}
-use lib.ListN.{length, getD, take, drop, length-drop, drop-of-length-le}
-use lib.Seq.{drop-cons, drop-drop, length-take-le}
+use lib.ListN.{length, take, drop, length-drop, drop-of-length-le}
+use lib.Seq.{drop-drop, length-take-le}
 use Rattle.kinds.specs.declared.limits.Kind.{Kind}
 use Rattle.kinds.specs.declared.refusals.Refusal.{Refusal}
 use Rattle.kinds.specs.declared.refusals.Refusal.the-variants.{Form as BrokenForm}
@@ -18,7 +18,7 @@ use Rattle.reader.specs.declared.reading.Gather.{Gather}
 use Rattle.reader.specs.declared.reading.Gather.the-variants.{Whole, Refused}
 use Rattle.reader.specs.Lines.{lineLength, linesFrom, lines}
 use Rattle.reader.specs.Forms.{formOf}
-use Rattle.reader.specs.Faults.{State, next, fault, ruling?, stepForm}
+use Rattle.reader.specs.Faults.{State, ruling?, stepForm}
 use Rattle.reader.specs.Said.{Said, accepted, refused, onStep, readLines, start}
 use Rattle.reader.specs.Gathered.{stateOf, Held, LineSays, LineIs}
 use Rattle.reader.specs.Gathering.{startCounts, passedOn, GatherSays, GatherIs}

@@ -1,12 +1,12 @@
 -- A name written behind those of the scratch and entered into their index.
-use Prim.Native.Nat.{ℕ, _+_, _≤_, _<_}
+use Prim.Native.Nat.{ℕ, _+_, _<_}
 use native.Mathlib.Omega.{arith}
 use mathlib.Core.Path.{_≡_, refl, sym, ap, ap₂, _∙_, subst}
 use mathlib.Core.Logic.{_≢_}
 use mathlib.Core.Bool.{Bool, true, false, not}
 use mathlib.Core.List.{List, [], _∷_, _++_}
 use lib.Dec.{T}
-use lib.ListN.{length, getD, drop, set, length-append, length-drop}
+use lib.ListN.{length, getD, drop, set, length-drop}
 use lib.Seq.{sets, drop-append-seam}
 use Rattle.rules.specs.Lists.{All, some}
 use Rattle.stores.specs.NameStore.{nameBytes, encodeNames, decodeNames, sameBytes}

@@ -97,7 +97,13 @@ fn put_copies(w: u16, count: usize, words: &mut [u16], at: usize) -> usize
 }
 
 // The class words of a line's atoms.
-fn put_class_words(word: Keyword, classes: usize, count: usize, words: &mut [u16], at: usize) -> usize
+fn put_class_words(
+    word: Keyword,
+    classes: usize,
+    count: usize,
+    words: &mut [u16],
+    at: usize,
+) -> usize
     requires { ⌜ (classes < 65535) × (at + count < 2 ^ 63) ⌝ }
     ensures { λ r. ⌜ Emitted (now (words .entry)) at (classWords (wordOf word) classes count) (now (words .exit)) r ⌝ }
 {
@@ -119,7 +125,15 @@ fn names_fit(kind: Kind, atoms: usize, classes: usize) -> bool
 }
 
 // A line whose names are all entered.
-fn keep_names(kind: Kind, gathered: Gathered, word: Keyword, count: usize, atoms: usize, used: usize, words: &mut [u16]) -> Line
+fn keep_names(
+    kind: Kind,
+    gathered: Gathered,
+    word: Keyword,
+    count: usize,
+    atoms: usize,
+    used: usize,
+    words: &mut [u16],
+) -> Line
     requires { ⌜ (gathered .classes ≤ classLimit) × (gathered .words + count < 2 ^ 63) ⌝ }
     ensures { λ r. ⌜ KeptNames kind gathered (wordOf word) count atoms used (now (words .entry)) (now (words .exit)) r ⌝ }
 {
@@ -146,7 +160,14 @@ fn keep_names(kind: Kind, gathered: Gathered, word: Keyword, count: usize, atoms
 }
 
 // The refusal of a line with more names than there is room for: a name that stands twice comes before the count.
-fn past_limit(line: &[u8], at: usize, bytes: &mut [u8], starts: &mut [u16], heads: &mut [u16], links: &mut [u16]) -> Refusal
+fn past_limit(
+    line: &[u8],
+    at: usize,
+    bytes: &mut [u8],
+    starts: &mut [u16],
+    heads: &mut [u16],
+    links: &mut [u16],
+) -> Refusal
     requires { ⌜ (at ≤ length (now line)) × Short (items (drop at (now line))) ⌝ }
     requires { ⌜ Room (now bytes) (now starts) (now links) × (buckets ≤ length (now heads)) ⌝ }
     requires { ⌜ Indexed (decodeNames (length (now starts)) (now bytes)) (now bytes) (now starts) (now heads) (now links) ⌝ }
@@ -193,7 +214,15 @@ pub fn declare_atoms(
     let before = gathered.atoms;
     let filled = gathered.bytes;
     match entries::enter_names(line, from, bytes, starts, firsts, links, before, filled) {
-        Entered::All { atoms, bytes: used } => keep_names(kind, gathered, word, count, atoms, used, words),
+        Entered::All { atoms, bytes: used } => keep_names(
+            kind,
+            gathered,
+            word,
+            count,
+            atoms,
+            used,
+            words,
+        ),
         Entered::Full { at } => Line::Fault(past_limit(line, at, bytes, starts, firsts, links)),
         Entered::Twice => Line::Fault(Refusal::DeclaredTwice),
     }

@@ -6,9 +6,7 @@ use kinds::limits::Kind;
 use kinds::refusals::Refusal;
 use writer::emit;
 ghost use mathlib.Core.Path.{_≡_};
-ghost use Prim.Native.Nat.{_≤_, _<_};
-ghost use mathlib.Core.List.{[], _∷_};
-ghost use lib.ListN.{length};
+ghost use Prim.Native.Nat.{_<_};
 ghost use Rattle.stores.specs.RuleStore.{kindWord};
 ghost use Rattle.writer.specs.Emitted.{Emitted, InRange};
 ghost use Rattle.reader.specs.Gathered.{stateOf, Held};
@@ -49,7 +47,18 @@ fn put_words(words: &[u16], out: &mut [u16]) -> usize
     next
 }
 
-pub fn deliver(kind: Kind, gathered: Gathered, words: &mut [u16], bytes: &[u8], starts: &[u16], firsts: &[u16], links: &[u16], marks: &[u16], rules: &mut [u16], names: &mut [u8]) -> Read
+pub fn deliver(
+    kind: Kind,
+    gathered: Gathered,
+    words: &mut [u16],
+    bytes: &[u8],
+    starts: &[u16],
+    firsts: &[u16],
+    links: &[u16],
+    marks: &[u16],
+    rules: &mut [u16],
+    names: &mut [u8],
+) -> Read
     requires { ⌜ Held kind (stateOf kind gathered (now words) (now bytes)) gathered (now words) (now bytes) (now starts) (now firsts) (now links) (now marks) ⌝ }
     ensures { λ r. ⌜ Delivered (stateOf kind gathered (now (words .entry)) (now (bytes .entry))) (now (rules .entry)) (now (names .entry)) (now (rules .exit)) (now (names .exit)) r ⌝ }
 {

@@ -33,7 +33,15 @@ fn put_name(name: &[u8], bytes: &mut [u8], at: usize) -> usize
 }
 
 // Enters a name as that of the next atom, unless an atom before has it.
-fn enter_name(name: &[u8], bytes: &mut [u8], starts: &mut [u16], heads: &mut [u16], links: &mut [u16], atom: usize, at: usize) -> bool
+fn enter_name(
+    name: &[u8],
+    bytes: &mut [u8],
+    starts: &mut [u16],
+    heads: &mut [u16],
+    links: &mut [u16],
+    atom: usize,
+    at: usize,
+) -> bool
     requires { ⌜ Indexed (decodeNames atom (now bytes)) (now bytes) (now starts) (now heads) (now links) ⌝ }
     requires { ⌜ EntryRoom (decodeNames atom (now bytes)) (now name) (now bytes) (now starts) (now links) atom at ⌝ }
     ensures { λ r. ⌜ EntryIs (decodeNames atom (now (bytes .entry))) (now (name .entry)) (now (bytes .exit)) (now (starts .exit)) (now (heads .exit)) (now (links .exit)) r ⌝ }
@@ -43,7 +51,16 @@ fn enter_name(name: &[u8], bytes: &mut [u8], starts: &mut [u16], heads: &mut [u1
 }
 
 // Enters the names from `from` on behind `count` others, whose bytes end at `used`.
-pub fn enter_names(line: &[u8], from: usize, bytes: &mut [u8], starts: &mut [u16], heads: &mut [u16], links: &mut [u16], count: usize, used: usize) -> Entered
+pub fn enter_names(
+    line: &[u8],
+    from: usize,
+    bytes: &mut [u8],
+    starts: &mut [u16],
+    heads: &mut [u16],
+    links: &mut [u16],
+    count: usize,
+    used: usize,
+) -> Entered
     requires { ⌜ (from ≤ length (now line)) × Short (items (drop from (now line))) ⌝ }
     requires { ⌜ Room (now bytes) (now starts) (now links) ⌝ }
     requires { ⌜ Stored (decodeNames count (now bytes)) (now bytes) (now starts) (now heads) (now links) count used ⌝ }
@@ -54,7 +71,10 @@ pub fn enter_names(line: &[u8], from: usize, bytes: &mut [u8], starts: &mut [u16
     let mut at = used;
     loop {
         let Item::At(n) = scan::item_at(line, i) else {
-            return Entered::All { atoms: atom, bytes: at };
+            return Entered::All {
+                atoms: atom,
+                bytes: at,
+            };
         };
         if Plain::ATOMS <= atom {
             return Entered::Full { at: i };
@@ -72,7 +92,14 @@ pub fn enter_names(line: &[u8], from: usize, bytes: &mut [u8], starts: &mut [u16
 }
 
 // Whether a name from `from` on is in the index.
-pub fn any_known(line: &[u8], from: usize, bytes: &[u8], starts: &[u16], heads: &[u16], links: &[u16]) -> bool
+pub fn any_known(
+    line: &[u8],
+    from: usize,
+    bytes: &[u8],
+    starts: &[u16],
+    heads: &[u16],
+    links: &[u16],
+) -> bool
     requires { ⌜ from ≤ length (now line) ⌝ }
     requires { ⌜ Indexed (decodeNames (length (now starts)) (now bytes)) (now bytes) (now starts) (now heads) (now links) ⌝ }
     ensures { λ r. ⌜ r ≡ some (among (decodeNames (length (now (starts .entry))) (now (bytes .entry)))) (items (drop from (now (line .entry)))) ⌝ }
@@ -102,7 +129,14 @@ fn clear(heads: &mut [u16])
 }
 
 // Whether a name stands twice from `from` on, by blocks of as many names as the index has room for.
-pub fn any_twice(line: &[u8], from: usize, bytes: &mut [u8], starts: &mut [u16], heads: &mut [u16], links: &mut [u16]) -> bool
+pub fn any_twice(
+    line: &[u8],
+    from: usize,
+    bytes: &mut [u8],
+    starts: &mut [u16],
+    heads: &mut [u16],
+    links: &mut [u16],
+) -> bool
     requires { ⌜ (from ≤ length (now line)) × Short (items (drop from (now line))) ⌝ }
     requires { ⌜ Room (now bytes) (now starts) (now links) × (buckets ≤ length (now heads)) ⌝ }
     ensures { λ r. ⌜ r ≡ twice [] (items (drop from (now (line .entry)))) ⌝ }

@@ -102,13 +102,54 @@ pub fn rule_numbers(
     requires { ⌜ Below stamp (now marks) ⌝ }
     ensures { λ r. ⌜ RuleNumbersIs (decodeNames (length (now (starts .entry))) (now (bytes .entry))) (items (drop head (now (line .entry)))) (items (drop body (now (line .entry)))) (items (drop not (now (line .entry)))) stamp (now (out .entry)) at (now (marks .exit)) (now (out .exit)) r ⌝ }
 {
-    let Numbers::List { end: head_end, twice: in_head } = numbers_at(line, head, bytes, starts, heads, next, marks, stamp, out, at) else {
+    let Numbers::List {
+        end: head_end,
+        twice: in_head,
+    } = numbers_at(
+        line,
+        head,
+        bytes,
+        starts,
+        heads,
+        next,
+        marks,
+        stamp,
+        out,
+        at,
+    )
+    else {
         return Numbers::Undeclared;
     };
-    let Numbers::List { end: body_end, twice: in_body } = numbers_at(line, body, bytes, starts, heads, next, marks, stamp + 1, out, head_end) else {
+    let Numbers::List {
+        end: body_end,
+        twice: in_body,
+    } = numbers_at(
+        line,
+        body,
+        bytes,
+        starts,
+        heads,
+        next,
+        marks,
+        stamp + 1,
+        out,
+        head_end,
+    )
+    else {
         return Numbers::Undeclared;
     };
-    let Numbers::List { end, twice: in_not } = numbers_at(line, not, bytes, starts, heads, next, marks, stamp + 2, out, body_end) else {
+    let Numbers::List { end, twice: in_not } = numbers_at(
+        line,
+        not,
+        bytes,
+        starts,
+        heads,
+        next,
+        marks,
+        stamp + 2,
+        out,
+        body_end,
+    ) else {
         return Numbers::Undeclared;
     };
     let twice = any(in_head, in_body, in_not);

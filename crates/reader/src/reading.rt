@@ -67,8 +67,52 @@ fn read_line(
     ensures { λ r. ⌜ LineIs kind (stateOf kind gathered (now (words .entry)) (now (bytes .entry))) (formOf (now (line .entry))) (now (words .exit)) (now (bytes .exit)) (now (starts .exit)) (now (firsts .exit)) (now (links .exit)) (now (marks .exit)) r ⌝ }
 {
     match forms::shape_of(line, kind) {
-        Shape::Declares { word, from, count, refused } => declared_line::declare_atoms(line, kind, gathered, word, from, count, refused, words, bytes, starts, firsts, links, marks),
-        Shape::Rule { head, body, not, heads, bodies, nots, refused } => rule_line::add_rule(line, kind, gathered, head, body, not, heads, bodies, nots, refused, words, bytes, starts, firsts, links, marks),
+        Shape::Declares {
+            word,
+            from,
+            count,
+            refused,
+        } => declared_line::declare_atoms(
+            line,
+            kind,
+            gathered,
+            word,
+            from,
+            count,
+            refused,
+            words,
+            bytes,
+            starts,
+            firsts,
+            links,
+            marks,
+        ),
+        Shape::Rule {
+            head,
+            body,
+            not,
+            heads,
+            bodies,
+            nots,
+            refused,
+        } => rule_line::add_rule(
+            line,
+            kind,
+            gathered,
+            head,
+            body,
+            not,
+            heads,
+            bodies,
+            nots,
+            refused,
+            words,
+            bytes,
+            starts,
+            firsts,
+            links,
+            marks,
+        ),
         Shape::Broken => Line::Fault(Refusal::Form),
     }
 }
@@ -102,7 +146,17 @@ pub fn read_lines(
     let mut number: usize = 1;
     while at < text.len() {
         let to = at + scan::line_at(text, at);
-        let answer = read_line(&text[at..to], kind, gathered, words, bytes, starts, firsts, links, marks);
+        let answer = read_line(
+            &text[at..to],
+            kind,
+            gathered,
+            words,
+            bytes,
+            starts,
+            firsts,
+            links,
+            marks,
+        );
         let Line::Next(after) = answer else {
             return passed_on(answer, number);
         };

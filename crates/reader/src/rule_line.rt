@@ -58,7 +58,15 @@ fn put_counts(heads: usize, bodies: usize, nots: usize, words: &mut [u16], at: u
 }
 
 // A rule whose numbers stand written up to `end`, behind its three counts.
-fn keep_rule(kind: Kind, gathered: Gathered, heads: usize, bodies: usize, nots: usize, end: usize, words: &mut [u16]) -> Line
+fn keep_rule(
+    kind: Kind,
+    gathered: Gathered,
+    heads: usize,
+    bodies: usize,
+    nots: usize,
+    end: usize,
+    words: &mut [u16],
+) -> Line
     requires { ⌜ (heads + bodies + nots < 2 ^ 62) × (gathered .rules < 2 ^ 62) × (gathered .occurrences < 2 ^ 62) × (gathered .words < 2 ^ 62) ⌝ }
     ensures { λ r. ⌜ Kept kind gathered heads bodies nots end (now (words .entry)) (now (words .exit)) r ⌝ }
 {
@@ -124,7 +132,20 @@ pub fn add_rule(
     let rules = gathered.rules;
     let at = gathered.words + 3;
     let stamp = (3 * rules + 1) as u16;
-    let Numbers::List { end, twice } = numbers::rule_numbers(line, head, body, not, bytes, &starts[..atoms], firsts, links, marks, stamp, words, at) else {
+    let Numbers::List { end, twice } = numbers::rule_numbers(
+        line,
+        head,
+        body,
+        not,
+        bytes,
+        &starts[..atoms],
+        firsts,
+        links,
+        marks,
+        stamp,
+        words,
+        at,
+    ) else {
         return Line::Fault(Refusal::Undeclared);
     };
     if twice {

@@ -1,4 +1,3 @@
-use mathlib.Core.Path.{_∙_}
 use Rattle.reader.specs.Gathered.{stateOf}
 use Rattle.reader.proofs.Scanning.{items-few}
 use Rattle.reader.proofs.HeldState.{held-small}

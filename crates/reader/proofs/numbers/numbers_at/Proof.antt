@@ -91,8 +91,7 @@ loop-again c =
     let f = c .before .before .before .before .before .before .before .before .before .before .before .before .find .ensures in
     let g = c .before .before .before .before .before .before .before .before .before .before .atom .given .1 in
     let m = c .before .before .before .before .before .before .before .mark .ensures in
-    let w = c .before .before .push-word .ensures in
-    (
+    let w = c .before .before .push-word .ensures in (
       ap length (m .1) ∙ (length-set (c .before .before .before .before .before .before .before .before .before .before .before .before .before .before .before .before .before .before .loop .marks) _ _ ∙ h .0),
       same-length-of w ∙ h .1,
       ⊎-elim (λ t. number-again (h .2) e d f g (m .0) (m .1) w (t .0 .taken) (t .1)) (λ t. number-new (h .2) e d f g (m .0) (m .1) w (t .0 .left) (t .1)) (c .before .before .before .before .if1 .came),
