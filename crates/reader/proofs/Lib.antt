@@ -14,6 +14,8 @@ pub mod NameBlocks
 pub mod KeptAtoms
 pub mod DeclaredSteps
 pub mod LineByLine
+pub mod Delivering
+pub mod WholeText
 pub mod LineText
 pub mod NameText
 pub mod FormText
