@@ -1,23 +1,62 @@
 -- What the loop of the preferred walk keeps, and what follows at each way out.
 use Prim.Native.Nat.{ℕ, _+_, _-_, _^_, _≤_, _<_}
 use mathlib.Core.Path.{_≡_, refl, sym, ap, _∙_, subst}
-use mathlib.Core.Bool.{Bool, true, false, cond}
-use mathlib.Core.List.{List}
+use mathlib.Core.Bool.{Bool, true, false, cond, _&&_}
+use mathlib.Core.List.{List, [], _∷_}
 use native.Mathlib.Omega.{arith}
 use lib.Dec.{T, eqb, eqb→eq}
 use lib.Bits.{bitAnd, bitOr, bitXor, or-lt, or-self, or-comm}
-use lib.ListN.{length}
+use lib.ListN.{length, getD}
 use borrow.Author.Tests.{eq-eqb, ne-eqb}
-use Rattle.rules.proofs.Booleans.{eq→eqb}
+use Rattle.rules.specs.Sets.{has}
+use Rattle.rules.proofs.Booleans.{eq→eqb, T-of}
 use Rattle.verdicts.specs.Walk.{search, capped}
-use Rattle.verdicts.specs.Masks.{firstM, modelM, agreeM, sparesM, beatsM, preferredWalkM, preferredM}
+use Rattle.verdicts.specs.Masks.{firstM, modelM, agreeM, sparesM, lackingM, withinM, beatsM, preferredWalkM, preferredM}
 use Rattle.verdicts.specs.declared.answers.Verdict.{Verdict}
 use Rattle.verdicts.specs.declared.answers.Verdict.the-variants.{Yes, Broken, Beaten, Spent}
 use Rattle.rules.specs.Lists.{filter, from}
+use Rattle.verdicts.proofs.Bits.{bit, bit-lt}
+use Rattle.verdicts.proofs.MaskBits.{disjoint, agrees, part-of}
 use Rattle.verdicts.proofs.Filters.{upTo}
 use Rattle.verdicts.proofs.Searches.{Answered, walked-answered, search-walked}
 use Rattle.verdicts.proofs.Steps.{walk-first, walk-found, walk-next, walk-last, walk-spent, capped-yes, capped-beaten}
-use Rattle.verdicts.proofs.Stepping.{lacks, stands, stands-agrees, gap, gap-last, or-again, le-or, agrees-sum}
+use Rattle.verdicts.proofs.Stepping.{lacks, lacks-bit, stands, stands-agrees, gap, gap-last, or-again, le-or, agrees-sum}
+
+-- a set with an atom of the first class that the other lacks does not beat it
+
+in-lacks : (c m i : ℕ) → T (has (lacks c m) i) → T (has c i) × (T (has m i) → ⊥)
+in-lacks c m i t =
+    let e : bit (lacks c m) i ≡ 1 = eqb→eq (bit (lacks c m) i) 1 t in
+    let l = lacks-bit c m i in
+    let b = bit-lt c i in
+    (eq→eqb (bit c i) 1 (omega arith), λ h. let q : bit m i ≡ 1 = eqb→eq (bit m i) 1 h in omega arith)
+
+pub none-lacked : (m s : ℕ) (ks : List ℕ) → T (sparesM m s ks) → bitAnd s (lackingM m ks) ≡ 0
+unfolding sparesM lackingM agreeM withinM
+none-lacked m s [] h = absurd h
+none-lacked m s (c ∷ ks) h = eqb→eq (bitAnd s (lacks c m)) 0 (disjoint s (lacks c m) .1 (λ i t k. let q = in-lacks c m i t in q .1 (within (agreeM m s c) refl h i (q .0) k)))
+  where
+    within : (p : Bool) → agreeM m s c ≡ p → T (cond p (sparesM m s ks) (withinM m s c)) → (i : ℕ) → T (has c i) → T (has s i) → T (has m i)
+    within true e t i a b = T-of (agrees s m c .0 (T-of (sym e) tt) i a) b
+    within false e t i a b = part-of s m c .0 t i a b
+
+pub beats-lacked : (cs ws ks : List ℕ) (m s l : ℕ) → l ≡ lackingM m ks → (bitAnd s l ≡ 0 → ⊥) → false ≡ beatsM cs ws ks m s
+unfolding beatsM
+beats-lacked cs ws ks m s l e f = by (sparesM m s ks) (λ t. f (ap (bitAnd s) e ∙ none-lacked m s ks t))
+  where
+    by : (p : Bool) → (T p → ⊥) → false ≡ (p && modelM cs ws s)
+    by true h = absurd (h tt)
+    by false h = refl
+
+pub lacking-none : (m : ℕ) (ks : List ℕ) → length ks ≡ 0 → 0 ≡ lackingM m ks
+unfolding lackingM
+lacking-none m [] e = refl
+lacking-none m (c ∷ ks) e = absurd (omega arith)
+
+pub lacking-some : (m : ℕ) (ks : List ℕ) → (length ks ≡ 0 → ⊥) → bitXor (getD ks 0 0) (bitAnd (getD ks 0 0) m) ≡ lackingM m ks
+unfolding lackingM
+lacking-some m [] e = absurd (e refl)
+lacking-some m (c ∷ ks) e = refl
 
 -- a set that beats another: the classes first, then the rules
 

@@ -5,8 +5,9 @@ use crate::guard::Guard;
 use crate::guard::check_call;
 use crate::masks::fill_classes;
 use crate::masks::fill_rules;
+use crate::masks::first_broken;
 use crate::masks::wide;
-use crate::preferred::preferred_masks;
+use crate::preferred::preferred_walk;
 use kinds::limits::Kind;
 use kinds::limits::Preference;
 ghost use mathlib.Core.Path.{_≡_};
@@ -42,7 +43,10 @@ fn candidate(
         return NextState::Spent { units: budget };
     }
     let used = units + 1;
-    let verdict = preferred_masks(care, want, classes, fixed, n, set, budget - used);
+    if first_broken(care, want, set) != care.len() {
+        return NextState::Nothing { units: used };
+    }
+    let verdict = preferred_walk(care, want, classes, fixed, n, set, budget - used);
     match verdict {
         Verdict::Yes { units: more } => NextState::State {
             set: set,

@@ -15,7 +15,7 @@ ghost use Rattle.kinds.specs.Limits.{walkAtoms};
 ghost use Rattle.kinds.specs.declared.limits.Kind.the-variants.{Preference as KindPreference};
 ghost use Rattle.stores.specs.RuleStore.{StoreOf, decode};
 ghost use Rattle.verdicts.specs.Walk.{capped, preferredVerdict};
-ghost use Rattle.verdicts.specs.Masks.{sparesM, beatsM, preferredWalkM, preferredM};
+ghost use Rattle.verdicts.specs.Masks.{sparesM, lackingM, beatsM, preferredWalkM, preferredM};
 ghost use Rattle.verdicts.specs.Answers.{preferredAnswer};
 
 // Whether at the first class on which the two differ `set` has a part of what `of` has.
@@ -34,11 +34,26 @@ fn spares(classes: &[u64], set: u64, of: u64) -> bool
     false
 }
 
+// The atoms of the first class that `of` lacks: a set that has one of them does not beat it.
+fn lacking(classes: &[u64], of: u64) -> u64
+    ensures { λ r. ⌜ r ≡ lackingM of (now (classes .entry)) ⌝ }
+{
+    if classes.len() == 0 {
+        return 0;
+    }
+    let c = classes[0];
+    c ^ (c & of)
+}
+
 // Whether `set`, which agrees with `of` on the fixed atoms, beats it.
-fn beats(care: &[u64], want: &[u64], classes: &[u64], set: u64, of: u64) -> bool
+fn beats(care: &[u64], want: &[u64], classes: &[u64], lacked: u64, set: u64, of: u64) -> bool
     requires { ⌜ length (now want) ≡ length (now care) ⌝ }
+    requires { ⌜ lacked ≡ lackingM of (now classes) ⌝ }
     ensures { λ r. ⌜ r ≡ beatsM (now (care .entry)) (now (want .entry)) (now (classes .entry)) of set ⌝ }
 {
+    if set & lacked != 0 {
+        return false;
+    }
     if spares(classes, set, of) {
         return first_broken(care, want, set) == care.len();
     }
@@ -46,7 +61,7 @@ fn beats(care: &[u64], want: &[u64], classes: &[u64], set: u64, of: u64) -> bool
 }
 
 // A set s of the walk stands as y, which is s with all fixed atoms in; the next y is (y + 1) | fixed.
-fn preferred_walk(
+pub fn preferred_walk(
     care: &[u64],
     want: &[u64],
     classes: &[u64],
@@ -62,6 +77,7 @@ fn preferred_walk(
 {
     let full = (1u64 << n) - 1;
     let d = fixed ^ (fixed & set);
+    let lacked = lacking(classes, set);
     let mut y = fixed;
     let mut units: u64 = 0;
     loop {
@@ -70,7 +86,7 @@ fn preferred_walk(
         }
         units += 1;
         let s = y ^ d;
-        if beats(care, want, classes, s, set) {
+        if beats(care, want, classes, lacked, s, set) {
             return Verdict::Beaten {
                 set: s,
                 units: units,

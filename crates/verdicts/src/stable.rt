@@ -9,7 +9,7 @@ use crate::masks::wide;
 use kinds::limits::Kind;
 use kinds::limits::Plain;
 ghost use mathlib.Core.Path.{_≡_};
-ghost use Prim.Native.Nat.{_<_, _≤_, _^_};
+ghost use Prim.Native.Nat.{_<_, _≤_, _^_, min};
 ghost use lib.Bits.{bitAnd};
 ghost use lib.ListN.{length};
 ghost use Rattle.kinds.specs.Limits.{walkAtoms};
@@ -39,18 +39,25 @@ fn next_subset(set: u64, s: u64) -> u64
     ((s >> a) + 1) << a
 }
 
+fn least(a: u64, b: u64) -> u64
+    ensures { λ r. ⌜ r ≡ min a b ⌝ }
+{
+    if a < b {
+        return a;
+    }
+    b
+}
+
 fn stable_walk(care: &[u64], want: &[u64], set: u64, budget: u64) -> Verdict
     requires { ⌜ length (now want) ≡ length (now care) ⌝ }
     requires { ⌜ set < 2 ^ 60 ⌝ }
     ensures { λ r. ⌜ r ≡ capped budget (stableWalkM (now (care .entry)) (now (want .entry)) set) ⌝ }
 {
     let proper = proper_subsets(set);
+    let last = least(proper, budget);
     let mut s: u64 = 0;
     let mut units: u64 = 0;
-    while units < proper {
-        if units == budget {
-            return Verdict::Spent { units: budget };
-        }
+    while units < last {
         units += 1;
         if first_broken(care, want, s) == care.len() {
             return Verdict::Beaten {
@@ -59,6 +66,9 @@ fn stable_walk(care: &[u64], want: &[u64], set: u64, budget: u64) -> Verdict
             };
         }
         s = next_subset(set, s);
+    }
+    if units < proper {
+        return Verdict::Spent { units: budget };
     }
     Verdict::Yes { units: units }
 }
