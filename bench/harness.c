@@ -89,7 +89,7 @@ int main(void) {
         compare("preferred", n, rules, proved_preferred, c_preferred, rust_preferred, len, set, 1ull << 40);
         compare("next", n, rules, proved_next, c_next, rust_next, len, 0, 1ull << 24);
         uint64_t most = (1ull << n) - 1 - (1ull << rnd(n) | 1ull << rnd(n));
-        len = store(0, n, rules, most, most & (rules < 40 ? 0xff : ~0ull));
+        len = store(0, n, rules, most, most & (rules < 40 ? 0xffff : ~0ull));
         compare("stable", n, rules, proved_stable, c_stable, rust_stable, len, most, 1ull << 40);
     }
 }

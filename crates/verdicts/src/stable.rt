@@ -5,11 +5,12 @@ use crate::guard::check_call;
 use crate::masks::fill_rules;
 use crate::masks::first_broken;
 use crate::masks::gather;
+use crate::masks::least;
 use crate::masks::wide;
 use kinds::limits::Kind;
 use kinds::limits::Plain;
 ghost use mathlib.Core.Path.{_≡_};
-ghost use Prim.Native.Nat.{_<_, _≤_, _^_, min};
+ghost use Prim.Native.Nat.{_<_, _≤_, _^_};
 ghost use lib.Bits.{bitAnd};
 ghost use lib.ListN.{length};
 ghost use Rattle.kinds.specs.Limits.{walkAtoms};
@@ -37,15 +38,6 @@ fn next_subset(set: u64, s: u64) -> u64
 {
     let a = u64::trailing_zeros(set ^ s);
     ((s >> a) + 1) << a
-}
-
-fn least(a: u64, b: u64) -> u64
-    ensures { λ r. ⌜ r ≡ min a b ⌝ }
-{
-    if a < b {
-        return a;
-    }
-    b
 }
 
 fn stable_walk(care: &[u64], want: &[u64], set: u64, budget: u64) -> Verdict
