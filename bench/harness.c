@@ -5,7 +5,7 @@
 #include <time.h>
 
 typedef uint64_t walk(const uint16_t *, size_t, uint64_t, uint64_t);
-walk c_preferred, c_stable, c_next, rust_preferred, rust_stable, rust_next;
+walk c_preferred, c_stable, c_stable_sub, c_next, rust_preferred, rust_stable, rust_stable_sub, rust_next;
 walk proved_preferred, proved_stable, proved_next;
 
 static uint16_t w[40000];
@@ -91,5 +91,7 @@ int main(void) {
         uint64_t most = (1ull << n) - 1 - (1ull << rnd(n) | 1ull << rnd(n));
         len = store(0, n, rules, most, most & (rules < 40 ? 0xffff : ~0ull));
         compare("stable", n, rules, proved_stable, c_stable, rust_stable, len, most, 1ull << 40);
+        // C and Rust stepping by (s - M) & M
+        compare("stable -", n, rules, proved_stable, c_stable_sub, rust_stable_sub, len, most, 1ull << 40);
     }
 }

@@ -73,14 +73,36 @@ uint64_t c_preferred(const uint16_t *w, size_t len, uint64_t set, uint64_t budge
     return preferred_walk(&p, set, budget, &yes);
 }
 
+// Fills the masks of the reduct by `set`, those that some set breaks; answers whether `set` is a model.
+static int reduct(masks *p, const uint16_t *w, uint64_t set) {
+    fill(p, w, set);
+    if (first_broken(p, set) != p->rules) return 0;
+    int kept = 0;
+    for (int j = 0; j < p->rules; j++)
+        if ((p->want[j] & p->care[j]) == p->want[j]) p->care[kept] = p->care[j], p->want[kept++] = p->want[j];
+    p->rules = kept;
+    return 1;
+}
+
+// The next subset by trailing zeros, as the proved walk steps.
 uint64_t c_stable(const uint16_t *w, size_t len, uint64_t set, uint64_t budget) {
     masks p;
-    fill(&p, w, set);
-    if (first_broken(&p, set) != p.rules) return 0;
-    int kept = 0;
-    for (int j = 0; j < p.rules; j++)
-        if ((p.want[j] & p.care[j]) == p.want[j]) p.care[kept] = p.care[j], p.want[kept++] = p.want[j];
-    p.rules = kept;
+    if (!reduct(&p, w, set)) return 0;
+    uint64_t s = 0, units = 0, proper = (1ull << __builtin_popcountll(set)) - 1;
+    while (units < proper) {
+        if (units == budget) return budget;
+        units++;
+        if (first_broken(&p, s) == p.rules) return units;
+        int a = __builtin_ctzll(set ^ s);
+        s = ((s >> a) + 1) << a;
+    }
+    return units;
+}
+
+// The next subset by a subtraction that wraps.
+uint64_t c_stable_sub(const uint16_t *w, size_t len, uint64_t set, uint64_t budget) {
+    masks p;
+    if (!reduct(&p, w, set)) return 0;
     uint64_t s = 0, units = 0;
     while (s != set) {
         if (units == budget) return budget;

@@ -82,17 +82,40 @@ pub unsafe extern "C" fn rust_preferred(w: *const u16, len: usize, set: u64, bud
     preferred_walk(&fill(std::slice::from_raw_parts(w, len), 0), set, budget).0
 }
 
-#[no_mangle]
-pub unsafe extern "C" fn rust_stable(w: *const u16, len: usize, set: u64, budget: u64) -> u64 {
-    let mut p = fill(std::slice::from_raw_parts(w, len), set);
+fn reduct(w: &[u16], set: u64) -> Option<Masks> {
+    let mut p = fill(w, set);
     if first_broken(&p, set).is_some() {
-        return 0;
+        return None;
     }
     let live: Vec<bool> = p.care.iter().zip(&p.want).map(|(c, w)| w & c == *w).collect();
     let mut keep = live.iter();
     p.care.retain(|_| *keep.next().unwrap());
     let mut keep = live.iter();
     p.want.retain(|_| *keep.next().unwrap());
+    Some(p)
+}
+
+#[no_mangle]
+pub unsafe extern "C" fn rust_stable(w: *const u16, len: usize, set: u64, budget: u64) -> u64 {
+    let Some(p) = reduct(std::slice::from_raw_parts(w, len), set) else { return 0 };
+    let (mut s, mut units, proper) = (0u64, 0, (1u64 << set.count_ones()) - 1);
+    while units < proper {
+        if units == budget {
+            return budget;
+        }
+        units += 1;
+        if first_broken(&p, s).is_none() {
+            return units;
+        }
+        let a = (set ^ s).trailing_zeros();
+        s = ((s >> a) + 1) << a;
+    }
+    units
+}
+
+#[no_mangle]
+pub unsafe extern "C" fn rust_stable_sub(w: *const u16, len: usize, set: u64, budget: u64) -> u64 {
+    let Some(p) = reduct(std::slice::from_raw_parts(w, len), set) else { return 0 };
     let (mut s, mut units) = (0u64, 0);
     while s != set {
         if units == budget {
