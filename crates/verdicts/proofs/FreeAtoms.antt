@@ -6,7 +6,6 @@ use native.Mathlib.Omega.{arith}
 use lib.Pow.{pow-mono, pow-pos}
 use lib.Bits.{bitAnd, bitOr, and-step, or-step, or-lt, or-comm, or-disjoint}
 use lib.Count.{ones, ones-step}
-use Rattle.rules.specs.Sets.{has}
 use lib.Dec.{eqb→eq}
 use Rattle.rules.proofs.Booleans.{eq→eqb}
 use Rattle.verdicts.specs.Subsets.{rank, NextSub}
