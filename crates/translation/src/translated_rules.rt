@@ -20,6 +20,7 @@ ghost use Rattle.translation.specs.Offsets.{Small, FileFits, ClassesFit}
 ghost use Rattle.translation.specs.StepWords.{fileWords, classWords, lastWords, stepWords};
 ghost use Rattle.translation.specs.PreferenceStore.{PreferenceStore};
 
+// A local names the step that writes on from its place.
 fn steps_1_to_3(
     classes: &[u16],
     rules: &[u16],
@@ -31,8 +32,8 @@ fn steps_1_to_3(
     requires { ⌜ FileFits (now classes) (now rules) count o × InRange at (fileWords (now classes) (rulesFrom count (now rules)) o) ⌝ }
     ensures { λ r. ⌜ Emitted (now (out .entry)) at (fileWords (now (classes .entry)) (rulesFrom count (now (rules .entry))) o) (now (out .exit)) r ⌝ }
 {
-    let next = step1(o.n, out, at);
-    let third = step2(rules, count, o.n, out, next);
+    let second = step1(o.n, out, at);
+    let third = step2(rules, count, o.n, out, second);
     step3(rules, count, classes, o.s, o.u, out, third)
 }
 
@@ -47,19 +48,19 @@ fn steps_4_to_6(
     requires { ⌜ ClassesFit (now classes) k minimised o × InRange at (classWords (now classes) k minimised o) ⌝ }
     ensures { λ r. ⌜ Emitted (now (out .entry)) at (classWords (now (classes .entry)) k minimised o) (now (out .exit)) r ⌝ }
 {
-    let next = step4(o.e, o.u, out, at);
-    let third = step5(classes, k, o, out, next);
-    step6(classes, minimised, o, out, third)
+    let fifth = step4(o.e, o.u, out, at);
+    let sixth = step5(classes, k, o, out, fifth);
+    step6(classes, minimised, o, out, sixth)
 }
 
 fn steps_7_to_10(k: u16, o: Offsets, out: &mut [u16], at: usize) -> usize
     requires { ⌜ (k ≤ 16) × Small o × InRange at (lastWords k o) ⌝ }
     ensures { λ r. ⌜ Emitted (now (out .entry)) at (lastWords k o) (now (out .exit)) r ⌝ }
 {
-    let next = step789(o.s, o.d, o.u, out, at);
-    let third = step789(o.d, o.e, o.u, out, next);
-    let last = step789(o.e, o.u, o.u, out, third);
-    step10(o.e, o.u, k, out, last)
+    let eighth = step789(o.s, o.d, o.u, out, at);
+    let ninth = step789(o.d, o.e, o.u, out, eighth);
+    let tenth = step789(o.e, o.u, o.u, out, ninth);
+    step10(o.e, o.u, k, out, tenth)
 }
 
 // The rules of all steps.
@@ -76,9 +77,9 @@ fn emit_steps(
     requires { ⌜ FileFits (now classes) (now rules) count o × ClassesFit (now classes) k minimised o × InRange at (stepWords (now classes) (rulesFrom count (now rules)) k minimised o) ⌝ }
     ensures { λ r. ⌜ Emitted (now (out .entry)) at (stepWords (now (classes .entry)) (rulesFrom count (now (rules .entry))) k minimised o) (now (out .exit)) r ⌝ }
 {
-    let next = steps_1_to_3(classes, rules, count, o, out, at);
-    let third = steps_4_to_6(classes, k, minimised, o, out, next);
-    steps_7_to_10(k, o, out, third)
+    let fourth = steps_1_to_3(classes, rules, count, o, out, at);
+    let seventh = steps_4_to_6(classes, k, minimised, o, out, fourth);
+    steps_7_to_10(k, o, out, seventh)
 }
 
 // The store of the ten steps: its header, and the rules of all steps.
@@ -100,6 +101,15 @@ pub fn translate_rules(store: &[u16], out: &mut [u16]) -> usize
         0,
         2 * atoms + unfixed + 2 * count + 5 * minimised + 2 * k + 4,
     ];
-    let next = emit(&header, out, 0);
-    emit_steps(classes, &store[start..], count, k, minimised, o, out, next)
+    let headed = emit(&header, out, 0);
+    emit_steps(
+        classes,
+        &store[start..],
+        count,
+        k,
+        minimised,
+        o,
+        out,
+        headed,
+    )
 }
