@@ -15,10 +15,10 @@ use Rattle.rules.specs.Lists.{All, Distinct, from}
 use Rattle.rules.proofs.Booleans.{T-not-out, eq→eqb}
 use Rattle.rules.proofs.Lists.{all-imp, all-app, all-map, all-from, app-iff, every-from}
 use Rattle.stores.specs.Program.{Program, Form}
-use Rattle.stores.specs.Names.{letter?, house?, classNumber?, nameClass, pickName, sized, dotted, generated, takes, allowed}
-use Rattle.stores.specs.NameStore.{NamesForm}
-use Rattle.stores.specs.declared.names.NameClass.{NameClass}
-use Rattle.stores.specs.declared.names.NameClass.the-variants.{House, Generated, TooLong, Wrong}
+use Rattle.names.specs.Names.{letter?, house?, classNumber?, nameClass, sized, dotted, generated, takes, allowed}
+use Rattle.names.specs.NameStore.{NamesForm}
+use Rattle.names.specs.declared.forms.NameClass.{NameClass}
+use Rattle.names.specs.declared.forms.NameClass.the-variants.{House, Generated, TooLong, Wrong}
 use Rattle.pairing.specs.Atoms.{unfixedAtoms, minimisedAtoms, declared, decimal, nameOf}
 use Rattle.pairing.specs.Translated.{translated, translatedNames}
 use Rattle.pairing.specs.Loops.{dot, loopedNames}
@@ -28,17 +28,17 @@ use Rattle.pairing.proofs.Looped.{looped-names}
 
 -- a preference program takes house names only
 
-either : (b : Bool) (c d : NameClass) → (T (takes Preference c) → ⊥) → (T (takes Preference d) → ⊥) → T (takes Preference (pickName b c d)) → ⊥
+either : (b : Bool) (c d : NameClass) → (T (takes Preference c) → ⊥) → (T (takes Preference d) → ⊥) → T (takes Preference (cond b c d)) → ⊥
 either true c d f g h = f h
 either false c d f g h = g h
 
 not-dotted : (c : ℕ) (x : List ℕ) → T (takes Preference (dotted c x)) → ⊥
-not-dotted c x = either ((eqb c 78 || (eqb c 83 || eqb c 68)) && house? x) (sized x Generated) (pickName (eqb c 69 && classNumber? x) Generated Wrong)
+not-dotted c x = either ((eqb c 78 || (eqb c 83 || eqb c 68)) && house? x) (sized x Generated) (cond (eqb c 69 && classNumber? x) Generated Wrong)
     (either (leb (length x) nameLimit) Generated TooLong (λ h. h) (λ h. h))
     (either (eqb c 69 && classNumber? x) Generated Wrong (λ h. h) (λ h. h))
 
 not-generated : (x : List ℕ) → T (takes Preference (generated x)) → ⊥
-not-generated x = either (eqb (length x) 1 && eqb (getD x 0 0) 85) Generated (pickName (leb 2 (length x) && eqb (getD x 1 0) 46) (dotted (getD x 0 0) (drop 2 x)) Wrong) (λ h. h)
+not-generated x = either (eqb (length x) 1 && eqb (getD x 0 0) 85) Generated (cond (leb 2 (length x) && eqb (getD x 1 0) 46) (dotted (getD x 0 0) (drop 2 x)) Wrong) (λ h. h)
     (either (leb 2 (length x) && eqb (getD x 1 0) 46) (dotted (getD x 0 0) (drop 2 x)) Wrong (not-dotted (getD x 0 0) (drop 2 x)) (λ h. h))
 
 record HouseName (x : List ℕ) : Type 0 where
@@ -49,7 +49,7 @@ house-name : (x : List ℕ) → T (allowed Preference x) → HouseName x
 unfolding allowed nameClass
 house-name x h = step (house? x) (leb (length x) nameLimit) refl refl h
   where
-    step : (b c : Bool) → house? x ≡ b → leb (length x) nameLimit ≡ c → T (takes Preference (pickName b (pickName c House TooLong) (generated x))) → HouseName x
+    step : (b c : Bool) → house? x ≡ b → leb (length x) nameLimit ≡ c → T (takes Preference (cond b (cond c House TooLong) (generated x))) → HouseName x
     step true true e f h = record { form = e; short = f }
     step true false e f h = absurd h
     step false c e f h = absurd (not-generated x h)

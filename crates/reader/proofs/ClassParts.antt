@@ -4,7 +4,7 @@ use native.Mathlib.Omega.{arith}
 use native.Mathlib.Decide.{decLe}
 use mathlib.Core.Path.{_≡_, refl, sym, ap, ap₂, _∙_, subst}
 use mathlib.Core.Logic.{_⊎_, inl, inr, _≢_}
-use mathlib.Core.Bool.{Bool, true, false, _&&_}
+use mathlib.Core.Bool.{Bool, true, false, _&&_, cond}
 use mathlib.Core.List.{List, [], _∷_, _++_, map, map-map, append-nil}
 use lib.Dec.{T, leb, eqb, leb→le, eqb→eq}
 use lib.ListN.{length, getD, replicate, length-append, length-replicate}
@@ -14,7 +14,7 @@ use Rattle.rules.specs.Preferred.{varying, fixed, ofClass}
 use Rattle.rules.proofs.Booleans.{T-and-l}
 use Rattle.rules.proofs.Lists.{all-imp, all-keep, all-both}
 use Rattle.kinds.specs.Limits.{classLimit}
-use Rattle.stores.specs.Program.{Rising, RoleForm, pickRole, roleOf}
+use Rattle.stores.specs.Program.{Rising, RoleForm, roleOf}
 use Rattle.stores.specs.declared.roles.Role.{Role}
 use Rattle.stores.specs.declared.roles.Role.the-variants.{Minimised, Varying, Fixed, Unknown}
 use Rattle.stores.proofs.ClassWord.{minimised}
@@ -209,7 +209,7 @@ unfolding roleOf
 role-parts k w h =
     go (leb 1 w && leb w 16) (eqb w 17) (eqb w 18) (λ t. leb→le 1 w (T-and-l (leb 1 w) (leb w 16) t)) (eqb→eq w 17) (eqb→eq w 18) h
   where
-    go : (a b c : Bool) → (T a → 1 ≤ w) → (T b → w ≡ 17) → (T c → w ≡ 18) → RoleForm k (pickRole a (Minimised w) (pickRole b Varying (pickRole c Fixed Unknown))) → ((1 ≤ w) × (w ≤ k)) ⊎ ((w ≡ 17) ⊎ (w ≡ 18))
+    go : (a b c : Bool) → (T a → 1 ≤ w) → (T b → w ≡ 17) → (T c → w ≡ 18) → RoleForm k (cond a (Minimised w) (cond b Varying (cond c Fixed Unknown))) → ((1 ≤ w) × (w ≤ k)) ⊎ ((w ≡ 17) ⊎ (w ≡ 18))
     go true b c f g i r = inl (f tt, r)
     go false true c f g i r = inr (inl (g tt))
     go false false true f g i r = inr (inr (i tt))

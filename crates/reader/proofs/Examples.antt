@@ -4,8 +4,8 @@ use mathlib.Core.List.{List, [], _∷_}
 use Rattle.kinds.specs.declared.limits.Kind.the-variants.{Preference}
 use Rattle.kinds.specs.declared.refusals.Refusal.the-variants.{Form as BrokenForm, Name, DeclaredTwice, Undeclared, TwiceInList, FilledNot}
 use Rattle.rules.specs.Rules.{rule}
-use Rattle.stores.specs.Names.{nameClass, house?, classNumber?, allowed}
-use Rattle.stores.specs.NameStore.{sameBytes}
+use Rattle.names.specs.Names.{nameClass, house?, classNumber?, allowed}
+use Rattle.names.specs.NameStore.{sameBytes}
 use Rattle.writer.specs.Text.{textOf, listLine, openText, ruleLine}
 use Rattle.reader.specs.declared.answers.Stage.the-variants.{Ruling}
 use Rattle.reader.specs.Lines.{lines, linesFrom, lineLength}

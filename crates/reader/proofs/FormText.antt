@@ -11,9 +11,9 @@ use Rattle.rules.specs.Lists.{All, every, flat}
 use Rattle.rules.proofs.Booleans.{T-not-in, T-not-out, T-or}
 use Rattle.rules.proofs.Lists.{all-app, all-imp, every-all}
 use mathlib.Core.Logic.{inr, _↔_}
-use Rattle.stores.specs.Names.{nameClass}
-use Rattle.stores.specs.NameStore.{sameBytes}
-use Rattle.stores.proofs.NameStores.{same-equal, same-self}
+use Rattle.names.specs.Names.{nameClass}
+use Rattle.names.specs.NameStore.{sameBytes}
+use Rattle.names.proofs.NameStores.{same-equal, same-self}
 use Rattle.writer.specs.Words.{space, open-bracket, close-bracket, line-end, atomsWord, minWord, varyWord, fixWord, ruleWord, headWord, bodyWord, notWord}
 use Rattle.writer.specs.Text.{item, openText, listLine, ruleLine}
 use Rattle.reader.specs.Items.{delimiter?, run, itemsFrom, items, span}

@@ -5,7 +5,7 @@ use mathlib.Core.List.{List}
 use mathlib.Core.Bool.{Bool, true, false, _||_}
 use lib.ListN.{drop}
 use Rattle.kinds.specs.declared.limits.Kind.{Kind}
-use Rattle.stores.specs.NameStore.{sameBytes}
+use Rattle.names.specs.NameStore.{sameBytes}
 use Rattle.reader.specs.declared.forms.Keyword.{Keyword}
 use Rattle.reader.specs.Items.{items}
 use Rattle.reader.specs.Forms.{broken, begins, tagOf, headTag, bodyTag, notTag, listEnd, ruleEnd, cut, none, cutList, declaredForm, ruleForm, formOf, atoms, min, vary, fix}

@@ -2,7 +2,7 @@
 use Prim.Native.Nat.{ℕ, _≤_}
 use native.Mathlib.Omega.{arith}
 use mathlib.Core.Path.{_≡_, sym, subst}
-use mathlib.Core.Bool.{Bool, true, false, not, _&&_, _||_}
+use mathlib.Core.Bool.{Bool, true, false, not, _&&_, _||_, cond}
 use mathlib.Core.Logic.{_⊎_, inl, inr}
 use mathlib.Core.List.{List, [], _∷_}
 use lib.Dec.{T, leb, eqb, leb→le, eqb→eq}
@@ -11,9 +11,9 @@ use borrow.Author.Tests.{ne-eqb}
 use Rattle.rules.specs.Lists.{All, every}
 use Rattle.rules.proofs.Booleans.{T-and-l, T-and-r, T-or-out}
 use Rattle.rules.proofs.Lists.{all-imp, every-all}
-use Rattle.stores.specs.declared.names.NameClass.{NameClass}
-use Rattle.stores.specs.declared.names.NameClass.the-variants.{House, Generated, Wrong}
-use Rattle.stores.specs.Names.{letter?, digit?, nameByte?, house?, classNumber?, pickName, sized, dotted, generated, nameClass}
+use Rattle.names.specs.declared.forms.NameClass.{NameClass}
+use Rattle.names.specs.declared.forms.NameClass.the-variants.{House, Generated, Wrong}
+use Rattle.names.specs.Names.{letter?, digit?, nameByte?, house?, classNumber?, sized, dotted, generated, nameClass}
 use Rattle.reader.specs.Items.{delimiter?}
 use Rattle.reader.specs.Forms.{isName}
 
@@ -86,13 +86,13 @@ number-high x h = go (T-or-out (eqb (length x) 1 && digit? (getD x 0 0)) (eqb (l
         let b : 48 ≤ getD x 1 0 = leb→le 48 (getD x 1 0) (T-and-l (leb 48 (getD x 1 0)) (leb (getD x 1 0) 54) (T-and-r first second u)) in
         two-high x (omega arith) (omega arith) (subst High (sym (drop-of-length-le x {i = 2} (omega arith))) tt)
 
-picked : {P : Type 0} (b : Bool) (c d : NameClass) → (T b → P) → (T (isName d) → P) → T (isName (pickName b c d)) → P
+picked : {P : Type 0} (b : Bool) (c d : NameClass) → (T b → P) → (T (isName d) → P) → T (isName (cond b c d)) → P
 picked true c d f g h = f tt
 picked false c d f g h = g h
 
 dotted-high : (c : ℕ) (x : List ℕ) → T (isName (dotted c x)) → (46 ≤ c) × High x
 dotted-high c x =
-    picked (copy && house? x) (sized x Generated) (pickName (eqb c 69 && classNumber? x) Generated Wrong)
+    picked (copy && house? x) (sized x Generated) (cond (eqb c 69 && classNumber? x) Generated Wrong)
     (λ t. (mark (T-or-out (eqb c 78) (eqb c 83 || eqb c 68) (T-and-l copy (house? x) t)), house-high x (T-and-r copy (house? x) t)))
     (picked (eqb c 69 && classNumber? x) Generated Wrong
     (λ t. (omega (arith, eqb→eq c 69 (T-and-l (eqb c 69) (classNumber? x) t)), number-high x (T-and-r (eqb c 69) (classNumber? x) t)))
@@ -111,12 +111,12 @@ dotted-high c x =
 
 generated-high : (x : List ℕ) → T (isName (generated x)) → High x
 generated-high x h =
-    picked (eqb (length x) 1 && eqb (getD x 0 0) 85) Generated (pickName (leb 2 (length x) && eqb (getD x 1 0) 46) (dotted (getD x 0 0) (drop 2 x)) Wrong)
+    picked (eqb (length x) 1 && eqb (getD x 0 0) 85) Generated (cond (leb 2 (length x) && eqb (getD x 1 0) 46) (dotted (getD x 0 0) (drop 2 x)) Wrong)
     (λ t. one-high x (eqb→eq (length x) 1 (T-and-l (eqb (length x) 1) (eqb (getD x 0 0) 85) t)) (omega (arith, eqb→eq (getD x 0 0) 85 (T-and-r (eqb (length x) 1) (eqb (getD x 0 0) 85) t))))
     (λ t. two (leb 2 (length x) && eqb (getD x 1 0) 46) (λ u. eqb→eq (getD x 1 0) 46 (T-and-r (leb 2 (length x)) (eqb (getD x 1 0) 46) u)) t)
     h
   where
-    two : (b : Bool) → (T b → getD x 1 0 ≡ 46) → T (isName (pickName b (dotted (getD x 0 0) (drop 2 x)) Wrong)) → High x
+    two : (b : Bool) → (T b → getD x 1 0 ≡ 46) → T (isName (cond b (dotted (getD x 0 0) (drop 2 x)) Wrong)) → High x
     two true e t = let d = dotted-high (getD x 0 0) (drop 2 x) t in two-high x (d .0) (omega (arith, e tt)) (d .1)
     two false e t = absurd t
 

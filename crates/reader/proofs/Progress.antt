@@ -15,8 +15,8 @@ use Rattle.rules.specs.Lists.{All, flat, from, sum}
 use Rattle.rules.specs.Rules.{Rule, occurrences}
 use Rattle.rules.specs.Preferred.{varying, fixed}
 use Rattle.rules.proofs.Lists.{all-app, all-imp, all-from, all-map}
-use Rattle.stores.specs.Names.{allowed}
-use Rattle.stores.specs.NameStore.{NamesForm}
+use Rattle.names.specs.Names.{allowed}
+use Rattle.names.specs.NameStore.{NamesForm}
 use Rattle.stores.specs.Program.{Form, RoleForm, roleOf, ListForm, NotForm, RuleForm}
 use Rattle.writer.specs.Words.{atomsWord, minWord, varyWord, fixWord}
 use Rattle.writer.specs.Text.{listLine, ruleLine, ruleText, declarations, textOf}

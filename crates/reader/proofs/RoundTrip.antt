@@ -13,7 +13,7 @@ use Rattle.kinds.specs.declared.limits.Kind.the-variants.{Plain, Preference}
 use Rattle.kinds.specs.declared.refusals.Refusal.the-variants.{TextTooLong, Form as BrokenForm}
 use Rattle.rules.specs.Lists.{All, flat, from}
 use Rattle.rules.specs.Preferred.{varying, fixed}
-use Rattle.stores.specs.NameStore.{NamesForm, sameBytes}
+use Rattle.names.specs.NameStore.{NamesForm, sameBytes}
 use Rattle.stores.specs.Program.{Program, Form, RuleForm}
 use Rattle.writer.specs.Words.{minWord, varyWord, fixWord}
 use Rattle.writer.specs.Text.{openText, listLine, classLine, declarations, ruleText, textOf}

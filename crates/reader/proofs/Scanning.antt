@@ -142,3 +142,12 @@ span-from (suc k) (b ∷ s) h = let p : span (itemsFrom k s) + k ≤ length s = 
 pub span-le : (s : List ℕ) → span (items s) ≤ length s
 unfolding items
 span-le s = omega (arith, span-from 0 s zero-le)
+
+few-span : (ns : List (List ℕ)) → length ns ≤ span ns
+unfolding span
+few-span [] = zero-le
+few-span (n ∷ ns) = omega (arith, few-span ns)
+
+-- there are no more items than bytes
+pub items-few : (s : List ℕ) (from : ℕ) → length (items (drop from s)) ≤ length s
+items-few s from = omega (arith, few-span (items (drop from s)), span-le (drop from s), length-drop from s)

@@ -11,7 +11,7 @@ use lib.Dec.{eqb}
 use lib.ListN.{length, getD, take, drop, length-drop, length-take, drop-of-length-le}
 use lib.Seq.{drop-cons, take-all}
 use borrow.Author.Tests.{eq-eqb, ne-eqb}
-use Rattle.stores.specs.NameStore.{sameBytes}
+use Rattle.names.specs.NameStore.{sameBytes}
 use Rattle.reader.specs.Forms.{begins}
 
 other-length : (a b : List ℕ) → (length a ≡ length b → ⊥) → false ≡ sameBytes a b

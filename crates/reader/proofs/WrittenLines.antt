@@ -17,10 +17,10 @@ use Rattle.rules.specs.Lists.{All, Distinct, flat, from, sum}
 use Rattle.rules.specs.Rules.{Rule, rule, occurrences}
 use Rattle.rules.specs.Preferred.{varying, fixed}
 use Rattle.rules.proofs.Lists.{all-imp, all-map}
-use Rattle.stores.specs.declared.names.NameClass.{NameClass}
-use Rattle.stores.specs.declared.names.NameClass.the-variants.{House, Generated, TooLong, Wrong}
-use Rattle.stores.specs.Names.{nameClass, takes, allowed}
-use Rattle.stores.specs.NameStore.{NamesForm}
+use Rattle.names.specs.declared.forms.NameClass.{NameClass}
+use Rattle.names.specs.declared.forms.NameClass.the-variants.{House, Generated, TooLong, Wrong}
+use Rattle.names.specs.Names.{nameClass, takes, allowed}
+use Rattle.names.specs.NameStore.{NamesForm}
 use Rattle.stores.specs.Program.{Program, RoleForm, roleOf, Rising, ClassesForm, ListForm, NotForm, RuleForm}
 use Rattle.writer.specs.Words.{minWord}
 use Rattle.writer.specs.Text.{named, listLine, ruleLine, ruleText, declarations}

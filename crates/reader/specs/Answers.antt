@@ -6,7 +6,7 @@ use lib.Dec.{leb}
 use lib.ListN.{length}
 use Rattle.kinds.specs.declared.refusals.Refusal.the-variants.{Output}
 use Rattle.stores.specs.RuleStore.{encode}
-use Rattle.stores.specs.NameStore.{encodeNames}
+use Rattle.names.specs.NameStore.{encodeNames}
 use Rattle.writer.specs.Answers.{over}
 use Rattle.reader.specs.declared.answers.Read.{Read}
 use Rattle.reader.specs.declared.answers.Read.the-variants.{Accepted, Refused}

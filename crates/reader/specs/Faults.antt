@@ -12,8 +12,8 @@ use Rattle.kinds.specs.declared.refusals.Refusal.the-variants.{Form as BrokenFo
 use Rattle.rules.specs.Lists.{some, sum}
 use Rattle.rules.specs.Rules.{Rule, rule, occurrences}
 use Rattle.rules.specs.Preferred.{varying, fixed}
-use Rattle.stores.specs.Names.{allowed}
-use Rattle.stores.specs.NameStore.{sameBytes}
+use Rattle.names.specs.Names.{allowed}
+use Rattle.names.specs.NameStore.{sameBytes}
 use Rattle.reader.specs.declared.answers.Stage.{Stage}
 use Rattle.reader.specs.declared.answers.Stage.the-variants.{Declaring, Fixing, Ruling}
 use Rattle.reader.specs.Forms.{Word, atoms, min, vary, fix, Form, declares, rules, broken}

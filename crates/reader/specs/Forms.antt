@@ -4,10 +4,10 @@ use mathlib.Core.Bool.{Bool, true, false, cond}
 use mathlib.Core.List.{List, [], _∷_, _++_}
 use lib.ListN.{length, take, drop}
 use Rattle.rules.specs.Lists.{every}
-use Rattle.stores.specs.declared.names.NameClass.{NameClass}
-use Rattle.stores.specs.declared.names.NameClass.the-variants.{House, Generated, TooLong, Wrong}
-use Rattle.stores.specs.Names.{nameClass}
-use Rattle.stores.specs.NameStore.{sameBytes}
+use Rattle.names.specs.declared.forms.NameClass.{NameClass}
+use Rattle.names.specs.declared.forms.NameClass.the-variants.{House, Generated, TooLong, Wrong}
+use Rattle.names.specs.Names.{nameClass}
+use Rattle.names.specs.NameStore.{sameBytes}
 use Rattle.writer.specs.Words.{space, open-bracket, close-bracket, line-end, atomsWord, minWord, varyWord, fixWord, ruleWord, headWord, bodyWord, notWord}
 use Rattle.reader.specs.Items.{items, span}
 

@@ -8,9 +8,9 @@ use lib.ListN.{length, drop}
 use Rattle.kinds.specs.declared.limits.Kind.{Kind}
 use Rattle.kinds.specs.declared.limits.Kind.the-variants.{Plain, Preference}
 use Rattle.rules.specs.Lists.{every, some}
-use Rattle.stores.specs.declared.names.NameClass.{NameClass}
-use Rattle.stores.specs.declared.names.NameClass.the-variants.{House, Generated, TooLong, Wrong}
-use Rattle.stores.specs.Names.{nameClass}
+use Rattle.names.specs.declared.forms.NameClass.{NameClass}
+use Rattle.names.specs.declared.forms.NameClass.the-variants.{House, Generated, TooLong, Wrong}
+use Rattle.names.specs.Names.{nameClass}
 use Rattle.writer.specs.Words.{space}
 use Rattle.reader.specs.declared.scan.Item.{Item}
 use Rattle.reader.specs.declared.scan.Item.the-variants.{At, Stop}

@@ -2,7 +2,7 @@
 use crate::scan;
 use crate::scan::Item;
 use kinds::limits::Kind;
-use stores::names::NameClass;
+use names::forms::NameClass;
 ghost use mathlib.Core.Path.{_≡_};
 ghost use Prim.Native.Nat.{_≤_};
 ghost use mathlib.Core.Bool.{_||_};
@@ -59,7 +59,7 @@ pub enum Shape {
 pub fn name_fit(name: &[u8], kind: Kind) -> NameFit
     ensures { λ r. ⌜ r ≡ nameFit kind (now (name .entry)) ⌝ }
 {
-    match stores::names::name_class(name) {
+    match names::forms::name_class(name) {
         NameClass::House => NameFit::Taken,
         NameClass::Generated => match kind {
             Kind::Plain => NameFit::Taken,
@@ -137,7 +137,7 @@ fn declared_shape(line: &[u8], kind: Kind, word: Keyword, tag: &[u8]) -> Shape
     Shape::Broken
 }
 
-fn any(a: bool, b: bool, c: bool) -> bool
+pub fn any(a: bool, b: bool, c: bool) -> bool
     ensures { λ r. ⌜ r ≡ (a || (b || c)) ⌝ }
 {
     if a {

@@ -2,7 +2,7 @@
 ghost use mathlib.Core.Path.{_≡_};
 ghost use Prim.Native.Nat.{_≤_};
 ghost use lib.ListN.{length, drop};
-ghost use Rattle.stores.specs.NameStore.{sameBytes};
+ghost use Rattle.names.specs.NameStore.{sameBytes};
 ghost use Rattle.reader.specs.Lines.{lineLength};
 ghost use Rattle.reader.specs.Items.{delimiter?, run};
 ghost use Rattle.reader.specs.Forms.{begins};

@@ -15,9 +15,9 @@ use Rattle.rules.specs.Rules.{occurrences}
 use Rattle.rules.proofs.Booleans.{T-and-l, T-and-r}
 use Rattle.stores.specs.Program.{Program, Form}
 use Rattle.stores.specs.RuleStore.{encode, decode, ruleStore, isOf}
-use Rattle.stores.specs.NameStore.{encodeNames, names?, NamesForm}
+use Rattle.names.specs.NameStore.{encodeNames, names?, NamesForm}
 use Rattle.stores.proofs.RuleStores.{decode-encode, kind-answered}
-use Rattle.stores.proofs.NameStores.{decode-names, names-law}
+use Rattle.names.proofs.NameStores.{decode-names, names-law}
 use Rattle.writer.specs.declared.Written.{Written}
 use Rattle.writer.specs.declared.Written.the-variants.{Text, Refused as NotWritten}
 use Rattle.writer.specs.Text.{textOf}

@@ -1,7 +1,7 @@
 -- The marked cases, by computation.
 use mathlib.Core.Path.{refl}
-use Rattle.stores.specs.Names.{nameClass, house?, classNumber?, allowed}
-use Rattle.stores.specs.NameStore.{sameBytes}
+use Rattle.names.specs.Names.{nameClass, house?, classNumber?, allowed}
+use Rattle.names.specs.NameStore.{sameBytes}
 use Rattle.writer.specs.Text.{listLine, openText}
 use Rattle.reader.specs.Lines.{lines, linesFrom, lineLength}
 use Rattle.reader.specs.Items.{items, itemsFrom, run, span}

@@ -27,6 +27,10 @@ module _ {A : Type 0} where
   some p [] = false
   some p (x ∷ xs) = p x || some p xs
 
+  abbrev pub empty? : List A → Bool
+  empty? [] = true
+  empty? (x ∷ xs) = false
+
   abbrev pub keep : Bool → A → List A → List A
   keep true x xs = x ∷ xs
   keep false x xs = xs

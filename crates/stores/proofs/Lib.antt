@@ -1,12 +1,5 @@
--- The laws of programs and their stores.
+-- The laws of programs and their rule stores.
 pub mod ClassWord
-pub mod NameForms
-pub mod NameStores
-pub mod ByteLoops
-pub mod NamePlaces
-pub mod NameChains
-pub mod NameEntries
-pub mod NameChecks
 pub mod RuleTests
 pub mod RuleStores
 pub mod Marks
@@ -15,4 +8,3 @@ pub mod Parts
 pub mod Rising
 pub mod StoreHeader
 pub mod RuleStoreClauses
-pub mod NameClauses

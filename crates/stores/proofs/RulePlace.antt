@@ -1,7 +1,8 @@
 -- The check of the rule that stands at `at` in the words, and of the rules one after another.
+use Rattle.rules.specs.Lists.{empty?}
 use Prim.Native.Nat.{ℕ, suc, _+_, _-_, _*_, _≤_, _<_}
 use mathlib.Core.Path.{_≡_, refl, sym, ap, ap₂, _∙_, subst}
-use mathlib.Core.Bool.{Bool, true, false, not, _&&_}
+use mathlib.Core.Bool.{Bool, true, false, not, _&&_, cond}
 use mathlib.Core.List.{List}
 use native.Mathlib.Omega.{arith}
 use native.Mathlib.Nat.{add-zero}
@@ -14,7 +15,7 @@ use Rattle.kinds.specs.Limits.{occurrenceLimit, ruleLimit}
 use Rattle.kinds.specs.declared.limits.Kind.{Kind}
 use Rattle.kinds.specs.declared.limits.Kind.the-variants.{Plain, Preference}
 use Rattle.rules.specs.Rules.{Rule, rule}
-use Rattle.stores.specs.RuleStore.{Below, rules?, empty?, heads, bodies, nots, places, ruleAt, lists?, not?, rule?, ruleCheck, pickCheck}
+use Rattle.stores.specs.RuleStore.{Below, rules?, heads, bodies, nots, places, ruleAt, lists?, not?, rule?, ruleCheck}
 use Rattle.stores.specs.declared.rule_store.RuleCheck.{RuleCheck}
 use Rattle.stores.specs.declared.rule_store.RuleCheck.the-variants.{Next, Broken}
 use Rattle.stores.proofs.Marks.{below-more}
@@ -29,11 +30,11 @@ rules-small Plain = omega arith
 rules-small Preference = omega arith
 
 -- what an answer says of the test
-is-broken : (t : Bool) (i u : ℕ) → Broken ≡ pickCheck t (Next i u) Broken → t ≡ false
+is-broken : (t : Bool) (i u : ℕ) → Broken ≡ cond t (Next i u) Broken → t ≡ false
 is-broken true i u e = absurd (let z : _≡_ {A = ℕ} 0 1 = cc in omega arith)
 is-broken false i u e = refl
 
-is-next : (t : Bool) (i u j v : ℕ) → Next j v ≡ pickCheck t (Next i u) Broken → (t ≡ true) × (j ≡ i) × (v ≡ u)
+is-next : (t : Bool) (i u j v : ℕ) → Next j v ≡ cond t (Next i u) Broken → (t ≡ true) × (j ≡ i) × (v ≡ u)
 is-next true i u j v e = (refl, cc, cc)
 is-next false i u j v e = absurd (let z : _≡_ {A = ℕ} 0 1 = cc in omega arith)
 
@@ -62,13 +63,13 @@ module _ (ws : List ℕ) (at : ℕ) where
   nots-at : nots (drop at ws) ≡ notCount
   nots-at = getD-drop at ws 2 0
 
-  places-at : places (drop at ws) ≡ atomCount
+  pub places-at : places (drop at ws) ≡ atomCount
   places-at = omega (arith, heads-at, bodies-at, nots-at)
 
   past : (n m : ℕ) → at + n ≡ m → drop n (drop at ws) ≡ drop m ws
   past n m e = drop-drop n at ws ∙ ap (λ (i : ℕ). drop i ws) e
 
-  rule-at : ruleAt (drop at ws) ≡ listed
+  pub rule-at : ruleAt (drop at ws) ≡ listed
   unfolding ruleAt
   rule-at =
       let body : at + (3 + heads (drop at ws)) ≡ at + 3 + headCount = omega (arith, heads-at) in
@@ -84,7 +85,7 @@ module _ (ws : List ℕ) (at : ℕ) where
     unfolding ruleCheck
     broken f = step (rule? kind n used (drop at ws)) (λ t. f (rule-tested kind n used (drop at ws) .0 t))
       where
-        step : (t : Bool) → (T t → ⊥) → Broken ≡ pickCheck t (Next (at + (3 + places (drop at ws))) (used + places (drop at ws))) Broken
+        step : (t : Bool) → (T t → ⊥) → Broken ≡ cond t (Next (at + (3 + places (drop at ws))) (used + places (drop at ws))) Broken
         step true g = absurd (g tt)
         step false g = refl
 
@@ -118,7 +119,7 @@ module _ (ws : List ℕ) (at : ℕ) where
         } in
         ap₂ Next next sum ∙ step (rule? kind n used (drop at ws)) (rule-tested kind n used (drop at ws) .1 tested)
       where
-        step : (t : Bool) → T t → Next (at + (3 + places (drop at ws))) (used + places (drop at ws)) ≡ pickCheck t (Next (at + (3 + places (drop at ws))) (used + places (drop at ws))) Broken
+        step : (t : Bool) → T t → Next (at + (3 + places (drop at ws))) (used + places (drop at ws)) ≡ cond t (Next (at + (3 + places (drop at ws))) (used + places (drop at ws))) Broken
         step true k = refl
         step false k = absurd k
 

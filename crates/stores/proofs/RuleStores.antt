@@ -1,7 +1,7 @@
 -- The test of a rule store says that the words are the store of a program, and that program is the decoded one.
 use Prim.Native.Nat.{ℕ, zero, suc, _+_, _≤_}
 use mathlib.Core.Path.{_≡_, refl, sym, ap, _∙_, subst}
-use mathlib.Core.Bool.{Bool, true, false, _&&_}
+use mathlib.Core.Bool.{Bool, true, false, _&&_, cond}
 use mathlib.Core.Logic.{_↔_}
 use mathlib.Core.List.{List, [], _∷_, _++_}
 use native.Mathlib.Omega.{arith}
@@ -15,7 +15,7 @@ use Rattle.rules.specs.Lists.{All, sum, flat}
 use Rattle.rules.specs.Rules.{Rule, occurrences}
 use Rattle.rules.proofs.Booleans.{eq→eqb}
 use Rattle.stores.specs.Program.{Program, Form, ClassesForm, RuleForm}
-use Rattle.stores.specs.RuleStore.{kindWord, ruleWords, encode, StoreOf, kindOf, wordCount, places, ruleAt, rulesFrom, decode, classes?, rules?, program?, store?, ruleStore, pickStore}
+use Rattle.stores.specs.RuleStore.{kindWord, ruleWords, encode, StoreOf, kindOf, wordCount, places, ruleAt, rulesFrom, decode, classes?, rules?, program?, store?, ruleStore}
 use Rattle.stores.specs.declared.rule_store.RuleStore.the-variants.{Of, Refused}
 use Rattle.stores.proofs.RuleTests.{and-iff, words-law, rule-law, rule-words, occurrences-places, rule-front, past-front}
 
@@ -183,15 +183,15 @@ only-decoded ws p s = sym (decode-encode p (s .form)) ∙ ap decode (s .words)
 
 -- the answer of the check
 
-picked : (b : Bool) (k j : Kind) → pickStore b (Of k) Refused ≡ Of j → T b × (k ≡ j)
+picked : (b : Bool) (k j : Kind) → cond b (Of k) Refused ≡ Of j → T b × (k ≡ j)
 picked true k j e = (tt, cc)
 picked false k j e = absurd (let z : _≡_ {A = ℕ} 0 1 = cc in omega arith)
 
-turned-back : (b : Bool) (k : Kind) → pickStore b (Of k) Refused ≡ Refused ↔ (T b → ⊥)
+turned-back : (b : Bool) (k : Kind) → cond b (Of k) Refused ≡ Refused ↔ (T b → ⊥)
 turned-back true k = (λ e. absurd (let z : _≡_ {A = ℕ} 0 1 = cc in omega arith), λ h. absurd (h tt))
 turned-back false k = (λ e h. h, λ h. refl)
 
-pick-true : (b : Bool) → T b → (k : Kind) → pickStore b (Of k) Refused ≡ Of k
+pick-true : (b : Bool) → T b → (k : Kind) → cond b (Of k) Refused ≡ Of k
 pick-true true h k = refl
 pick-true false h k = absurd h
 

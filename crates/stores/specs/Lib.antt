@@ -1,6 +1,3 @@
--- What a program is, its two stores, and when words or bytes are such a store.
+-- What a program is, its rule store, and when words are one.
 pub mod Program
 pub mod RuleStore
-pub mod Names
-pub mod NameStore
-pub mod NameIndex

@@ -1,7 +1,7 @@
 -- A program of either kind, and when it is of the form (document 01, "The two kinds of file").
 use Prim.Native.Nat.{ℕ, _≤_, _<_}
 use mathlib.Core.Path.{_≡_}
-use mathlib.Core.Bool.{Bool, true, false, _&&_}
+use mathlib.Core.Bool.{_&&_, cond}
 use mathlib.Core.List.{List, [], _∷_}
 use lib.Dec.{leb, eqb}
 use lib.ListN.{length}
@@ -22,12 +22,8 @@ pub record Program : Type 0 where
   pub words : List ℕ
   pub rules : List (Rule ℕ)
 
-abbrev pub pickRole : Bool → Role → Role → Role
-pickRole true a b = a
-pickRole false a b = b
-
 unfoldable pub roleOf : ℕ → Role
-roleOf w = pickRole (leb 1 w && leb w classLimit) (Minimised w) (pickRole (eqb w varying) Varying (pickRole (eqb w fixed) Fixed Unknown))
+roleOf w = cond (leb 1 w && leb w classLimit) (Minimised w) (cond (eqb w varying) Varying (cond (eqb w fixed) Fixed Unknown))
 
 -- 1 to 16 the class, 17 varying, 18 fixed, none naming a class above k
 abbrev pub RoleForm : ℕ → Role → Type 0

@@ -1,14 +1,14 @@
 -- The rule store of a program, and the test whether words are one (document 01, "The rule store is a slice of u16").
 use Prim.Native.Nat.{ℕ, zero, suc, _+_, _<_}
 use mathlib.Core.Path.{_≡_}
-use mathlib.Core.Bool.{Bool, true, false, not, _&&_}
+use mathlib.Core.Bool.{Bool, true, false, not, _&&_, cond}
 use mathlib.Core.List.{List, [], _∷_, _++_}
 use lib.Dec.{leb, ltb, eqb}
 use lib.ListN.{length, getD, take, drop}
 use Rattle.kinds.specs.Limits.{atomLimit, ruleLimit, occurrenceLimit, classLimit}
 use Rattle.kinds.specs.declared.limits.Kind.{Kind}
 use Rattle.kinds.specs.declared.limits.Kind.the-variants.{Plain, Preference}
-use Rattle.rules.specs.Lists.{some, flat}
+use Rattle.rules.specs.Lists.{some, flat, empty?}
 use Rattle.rules.specs.Rules.{Rule, rule}
 use Rattle.stores.specs.Program.{Program, Form, roleOf}
 use Rattle.stores.specs.declared.roles.Role.{Role}
@@ -36,12 +36,8 @@ pub record StoreOf (ws : List ℕ) (p : Program) : Type 0 where
 
 -- the program that a store's words say
 
-abbrev pub pickKind : Bool → Kind → Kind → Kind
-pickKind true a b = a
-pickKind false a b = b
-
 abbrev pub kindOf : ℕ → Kind
-kindOf w = pickKind (eqb w 0) Plain Preference
+kindOf w = cond (eqb w 0) Plain Preference
 
 abbrev pub wordCount : Kind → ℕ → ℕ
 wordCount Plain n = 0
@@ -81,10 +77,6 @@ decode ws =
 
 -- the test
 
-abbrev pub empty? : List ℕ → Bool
-empty? [] = true
-empty? (w ∷ ws) = false
-
 abbrev pub role? : ℕ → Role → Bool
 role? k (Minimised i) = leb i k
 role? k Varying = true
@@ -122,13 +114,9 @@ rule? kind n used ws =
     && (leb (used + places ws) (occurrenceLimit kind)
     && (not? kind (nots ws) && lists? n (ruleAt ws)))
 
-abbrev pub pickCheck : Bool → RuleCheck → RuleCheck → RuleCheck
-pickCheck true a b = a
-pickCheck false a b = b
-
 -- past the rule that stands at `at`: the place of the next one and the occurrences so far
 unfoldable pub ruleCheck : Kind → ℕ → ℕ → ℕ → List ℕ → RuleCheck
-ruleCheck kind n used at ws = pickCheck (rule? kind n used (drop at ws)) (Next (at + (3 + places (drop at ws))) (used + places (drop at ws))) Broken
+ruleCheck kind n used at ws = cond (rule? kind n used (drop at ws)) (Next (at + (3 + places (drop at ws))) (used + places (drop at ws))) Broken
 
 unfoldable pub rules? : Kind → ℕ → ℕ → ℕ → List ℕ → Bool
 rules? kind n used zero ws = empty? ws
@@ -143,13 +131,9 @@ store? ws =
     leb 4 (length ws)
     && (leb (getD ws 0 0) 1 && program? (kindOf (getD ws 0 0)) (getD ws 1 0) (getD ws 2 0) (getD ws 3 0) (drop 4 ws))
 
-abbrev pub pickStore : Bool → RuleStore → RuleStore → RuleStore
-pickStore true a b = a
-pickStore false a b = b
-
 -- what the words are: the store of a program of some kind, or refused
 unfoldable pub ruleStore : List ℕ → RuleStore
-ruleStore ws = pickStore (store? ws) (Of (kindOf (getD ws 0 0))) Refused
+ruleStore ws = cond (store? ws) (Of (kindOf (getD ws 0 0))) Refused
 
 -- a store of the kind asked for
 abbrev pub isOf : Kind → RuleStore → Bool

@@ -7,7 +7,7 @@ use Rattle.kinds.specs.declared.limits.Kind.the-variants.{Preference}
 use Rattle.kinds.specs.declared.refusals.Refusal.the-variants.{RuleStore, NameStore}
 use Rattle.stores.specs.Program.{Program}
 use Rattle.stores.specs.RuleStore.{decode, ruleStore, isOf}
-use Rattle.stores.specs.NameStore.{names?, decodeNames}
+use Rattle.names.specs.NameStore.{names?, decodeNames}
 use Rattle.writer.specs.declared.Written.{Written}
 use Rattle.writer.specs.declared.Written.the-variants.{Refused}
 use Rattle.writer.specs.Text.{textOf}

@@ -1,2 +1,8 @@
--- What the translator answers.
+-- What the translator answers, and what each of its steps writes.
 pub mod Answers
+pub mod Roles
+pub mod FileRules
+pub mod Offsets
+pub mod StepWords
+pub mod PreferenceStore
+pub mod NameBytes

@@ -1,23 +1,68 @@
 -- What the loop of the preferred walk keeps, and what follows at each way out.
-use Prim.Native.Nat.{ℕ, _+_, _-_, _^_, _≤_, _<_}
+use Prim.Native.Nat.{min, ℕ, _+_, _-_, _^_, _≤_, _<_}
 use mathlib.Core.Path.{_≡_, refl, sym, ap, _∙_, subst}
-use mathlib.Core.Bool.{Bool, true, false, cond}
-use mathlib.Core.List.{List}
+use mathlib.Core.Bool.{Bool, true, false, cond, _&&_}
+use mathlib.Core.List.{List, [], _∷_}
+use mathlib.Core.Logic.{_⊎_, inl, inr}
+use native.Mathlib.Decide.{ℕ-discrete}
 use native.Mathlib.Omega.{arith}
+use lib.Pow.{pow-mono}
+use lib.Count.{ones}
 use lib.Dec.{T, eqb, eqb→eq}
 use lib.Bits.{bitAnd, bitOr, bitXor, or-lt, or-self, or-comm}
-use lib.ListN.{length}
+use lib.ListN.{length, getD}
 use borrow.Author.Tests.{eq-eqb, ne-eqb}
-use Rattle.rules.proofs.Booleans.{eq→eqb}
+use Rattle.rules.specs.Sets.{has}
+use Rattle.rules.proofs.Booleans.{eq→eqb, T-of}
 use Rattle.verdicts.specs.Walk.{search, capped}
-use Rattle.verdicts.specs.Masks.{firstM, modelM, agreeM, sparesM, beatsM, preferredWalkM, preferredM}
+use Rattle.verdicts.specs.Masks.{firstM, modelM, agreeM, sparesM, lackingM, withinM, beatsM, preferredWalkM, preferredM}
 use Rattle.verdicts.specs.declared.answers.Verdict.{Verdict}
 use Rattle.verdicts.specs.declared.answers.Verdict.the-variants.{Yes, Broken, Beaten, Spent}
 use Rattle.rules.specs.Lists.{filter, from}
+use Rattle.verdicts.proofs.Bits.{bit, bit-lt}
+use Rattle.verdicts.proofs.MaskBits.{disjoint, agrees, part-of}
 use Rattle.verdicts.proofs.Filters.{upTo}
 use Rattle.verdicts.proofs.Searches.{Answered, walked-answered, search-walked}
+use Rattle.verdicts.proofs.FreeAtoms.{freeOf, first-place, next-place, last-place, before-total}
+use Rattle.verdicts.specs.Subsets.{rank}
 use Rattle.verdicts.proofs.Steps.{walk-first, walk-found, walk-next, walk-last, walk-spent, capped-yes, capped-beaten}
-use Rattle.verdicts.proofs.Stepping.{lacks, stands, stands-agrees, gap, gap-last, or-again, le-or, agrees-sum}
+use Rattle.verdicts.proofs.Stepping.{lacks, lacks-bit, stands, stands-agrees, gap, gap-last, or-again, le-or, agrees-sum}
+
+-- a set with an atom of the first class that the other lacks does not beat it
+
+in-lacks : (c m i : ℕ) → T (has (lacks c m) i) → T (has c i) × (T (has m i) → ⊥)
+in-lacks c m i t =
+    let e : bit (lacks c m) i ≡ 1 = eqb→eq (bit (lacks c m) i) 1 t in
+    let l = lacks-bit c m i in
+    let b = bit-lt c i in
+    (eq→eqb (bit c i) 1 (omega arith), λ h. let q : bit m i ≡ 1 = eqb→eq (bit m i) 1 h in omega arith)
+
+pub none-lacked : (m s : ℕ) (ks : List ℕ) → T (sparesM m s ks) → bitAnd s (lackingM m ks) ≡ 0
+unfolding sparesM lackingM agreeM withinM
+none-lacked m s [] h = absurd h
+none-lacked m s (c ∷ ks) h = eqb→eq (bitAnd s (lacks c m)) 0 (disjoint s (lacks c m) .1 (λ i t k. let q = in-lacks c m i t in q .1 (within (agreeM m s c) refl h i (q .0) k)))
+  where
+    within : (p : Bool) → agreeM m s c ≡ p → T (cond p (sparesM m s ks) (withinM m s c)) → (i : ℕ) → T (has c i) → T (has s i) → T (has m i)
+    within true e t i a b = T-of (agrees s m c .0 (T-of (sym e) tt) i a) b
+    within false e t i a b = part-of s m c .0 t i a b
+
+pub beats-lacked : (cs ws ks : List ℕ) (m s l : ℕ) → l ≡ lackingM m ks → (bitAnd s l ≡ 0 → ⊥) → false ≡ beatsM cs ws ks m s
+unfolding beatsM
+beats-lacked cs ws ks m s l e f = by (sparesM m s ks) (λ t. f (ap (bitAnd s) e ∙ none-lacked m s ks t))
+  where
+    by : (p : Bool) → (T p → ⊥) → false ≡ (p && modelM cs ws s)
+    by true h = absurd (h tt)
+    by false h = refl
+
+pub lacking-none : (m : ℕ) (ks : List ℕ) → length ks ≡ 0 → 0 ≡ lackingM m ks
+unfolding lackingM
+lacking-none m [] e = refl
+lacking-none m (c ∷ ks) e = absurd (omega arith)
+
+pub lacking-some : (m : ℕ) (ks : List ℕ) → (length ks ≡ 0 → ⊥) → bitXor (getD ks 0 0) (bitAnd (getD ks 0 0) m) ≡ lackingM m ks
+unfolding lackingM
+lacking-some m [] e = absurd (e refl)
+lacking-some m (c ∷ ks) e = refl
 
 -- a set that beats another: the classes first, then the rules
 
@@ -32,18 +77,22 @@ beats-not cs ws ks m s p e t = rw (sym e ∙ t)
 -- the preferred walk
 
 module _ (cs ws ks : List ℕ) (f n m budget : ℕ) where
-  abbrev pub onMask : ℕ → Bool
-  onMask s = agreeM m s f
-
   -- the set y ^ d is the next to be tried
-  pub record Walking (d full y units : ℕ) : Type 0 where
+  pub record Walking (d y units : ℕ) : Type 0 where
     pub room : f < 2 ^ n
+    pub small : n ≤ 60
     pub off : d ≡ lacks f m
-    pub last : full + 1 ≡ 2 ^ n
-    pub inside : y ≤ full
+    pub inside : y < 2 ^ n
     pub filled : bitOr y f ≡ y
-    pub spend : units ≤ budget
+    pub place : rank 64 (freeOf n f) (y - f) ≡ units
     pub same : preferredWalkM cs ws ks f n m ≡ search (beatsM cs ws ks m) (upTo (λ s. agreeM m s f) (2 ^ n) (bitXor y d)) units
+
+  -- on the walk, or past its last set; `last` is the units at which the loop ends
+  pub record Position (d total last y units : ℕ) : Type 0 where
+    pub all : total ≡ 2 ^ ones (freeOf n f)
+    pub bound : last ≡ min total budget
+    pub spend : units ≤ last
+    pub stage : Walking d y units ⊎ ((units ≡ total) × (preferredWalkM cs ws ks f n m ≡ Yes units))
 
   on-mask : (x : ℕ) → T (agreeM m x f) → bitAnd x f ≡ bitAnd m f
   unfolding agreeM
@@ -56,19 +105,24 @@ module _ (cs ws ks : List ℕ) (f n m budget : ℕ) where
       let s : bitXor f (lacks f m) + lacks f m ≡ f = stands f m f (or-self f) in
       omega (arith, le-or f x, or-comm f x)
 
-  pub walk-begins : (full : ℕ) → full + 1 ≡ 2 ^ n → f < 2 ^ n → Walking (lacks f m) full f 0
+  pub walk-begins : (total last : ℕ) → n ≤ 60 → f < 2 ^ n → total ≡ 2 ^ ones (freeOf n f) → last ≡ min total budget → Position (lacks f m) total last f 0
   unfolding preferredWalkM
-  walk-begins full e g = record {
-    room = g;
-    off = refl;
-    last = e;
-    inside = omega arith;
-    filled = or-self f;
+  walk-begins total last few g e b = record {
+    all = e;
+    bound = b;
     spend = omega arith;
-    same = walk-first (λ s. agreeM m s f) (beatsM cs ws ks m) (2 ^ n) (bitXor f (lacks f m)) 0 (omega (arith, stands f m f (or-self f))) (λ x l t. none-before x l (on-mask x t));
+    stage = inl (record {
+      room = g;
+      small = few;
+      off = refl;
+      inside = g;
+      filled = or-self f;
+      place = first-place n f few g;
+      same = walk-first (λ s. agreeM m s f) (beatsM cs ws ks m) (2 ^ n) (bitXor f (lacks f m)) 0 (omega (arith, stands f m f (or-self f))) (λ x l t. none-before x l (on-mask x t));
+    });
   }
 
-  module _ (d full y units : ℕ) (st : Walking d full y units) where
+  module _ (d y units : ℕ) (st : Walking d y units) where
     tried : T (agreeM m (bitXor y d) f)
     unfolding agreeM
     tried = eq→eqb _ _ (ap (λ (z : ℕ). bitAnd (bitXor y z) f) (st .off) ∙ stands-agrees f m y (st .filled))
@@ -77,45 +131,79 @@ module _ (cs ws ks : List ℕ) (f n m budget : ℕ) where
     sum = ap (λ (z : ℕ). bitXor y z + z) (st .off) ∙ stands f m y (st .filled)
 
     below : bitXor y d < 2 ^ n
-    below = let s = sum in let r = st .inside in let l = st .last in omega arith
+    below = let s = sum in let r = st .inside in omega arith
 
-    pub walk-is-spent : units ≡ budget → Spent budget ≡ capped budget (preferredWalkM cs ws ks f n m)
-    walk-is-spent e =
-        sym (ap (capped budget) (st .same ∙ ap (search (beatsM cs ws ks m) (upTo (λ s. agreeM m s f) (2 ^ n) (bitXor y d))) e)
-        ∙ walk-spent (λ s. agreeM m s f) (beatsM cs ws ks m) (2 ^ n) (bitXor y d) budget below tried)
-
-    pub walk-finds : (units ≡ budget → ⊥) → beatsM cs ws ks m (bitXor y d) ≡ true → Beaten (bitXor y d) (units + 1) ≡ capped budget (preferredWalkM cs ws ks f n m)
-    walk-finds ne e =
-        sym (ap (capped budget) (st .same ∙ walk-found (λ s. agreeM m s f) (beatsM cs ws ks m) (2 ^ n) (bitXor y d) units below tried e)
-        ∙ capped-beaten budget (bitXor y d) (units + 1) (let b = st .spend in omega arith))
-
-    pub walk-ends : (units ≡ budget → ⊥) → beatsM cs ws ks m (bitXor y d) ≡ false → y ≡ full → Yes (units + 1) ≡ capped budget (preferredWalkM cs ws ks f n m)
-    walk-ends ne e at =
-        sym (ap (capped budget) (st .same ∙ walk-last (λ s. agreeM m s f) (beatsM cs ws ks m) (2 ^ n) (bitXor y d) units below tried e
-        (λ x l k t. gap-last f m n y x (st .filled) (st .room) (let q = st .last in omega arith) (subst (λ (z : ℕ). bitXor y z < x) (st .off) l) k (on-mask x t)))
-        ∙ capped-yes budget (units + 1) (let b = st .spend in omega arith))
-
-    next-in : (y ≡ full → ⊥) → bitOr (y + 1) f ≤ full
-    next-in ne = let i = st .inside in let l = st .last in let o = or-lt n (y + 1) f (omega arith) (st .room) in omega arith
+    next-in : (y + 1 ≡ 2 ^ n → ⊥) → bitOr (y + 1) f < 2 ^ n
+    next-in ne = let i = st .inside in or-lt n (y + 1) f (omega arith) (st .room)
 
     next-sum : bitXor (bitOr (y + 1) f) d + d ≡ bitOr (y + 1) f
     next-sum = ap (λ (z : ℕ). bitXor (bitOr (y + 1) f) z + z) (st .off) ∙ stands f m (bitOr (y + 1) f) (or-again (y + 1) f)
 
-    pub walk-goes-on : (units ≡ budget → ⊥) → beatsM cs ws ks m (bitXor y d) ≡ false → (y ≡ full → ⊥) → Walking d full (bitOr (y + 1) f) (units + 1)
-    walk-goes-on ne e nt = record {
+    step : beatsM cs ws ks m (bitXor y d) ≡ false → (y + 1 ≡ 2 ^ n → ⊥) → Walking d (bitOr (y + 1) f) (units + 1)
+    step e ne = record {
       room = st .room;
+      small = st .small;
       off = st .off;
-      last = st .last;
-      inside = next-in nt;
+      inside = next-in ne;
       filled = or-again (y + 1) f;
-      spend = let b = st .spend in omega arith;
+      place = next-place n f (st .small) (st .room) y (st .inside) (st .filled) ne ∙ ap (λ (u : ℕ). u + 1) (st .place);
       same = st .same ∙ walk-next (λ s. agreeM m s f) (beatsM cs ws ks m) (2 ^ n) (bitXor y d) (bitXor (bitOr (y + 1) f) d) units
-          (omega (arith, sum, next-sum, le-or (y + 1) f)) (let l = st .last in omega (arith, next-sum, next-in nt)) tried e
+          (omega (arith, sum, next-sum, le-or (y + 1) f)) (omega (arith, next-sum, next-in ne)) tried e
           (λ x l k t. gap f m y x (st .filled) (subst (λ (z : ℕ). bitXor y z < x) (st .off) l) (subst (λ (z : ℕ). x < bitXor (bitOr (y + 1) f) z) (st .off) k) (on-mask x t));
     }
 
-    pub walk-falls : (y ≡ full → ⊥) → full - bitOr (y + 1) f < full - y
-    walk-falls nt = let i = st .inside in omega (arith, le-or (y + 1) f)
+    finish : beatsM cs ws ks m (bitXor y d) ≡ false → y + 1 ≡ 2 ^ n → preferredWalkM cs ws ks f n m ≡ Yes (units + 1)
+    finish e at = st .same ∙ walk-last (λ s. agreeM m s f) (beatsM cs ws ks m) (2 ^ n) (bitXor y d) units below tried e
+        (λ x l k t. gap-last f m n y x (st .filled) (st .room) at (subst (λ (z : ℕ). bitXor y z < x) (st .off) l) k (on-mask x t))
+
+  module _ (d total last y units : ℕ) (ps : Position d total last y units) where
+    module _ (l : units < last) where
+      here : Walking d y units
+      here = step-of (ps .stage)
+        where
+          step-of : Walking d y units ⊎ ((units ≡ total) × (preferredWalkM cs ws ks f n m ≡ Yes units)) → Walking d y units
+          step-of (inl st) = st
+          step-of (inr h) = absurd (let b = ps .bound in let e = h .0 in omega arith)
+
+      pub walk-fits : y + 1 < 2 ^ 64
+      walk-fits = let i = here .inside in let p : 2 ^ n ≤ 2 ^ 60 = pow-mono (here .small) in omega arith
+
+      pub walk-finds : beatsM cs ws ks m (bitXor y d) ≡ true → Beaten (bitXor y d) (units + 1) ≡ capped budget (preferredWalkM cs ws ks f n m)
+      walk-finds e =
+          let k : units + 1 ≤ budget = (let b = ps .bound in omega arith) in
+          sym (ap (capped budget) (here .same ∙ walk-found (λ s. agreeM m s f) (beatsM cs ws ks m) (2 ^ n) (bitXor y d) units (below d y units here) (tried d y units here) e)
+          ∙ capped-beaten budget (bitXor y d) (units + 1) k)
+
+      pub walk-goes-on : beatsM cs ws ks m (bitXor y d) ≡ false → Position d total last (bitOr (y + 1) f) (units + 1)
+      walk-goes-on e = record { all = ps .all; bound = ps .bound; spend = omega arith; stage = by (ℕ-discrete (y + 1) (2 ^ n)) }
+        where
+          by : Dec (y + 1 ≡ 2 ^ n) → Walking d (bitOr (y + 1) f) (units + 1) ⊎ ((units + 1 ≡ total) × (preferredWalkM cs ws ks f n m ≡ Yes (units + 1)))
+          by (yes q) = inr (
+            ap (λ (u : ℕ). u + 1) (sym (here .place)) ∙ last-place n f (here .small) (here .room) y (here .inside) (here .filled) q ∙ sym (ps .all),
+            finish d y units here e q,
+          )
+          by (no q) = inl (step d y units here e q)
+
+    module _ (l : last ≤ units) where
+      pub walk-is-spent : units < total → Spent budget ≡ capped budget (preferredWalkM cs ws ks f n m)
+      walk-is-spent k = by (ps .stage)
+        where
+          by : Walking d y units ⊎ ((units ≡ total) × (preferredWalkM cs ws ks f n m ≡ Yes units)) → Spent budget ≡ capped budget (preferredWalkM cs ws ks f n m)
+          by (inl st) =
+              let e : units ≡ budget = (let b = ps .bound in let u = ps .spend in omega arith) in
+              sym (ap (capped budget) (st .same ∙ ap (search (beatsM cs ws ks m) (upTo (λ s. agreeM m s f) (2 ^ n) (bitXor y d))) e)
+              ∙ walk-spent (λ s. agreeM m s f) (beatsM cs ws ks m) (2 ^ n) (bitXor y d) budget (below d y units st) (tried d y units st))
+          by (inr h) = absurd (let e = h .0 in omega arith)
+
+      pub walk-ends : total ≤ units → Yes units ≡ capped budget (preferredWalkM cs ws ks f n m)
+      walk-ends k = by (ps .stage)
+        where
+          within : units ≤ budget
+          within = let b = ps .bound in let u = ps .spend in omega arith
+
+          by : Walking d y units ⊎ ((units ≡ total) × (preferredWalkM cs ws ks f n m ≡ Yes units)) → Yes units ≡ capped budget (preferredWalkM cs ws ks f n m)
+          by (inl st) = absurd (let p = st .place in let a = ps .all in omega (arith, before-total n f (st .small) (st .room) y (st .inside) (st .filled)))
+          by (inr h) = sym (ap (capped budget) (h .1) ∙ capped-yes budget units within)
 
   -- the verdict
 

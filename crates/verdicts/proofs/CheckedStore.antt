@@ -6,6 +6,7 @@ use mathlib.Core.List.{List, [], _∷_, _++_, map}
 use native.Mathlib.Omega.{arith}
 use lib.Pow.{pow-lt, pow-pos}
 use lib.Bits.{or-lt}
+use lib.Count.{ones, ones-le}
 use lib.ListN.{length, getD, take, drop, length-take, length-append, length-drop, length-map, List·getD-append}
 use lib.Seq.{drop-drop, drop-at, getD-drop}
 use borrow.Author.Tests.{ne-eqb, eq-eqb}
@@ -237,17 +238,29 @@ module _ (ws : List ℕ) (n k r : ℕ) (h : PreferenceHeader ws n k r) where
     pub fixed-fits : f < 2 ^ n
     fixed-fits = let e = d .fixed-is in let l : maskOf (ofClass (decode ws .words) fixed) < 2 ^ length (decode ws .words) = class-mask-lt (decode ws .words) fixed in let z : 2 ^ length (decode ws .words) ≡ 2 ^ n = ap (λ (x : ℕ). 2 ^ x) words-length in omega arith
 
-    needs-are : (m : ℕ) → preferredM (take r cs) (take r wants) (take k ks) f n m ≡ preferredNeeds (decode ws .words) (decode ws .rules) m
-    needs-are m = by (d .care-front) (d .want-front) (d .class-front) (d .fixed-is) (sym words-length) ∙ preferred-mask (decode ws .words) (decode ws .rules) k preference-classes no-classes nots-empty m
+    pub free-fits : ones f ≤ n
+    free-fits = ones-le n f fixed-fits
+
+    pub free-sum : n - ones f + ones f ≡ n
+    free-sum = let l = free-fits in omega arith
+
+    pub free-room : f < 2 ^ (n - ones f + ones f)
+    free-room = subst (λ (x : ℕ). f < 2 ^ x) (sym free-sum) fixed-fits
+
+    pub free-few : n - ones f + ones f ≤ 60
+    free-few = subst (λ (x : ℕ). x ≤ 60) (sym free-sum) preference-atoms
+
+    needs-are : (m : ℕ) → preferredM (take r cs) (take r wants) (take k ks) f (n - ones f + ones f) m ≡ preferredNeeds (decode ws .words) (decode ws .rules) m
+    needs-are m = by (d .care-front) (d .want-front) (d .class-front) (d .fixed-is) (free-sum ∙ sym words-length) ∙ preferred-mask (decode ws .words) (decode ws .rules) k preference-classes no-classes nots-empty m
       where
         by : {a a′ b b′ c c′ : List ℕ} {x x′ y y′ : ℕ} → a ≡ a′ → b ≡ b′ → c ≡ c′ → x ≡ x′ → y ≡ y′ → preferredM a b c x y m ≡ preferredM a′ b′ c′ x′ y′ m
         by e f g h i = λ j. preferredM (e j) (f j) (g j) (h j) (i j) m
 
-    pub preferred-ready : (m b : ℕ) (v : Verdict) → v ≡ capped b (preferredM (take r cs) (take r wants) (take k ks) f n m) → v ≡ preferredVerdict (decode ws .words) (decode ws .rules) m b
+    pub preferred-ready : (m b : ℕ) (v : Verdict) → v ≡ capped b (preferredM (take r cs) (take r wants) (take k ks) f (n - ones f + ones f) m) → v ≡ preferredVerdict (decode ws .words) (decode ws .rules) m b
     unfolding preferredVerdict
     preferred-ready m b v e = e ∙ ap (capped b) (needs-are m)
 
-    pub next-ready : (start b : ℕ) (v : NextState) → v ≡ cappedNext b (firstState (preferredM (take r cs) (take r wants) (take k ks) f n) (from start (2 ^ n - start)) 0) → v ≡ nextVerdict (decode ws .words) (decode ws .rules) start b
+    pub next-ready : (start b : ℕ) (v : NextState) → v ≡ cappedNext b (firstState (preferredM (take r cs) (take r wants) (take k ks) f (n - ones f + ones f)) (from start (2 ^ n - start)) 0) → v ≡ nextVerdict (decode ws .words) (decode ws .rules) start b
     unfolding nextVerdict candidates
     next-ready start b v e =
         e ∙ ap₂ (λ (g : ℕ → Verdict) (x : ℕ). cappedNext b (firstState g (from start (2 ^ x - start)) 0)) (fun-ext needs-are) (sym words-length)

@@ -13,7 +13,7 @@ use borrow.Author.Tests.{ne-eqb, eq-eqb, eqb-true, leb-true, le-leb}
 use Rattle.kinds.specs.Limits.{classLimit}
 use Rattle.rules.specs.Lists.{keep, filter, from}
 use Rattle.rules.specs.Preferred.{varying, fixed, ofClass}
-use Rattle.stores.specs.Program.{pickRole, roleOf}
+use Rattle.stores.specs.Program.{roleOf}
 use Rattle.stores.specs.declared.roles.Role.{Role}
 use Rattle.stores.specs.declared.roles.Role.the-variants.{Minimised, Varying, Fixed, Unknown}
 use Rattle.verdicts.specs.Masks.{maskOf, classMasks, noted}
@@ -26,7 +26,7 @@ class? w = leb 1 w && leb w classLimit
 
 module _ (p q r : Bool) (w : ℕ) where
   abbrev picked : Role
-  picked = pickRole p (Minimised w) (pickRole q Varying (pickRole r Fixed Unknown))
+  picked = cond p (Minimised w) (cond q Varying (cond r Fixed Unknown))
 
 picks-class : (p q r : Bool) (w c : ℕ) → picked p q r w ≡ Minimised c → (c ≡ w) × (p ≡ true)
 picks-class true q r w c e = (let z : w ≡ c = cc in sym z, refl)

@@ -19,7 +19,8 @@ use Rattle.stores.specs.RuleStore.{StoreOf, decode, ruleStore}
 use Rattle.stores.specs.declared.rule_store.RuleStore.{RuleStore}
 use Rattle.stores.specs.declared.rule_store.RuleStore.the-variants.{Of, Refused as StoreRefused}
 use Rattle.stores.proofs.RuleStores.{of-kind}
-use Rattle.verdicts.specs.Answers.{isOf, guarded}
+use Rattle.stores.specs.RuleStore.{isOf}
+use Rattle.verdicts.specs.Answers.{guarded}
 use Rattle.verdicts.specs.declared.guard.Guard.{Guard}
 use Rattle.verdicts.specs.declared.guard.Guard.the-variants.{Passed, Refused}
 use Rattle.verdicts.proofs.MaskLoops.{shifted}

@@ -15,6 +15,7 @@ pub mod RowLaws
 pub mod ClassFill
 pub mod CheckedStore
 pub mod Guarding
+pub mod FreeAtoms
 pub mod AgreeingSets
 pub mod ProperSubsets
 pub mod Listing

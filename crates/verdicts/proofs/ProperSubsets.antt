@@ -1,5 +1,5 @@
 -- What the loop of the stable walk keeps, and what follows at each way out.
-use Prim.Native.Nat.{ℕ, _+_, _-_, _*_, _%_, _^_, _≤_, _<_}
+use Prim.Native.Nat.{min, ℕ, _+_, _-_, _*_, _%_, _^_, _≤_, _<_}
 use mathlib.Core.Path.{_≡_, sym, ap, _∙_}
 use mathlib.Core.List.{List}
 use native.Mathlib.Nat.{lt-of-lt-of-le}
@@ -33,19 +33,21 @@ pub below-60 : (n m : ℕ) → n ≤ 60 → m < 2 ^ n → m < 2 ^ 60
 below-60 n m l h = lt-of-lt-of-le h (pow-mono {i = n} {j = 60} l)
 
 module _ (cs ws : List ℕ) (m budget : ℕ) where
-  -- s is the next subset to be tried, or m itself
-  pub record Subsetting (proper s units : ℕ) : Type 0 where
+  -- s is the next subset to be tried, or m itself; `last` is the units at which the loop ends
+  pub record Subsetting (proper last s units : ℕ) : Type 0 where
     pub all : proper ≡ rank 64 m m
+    pub bound : last ≡ min proper budget
     pub fits : m < 2 ^ 60
     pub inside : bitAnd s m ≡ s
     pub place : rank 64 m s ≡ units
-    pub spend : units ≤ budget
+    pub spend : units ≤ last
     pub same : stableWalkM cs ws m ≡ search (modelM cs ws) (upTo (subsetM m) m s) units
 
-  pub subsets-begin : (proper : ℕ) → m < 2 ^ 60 → proper ≡ rank 64 m m → Subsetting proper 0 0
+  pub subsets-begin : (proper last : ℕ) → m < 2 ^ 60 → proper ≡ rank 64 m m → last ≡ min proper budget → Subsetting proper last 0 0
   unfolding stableWalkM
-  subsets-begin proper h e = record {
+  subsets-begin proper last h e b = record {
     all = e;
+    bound = b;
     fits = h;
     inside = and-zero-l m;
     place = rank-none m;
@@ -53,43 +55,55 @@ module _ (cs ws : List ℕ) (m budget : ℕ) where
     same = walk-first (subsetM m) (modelM cs ws) m 0 0 (omega arith) (λ x l t. omega arith);
   }
 
-  module _ (proper s units : ℕ) (st : Subsetting proper s units) where
-    module _ (l : units < proper) where
-      pub is-proper : s ≡ m → ⊥
-      is-proper e = let p : rank 64 m s ≡ rank 64 m m = ap (rank 64 m) e in let q = st .place in let a = st .all in omega arith
+  module _ (proper last s units : ℕ) (st : Subsetting proper last s units) where
+    is-proper : units < proper → s ≡ m → ⊥
+    is-proper l e = let p : rank 64 m s ≡ rank 64 m m = ap (rank 64 m) e in let q = st .place in let a = st .all in omega arith
 
-      below : s < m
-      below = let i = st .inside in let n = is-proper in omega (arith, and-le-r s m)
+    below : units < proper → s < m
+    below l = let i = st .inside in let n = is-proper l in omega (arith, and-le-r s m)
 
-      tried : T (subsetM m s)
-      tried = eq→eqb (bitAnd s m) s (st .inside)
+    tried : T (subsetM m s)
+    tried = eq→eqb (bitAnd s m) s (st .inside)
 
-      pub subsets-spent : units ≡ budget → Spent budget ≡ capped budget (stableWalkM cs ws m)
-      subsets-spent e =
-          sym (ap (capped budget) (st .same ∙ ap (search (modelM cs ws) (upTo (subsetM m) m s)) e)
-          ∙ walk-spent (subsetM m) (modelM cs ws) m s budget below tried)
+    module _ (l : units < last) where
+      not-last : units < proper
+      not-last = let b = st .bound in omega arith
 
-      pub subsets-found : (units ≡ budget → ⊥) → (r : ℕ) → r ≡ firstM s cs ws → r ≡ length cs → Beaten s (units + 1) ≡ capped budget (stableWalkM cs ws m)
+      pub still-proper : s ≡ m → ⊥
+      still-proper = is-proper not-last
+
+      pub subsets-found : (r : ℕ) → r ≡ firstM s cs ws → r ≡ length cs → Beaten s (units + 1) ≡ capped budget (stableWalkM cs ws m)
       unfolding modelM
-      subsets-found ne r e h =
-          sym (ap (capped budget) (st .same ∙ walk-found (subsetM m) (modelM cs ws) m s units below tried (eq-eqb _ _ (sym e ∙ h)))
-          ∙ capped-beaten budget s (units + 1) (let b = st .spend in omega arith))
+      subsets-found r e h =
+          let n : units + 1 ≤ budget = (let b = st .bound in omega arith) in
+          sym (ap (capped budget) (st .same ∙ walk-found (subsetM m) (modelM cs ws) m s units (below not-last) tried (eq-eqb _ _ (sym e ∙ h))) ∙ capped-beaten budget s (units + 1) n)
 
-      pub subsets-go-on : (units ≡ budget → ⊥) → (r : ℕ) → r ≡ firstM s cs ws → (r ≡ length cs → ⊥) → (s′ : ℕ) → NextSub m s s′ → Subsetting proper s′ (units + 1)
+      pub subsets-go-on : (r : ℕ) → r ≡ firstM s cs ws → (r ≡ length cs → ⊥) → (s′ : ℕ) → NextSub m s s′ → Subsetting proper last s′ (units + 1)
       unfolding modelM
-      subsets-go-on ne r e h s′ nx = record {
+      subsets-go-on r e h s′ nx = record {
         all = st .all;
+        bound = st .bound;
         fits = st .fits;
         inside = nx .inside;
         place = nx .counts ∙ ap (λ (u : ℕ). u + 1) (st .place);
-        spend = let b = st .spend in omega arith;
+        spend = omega arith;
         same = st .same ∙ walk-next (subsetM m) (modelM cs ws) m s s′ units (nx .above) (omega (arith, and-le-r s′ m, nx .inside)) tried (ne-eqb _ _ (λ q. h (e ∙ q)))
             (λ x a b t. let g : s′ ≤ x = nx .least x a (eqb→eq (bitAnd x m) x t) in omega arith);
       }
 
-    pub subsets-end : proper ≤ units → Yes units ≡ capped budget (stableWalkM cs ws m)
-    subsets-end l = by-dec (ℕ-discrete s m)
-      where
-        by-dec : Dec (s ≡ m) → Yes units ≡ capped budget (stableWalkM cs ws m)
-        by-dec (yes e) = sym (ap (capped budget) (st .same ∙ walk-none (subsetM m) (modelM cs ws) m s units (λ x a b t. omega arith)) ∙ capped-yes budget units (st .spend))
-        by-dec (no q) = absurd (let a = st .all in let f = st .fits in omega (arith, st .place, rank-lt 64 m s (omega arith) (st .inside) q))
+    module _ (l : last ≤ units) where
+      pub subsets-spent : units < proper → Spent budget ≡ capped budget (stableWalkM cs ws m)
+      subsets-spent k =
+          let e : units ≡ budget = (let b = st .bound in let u = st .spend in omega arith) in
+          sym (ap (capped budget) (st .same ∙ ap (search (modelM cs ws) (upTo (subsetM m) m s)) e)
+          ∙ walk-spent (subsetM m) (modelM cs ws) m s budget (below k) tried)
+
+      pub subsets-end : proper ≤ units → Yes units ≡ capped budget (stableWalkM cs ws m)
+      subsets-end k = by-dec (ℕ-discrete s m)
+        where
+          within : units ≤ budget
+          within = let b = st .bound in let u = st .spend in omega arith
+
+          by-dec : Dec (s ≡ m) → Yes units ≡ capped budget (stableWalkM cs ws m)
+          by-dec (yes e) = sym (ap (capped budget) (st .same ∙ walk-none (subsetM m) (modelM cs ws) m s units (λ x a b t. omega arith)) ∙ capped-yes budget units within)
+          by-dec (no q) = absurd (let a = st .all in let f = st .fits in omega (arith, st .place, rank-lt 64 m s (omega arith) (st .inside) q))

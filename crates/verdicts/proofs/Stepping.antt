@@ -78,7 +78,7 @@ part f m = ext _ _ (λ i. bit-and f (bitAnd f m) i ∙ ap (λ (z : ℕ). min (bi
 pub lacks-sum : (f m : ℕ) → lacks f m + bitAnd m f ≡ f
 lacks-sum f m = ap (λ (z : ℕ). lacks f m + z) (and-comm m f) ∙ off-sum f (bitAnd f m) (part f m)
 
-lacks-bit : (f m i : ℕ) → bit (lacks f m) i ≡ bit f i - min (bit f i) (bit m i)
+pub lacks-bit : (f m i : ℕ) → bit (lacks f m) i ≡ bit f i - min (bit f i) (bit m i)
 lacks-bit f m i = off-bit f (bitAnd f m) (part f m) i .1 ∙ ap (λ (z : ℕ). bit f i - z) (bit-and f m i)
 
 module _ (f m y : ℕ) (full : bitOr y f ≡ y) where

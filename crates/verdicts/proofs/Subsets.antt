@@ -1,7 +1,7 @@
 -- The next subset by the lowest atom that is out, and the place of a subset.
 use mathlib.Core.Path.{_≡_, refl, sym, ap, ap₂, _∙_, subst}
 use mathlib.Core.Logic.{_⊎_, inl, inr}
-use Prim.Native.Nat.{ℕ, zero, suc, _+_, _-_, _*_, _/_, _%_, _^_, _≤_, _<_, min}
+use Prim.Native.Nat.{ℕ, zero, suc, _+_, _*_, _/_, _%_, _^_, _≤_, _<_, min}
 use native.Mathlib.Nat.{mod-lt, zero-lt-suc, pow-suc, mul-comm, mul-assoc, div-div-eq-div-mul, div-one, mul-one, mod-eq-of-lt}
 use native.Mathlib.Numerals.{one-add}
 use native.Mathlib.Omega.{arith}
@@ -149,7 +149,7 @@ rank-zero (suc k) m = go (m % 2) (rank-zero k (m / 2))
 pub rank-none : (m : ℕ) → rank 64 m 0 ≡ 0
 rank-none m = rank-zero 64 m
 
-rank-le : (k m s : ℕ) → bitAnd s m ≡ s → rank k m s ≤ rank k m m
+pub rank-le : (k m s : ℕ) → bitAnd s m ≡ s → rank k m s ≤ rank k m m
 unfolding rank
 rank-le zero m s h = omega arith
 rank-le (suc k) m s h = go (m % 2) (s % 2) (low-in s m h) (rank-le k (m / 2) (s / 2) (half-in s m h))

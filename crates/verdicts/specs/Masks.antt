@@ -3,7 +3,7 @@ use Prim.Native.Nat.{ℕ, _-_, _^_}
 use mathlib.Core.Bool.{Bool, false, not, cond, _&&_}
 use mathlib.Core.List.{List, [], _∷_, _++_, map}
 use lib.Dec.{eqb, leb}
-use lib.Bits.{bitAnd, bitOr}
+use lib.Bits.{bitAnd, bitOr, bitXor}
 use lib.ListN.{length, getD, set, drop}
 use Rattle.kinds.specs.Limits.{classLimit}
 use Rattle.rules.specs.Lists.{keep, filter, from}
@@ -59,6 +59,11 @@ withinM m s c = eqb (bitAnd (bitAnd s c) m) (bitAnd s c)
 unfoldable pub sparesM : ℕ → ℕ → List ℕ → Bool
 sparesM m s [] = false
 sparesM m s (c ∷ cs) = cond (agreeM m s c) (sparesM m s cs) (withinM m s c)
+
+-- the atoms of the first class that m lacks
+unfoldable pub lackingM : ℕ → List ℕ → ℕ
+lackingM m [] = 0
+lackingM m (c ∷ cs) = bitXor c (bitAnd c m)
 
 unfoldable pub beatsM : List ℕ → List ℕ → List ℕ → ℕ → ℕ → Bool
 beatsM cs ws ks m s = sparesM m s ks && modelM cs ws s

@@ -8,7 +8,8 @@ use stores::rule_store::check_rules;
 ghost use mathlib.Core.Path.{_≡_};
 ghost use Prim.Native.Nat.{_+_, _≤_};
 ghost use lib.Dec.{ltb};
-ghost use Rattle.verdicts.specs.Answers.{isOf, guarded};
+ghost use Rattle.stores.specs.RuleStore.{isOf};
+ghost use Rattle.verdicts.specs.Answers.{guarded};
 ghost use Rattle.verdicts.specs.declared.guard.Guard.the-variants.{Passed as GuardPassed, Refused as GuardRefused};
 
 pub enum Guard {

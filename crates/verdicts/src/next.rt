@@ -5,12 +5,14 @@ use crate::guard::Guard;
 use crate::guard::check_call;
 use crate::masks::fill_classes;
 use crate::masks::fill_rules;
+use crate::masks::first_broken;
 use crate::masks::wide;
-use crate::preferred::preferred_masks;
+use crate::preferred::preferred_walk;
 use kinds::limits::Kind;
 use kinds::limits::Preference;
 ghost use mathlib.Core.Path.{_≡_};
-ghost use Prim.Native.Nat.{_-_, _<_, _≤_, _^_};
+ghost use Prim.Native.Nat.{_+_, _-_, _<_, _≤_, _^_};
+ghost use lib.Count.{ones};
 ghost use lib.ListN.{length};
 ghost use Rattle.kinds.specs.Limits.{walkAtoms};
 ghost use Rattle.kinds.specs.declared.limits.Kind.the-variants.{Preference as KindPreference};
@@ -27,22 +29,25 @@ fn candidate(
     want: &[u64],
     classes: &[u64],
     fixed: u64,
-    n: u32,
+    free: u32,
     set: u64,
     units: u64,
     budget: u64,
 ) -> NextState
     requires { ⌜ length (now want) ≡ length (now care) ⌝ }
-    requires { ⌜ n ≤ 60 ⌝ }
-    requires { ⌜ fixed < 2 ^ n ⌝ }
+    requires { ⌜ free + ones fixed ≤ 60 ⌝ }
+    requires { ⌜ fixed < 2 ^ (free + ones fixed) ⌝ }
     requires { ⌜ units ≤ budget ⌝ }
-    ensures { λ r. ⌜ r ≡ cappedNext budget (after (preferredM (now (care .entry)) (now (want .entry)) (now (classes .entry)) fixed n set) set units Nothing) ⌝ }
+    ensures { λ r. ⌜ r ≡ cappedNext budget (after (preferredM (now (care .entry)) (now (want .entry)) (now (classes .entry)) fixed (free + ones fixed) set) set units Nothing) ⌝ }
 {
     if units == budget {
         return NextState::Spent { units: budget };
     }
     let used = units + 1;
-    let verdict = preferred_masks(care, want, classes, fixed, n, set, budget - used);
+    if first_broken(care, want, set) != care.len() {
+        return NextState::Nothing { units: used };
+    }
+    let verdict = preferred_walk(care, want, classes, fixed, free, set, budget - used);
     match verdict {
         Verdict::Yes { units: more } => NextState::State {
             set: set,
@@ -64,21 +69,23 @@ fn next_masks(
     want: &[u64],
     classes: &[u64],
     fixed: u64,
+    free: u32,
     n: u32,
     start: u64,
     budget: u64,
 ) -> NextState
     requires { ⌜ length (now want) ≡ length (now care) ⌝ }
+    requires { ⌜ free + ones fixed ≤ 60 ⌝ }
+    requires { ⌜ fixed < 2 ^ (free + ones fixed) ⌝ }
     requires { ⌜ n ≤ 60 ⌝ }
-    requires { ⌜ fixed < 2 ^ n ⌝ }
     requires { ⌜ start ≤ 2 ^ n ⌝ }
-    ensures { λ r. ⌜ r ≡ cappedNext budget (firstState (preferredM (now (care .entry)) (now (want .entry)) (now (classes .entry)) fixed n) (from start (2 ^ n - start)) 0) ⌝ }
+    ensures { λ r. ⌜ r ≡ cappedNext budget (firstState (preferredM (now (care .entry)) (now (want .entry)) (now (classes .entry)) fixed (free + ones fixed)) (from start (2 ^ n - start)) 0) ⌝ }
 {
     let end = 1u64 << n;
     let mut s = start;
     let mut units: u64 = 0;
     while s < end {
-        let step = candidate(care, want, classes, fixed, n, s, units, budget);
+        let step = candidate(care, want, classes, fixed, free, s, units, budget);
         let NextState::Nothing { units: more } = step else {
             return step;
         };
@@ -105,11 +112,13 @@ fn next_of(words: &[u16], start: u64, budget: u64) -> NextState
     let mut want = [0u64; Preference::RULES];
     let fixed = fill_classes(words, n, &mut classes);
     fill_rules(words, first, rules, 0, &mut care, &mut want);
+    let free = n as u32 - u64::count_ones(fixed);
     next_masks(
         &care[..rules],
         &want[..rules],
         &classes[..k],
         fixed,
+        free,
         n as u32,
         start,
         budget,

@@ -5,17 +5,19 @@ use crate::guard::check_call;
 use crate::masks::fill_classes;
 use crate::masks::fill_rules;
 use crate::masks::first_broken;
+use crate::masks::least;
 use crate::masks::wide;
 use kinds::limits::Kind;
 use kinds::limits::Preference;
 ghost use mathlib.Core.Path.{_≡_};
-ghost use Prim.Native.Nat.{_<_, _≤_, _^_};
+ghost use Prim.Native.Nat.{_+_, _<_, _≤_, _^_};
+ghost use lib.Count.{ones};
 ghost use lib.ListN.{length};
 ghost use Rattle.kinds.specs.Limits.{walkAtoms};
 ghost use Rattle.kinds.specs.declared.limits.Kind.the-variants.{Preference as KindPreference};
 ghost use Rattle.stores.specs.RuleStore.{StoreOf, decode};
 ghost use Rattle.verdicts.specs.Walk.{capped, preferredVerdict};
-ghost use Rattle.verdicts.specs.Masks.{sparesM, beatsM, preferredWalkM, preferredM};
+ghost use Rattle.verdicts.specs.Masks.{sparesM, lackingM, beatsM, preferredWalkM, preferredM};
 ghost use Rattle.verdicts.specs.Answers.{preferredAnswer};
 
 // Whether at the first class on which the two differ `set` has a part of what `of` has.
@@ -34,53 +36,69 @@ fn spares(classes: &[u64], set: u64, of: u64) -> bool
     false
 }
 
+// The atoms of the first class that `of` lacks: a set that has one of them does not beat it.
+fn lacking(classes: &[u64], of: u64) -> u64
+    ensures { λ r. ⌜ r ≡ lackingM of (now (classes .entry)) ⌝ }
+{
+    if classes.len() == 0 {
+        return 0;
+    }
+    let c = classes[0];
+    c ^ (c & of)
+}
+
 // Whether `set`, which agrees with `of` on the fixed atoms, beats it.
-fn beats(care: &[u64], want: &[u64], classes: &[u64], set: u64, of: u64) -> bool
+fn beats(care: &[u64], want: &[u64], classes: &[u64], lacked: u64, set: u64, of: u64) -> bool
     requires { ⌜ length (now want) ≡ length (now care) ⌝ }
+    requires { ⌜ lacked ≡ lackingM of (now classes) ⌝ }
     ensures { λ r. ⌜ r ≡ beatsM (now (care .entry)) (now (want .entry)) (now (classes .entry)) of set ⌝ }
 {
+    if set & lacked != 0 {
+        return false;
+    }
     if spares(classes, set, of) {
         return first_broken(care, want, set) == care.len();
     }
     false
 }
 
-// A set s of the walk stands as y, which is s with all fixed atoms in; the next y is (y + 1) | fixed.
-fn preferred_walk(
+// The walk over the sets that agree with `set` on the fixed atoms, of which `free` atoms are none.
+// A set s stands as y, which is s with all fixed atoms in; the next y is (y + 1) | fixed.
+pub fn preferred_walk(
     care: &[u64],
     want: &[u64],
     classes: &[u64],
     fixed: u64,
-    n: u32,
+    free: u32,
     set: u64,
     budget: u64,
 ) -> Verdict
     requires { ⌜ length (now want) ≡ length (now care) ⌝ }
-    requires { ⌜ n ≤ 60 ⌝ }
-    requires { ⌜ fixed < 2 ^ n ⌝ }
-    ensures { λ r. ⌜ r ≡ capped budget (preferredWalkM (now (care .entry)) (now (want .entry)) (now (classes .entry)) fixed n set) ⌝ }
+    requires { ⌜ free + ones fixed ≤ 60 ⌝ }
+    requires { ⌜ fixed < 2 ^ (free + ones fixed) ⌝ }
+    ensures { λ r. ⌜ r ≡ capped budget (preferredWalkM (now (care .entry)) (now (want .entry)) (now (classes .entry)) fixed (free + ones fixed) set) ⌝ }
 {
-    let full = (1u64 << n) - 1;
+    let total = 1u64 << free;
+    let last = least(total, budget);
     let d = fixed ^ (fixed & set);
+    let lacked = lacking(classes, set);
     let mut y = fixed;
     let mut units: u64 = 0;
-    loop {
-        if units == budget {
-            return Verdict::Spent { units: budget };
-        }
+    while units < last {
         units += 1;
         let s = y ^ d;
-        if beats(care, want, classes, s, set) {
+        if beats(care, want, classes, lacked, s, set) {
             return Verdict::Beaten {
                 set: s,
                 units: units,
             };
         }
-        if y == full {
-            return Verdict::Yes { units: units };
-        }
         y = (y + 1) | fixed;
     }
+    if units < total {
+        return Verdict::Spent { units: budget };
+    }
+    Verdict::Yes { units: units }
 }
 
 // The preferred verdict over masks.
@@ -89,14 +107,14 @@ pub fn preferred_masks(
     want: &[u64],
     classes: &[u64],
     fixed: u64,
-    n: u32,
+    free: u32,
     set: u64,
     budget: u64,
 ) -> Verdict
     requires { ⌜ length (now want) ≡ length (now care) ⌝ }
-    requires { ⌜ n ≤ 60 ⌝ }
-    requires { ⌜ fixed < 2 ^ n ⌝ }
-    ensures { λ r. ⌜ r ≡ capped budget (preferredM (now (care .entry)) (now (want .entry)) (now (classes .entry)) fixed n set) ⌝ }
+    requires { ⌜ free + ones fixed ≤ 60 ⌝ }
+    requires { ⌜ fixed < 2 ^ (free + ones fixed) ⌝ }
+    ensures { λ r. ⌜ r ≡ capped budget (preferredM (now (care .entry)) (now (want .entry)) (now (classes .entry)) fixed (free + ones fixed) set) ⌝ }
 {
     let broken = first_broken(care, want, set);
     if broken != care.len() {
@@ -104,7 +122,7 @@ pub fn preferred_masks(
             rule: broken as u64,
         };
     }
-    preferred_walk(care, want, classes, fixed, n, set, budget)
+    preferred_walk(care, want, classes, fixed, free, set, budget)
 }
 
 // The preferred verdict over the words of a checked preference store.
@@ -123,12 +141,13 @@ fn preferred_of(words: &[u16], set: u64, budget: u64) -> Verdict
     let mut want = [0u64; Preference::RULES];
     let fixed = fill_classes(words, n, &mut classes);
     fill_rules(words, start, rules, 0, &mut care, &mut want);
+    let free = n as u32 - u64::count_ones(fixed);
     preferred_masks(
         &care[..rules],
         &want[..rules],
         &classes[..k],
         fixed,
-        n as u32,
+        free,
         set,
         budget,
     )

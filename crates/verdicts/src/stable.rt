@@ -5,6 +5,7 @@ use crate::guard::check_call;
 use crate::masks::fill_rules;
 use crate::masks::first_broken;
 use crate::masks::gather;
+use crate::masks::least;
 use crate::masks::wide;
 use kinds::limits::Kind;
 use kinds::limits::Plain;
@@ -45,12 +46,10 @@ fn stable_walk(care: &[u64], want: &[u64], set: u64, budget: u64) -> Verdict
     ensures { λ r. ⌜ r ≡ capped budget (stableWalkM (now (care .entry)) (now (want .entry)) set) ⌝ }
 {
     let proper = proper_subsets(set);
+    let last = least(proper, budget);
     let mut s: u64 = 0;
     let mut units: u64 = 0;
-    while units < proper {
-        if units == budget {
-            return Verdict::Spent { units: budget };
-        }
+    while units < last {
         units += 1;
         if first_broken(care, want, s) == care.len() {
             return Verdict::Beaten {
@@ -59,6 +58,9 @@ fn stable_walk(care: &[u64], want: &[u64], set: u64, budget: u64) -> Verdict
             };
         }
         s = next_subset(set, s);
+    }
+    if units < proper {
+        return Verdict::Spent { units: budget };
     }
     Verdict::Yes { units: units }
 }

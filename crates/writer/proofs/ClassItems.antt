@@ -4,7 +4,7 @@ use native.Mathlib.Numerals.{add-one}
 use native.Mathlib.Decide.{decLt}
 use native.Mathlib.Omega.{arith}
 use mathlib.Core.Path.{_≡_, refl, sym, ap, ap₂, _∙_, subst}
-use mathlib.Core.Bool.{Bool, true, false, _&&_}
+use mathlib.Core.Bool.{Bool, true, false, _&&_, cond}
 use mathlib.Core.Logic.{_⊎_, inl, inr}
 use mathlib.Core.List.{List, [], _∷_, _++_, append-assoc, append-nil}
 use lib.Dec.{leb, eqb}
@@ -12,7 +12,7 @@ use lib.ListN.{length, getD}
 use borrow.Author.Tests.{leb-true, eqb-true}
 use Rattle.rules.specs.Lists.{from}
 use Rattle.rules.specs.Preferred.{varying, fixed, ofClass}
-use Rattle.stores.specs.Program.{RoleForm, roleOf, pickRole}
+use Rattle.stores.specs.Program.{RoleForm, roleOf}
 use Rattle.stores.specs.declared.roles.Role.the-variants.{Minimised, Varying, Fixed, Unknown}
 use Rattle.writer.specs.Words.{open-bracket, close-bracket, line-end, minWord, varyWord, fixWord}
 use Rattle.writer.specs.Text.{openText, listLine, named}
@@ -31,7 +31,7 @@ known-word : (k w : ℕ) → RoleForm k (roleOf w) → Known k w
 unfolding Known roleOf
 known-word k w h = go (leb 1 w) (leb w 16) (eqb w 17) (eqb w 18) refl refl refl h
   where
-    go : (a b c d : Bool) → leb 1 w ≡ a → eqb w 17 ≡ c → eqb w 18 ≡ d → RoleForm k (pickRole (a && b) (Minimised w) (pickRole c Varying (pickRole d Fixed Unknown))) → Known k w
+    go : (a b c d : Bool) → leb 1 w ≡ a → eqb w 17 ≡ c → eqb w 18 ≡ d → RoleForm k (cond (a && b) (Minimised w) (cond c Varying (cond d Fixed Unknown))) → Known k w
     go true true c d e f g h = inl (leb-true 1 w e, h)
     go true false true d e f g h = inr (inl (eqb-true w 17 f))
     go true false false true e f g h = inr (inr (eqb-true w 18 g))

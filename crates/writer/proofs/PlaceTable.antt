@@ -7,10 +7,10 @@ use mathlib.Core.Path.{_≡_, refl, sym, ap, _∙_, subst}
 use mathlib.Core.List.{List, [], _∷_, _++_, append-assoc, append-nil}
 use lib.ListN.{length, getD, take, drop, set, length-append, length-set}
 use lib.Seq.{take-suc, split-at, drop-at, drop-length, getD-set-same, getD-set-other}
-use Rattle.stores.specs.NameStore.{nameBytes, encodeNames}
-use Rattle.stores.specs.NameIndex.{place, Placed}
-use Rattle.stores.proofs.NamePlaces.{NameHere, stands, length-decode}
-use Rattle.stores.proofs.NameEntries.{encode-last}
+use Rattle.names.specs.NameStore.{nameBytes, encodeNames}
+use Rattle.names.specs.NameIndex.{place, Placed}
+use Rattle.names.proofs.NamePlaces.{NameHere, stands, length-decode}
+use Rattle.names.proofs.NameEntries.{encode-last}
 use Rattle.writer.specs.Items.{storedNames, StoredNames}
 
 encode-append : (xs ys : List (List ℕ)) → encodeNames (xs ++ ys) ≡ encodeNames xs ++ encodeNames ys

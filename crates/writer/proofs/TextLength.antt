@@ -15,9 +15,9 @@ use Rattle.rules.specs.Rules.{Rule, occurrences}
 use Rattle.rules.specs.Preferred.{ofClass, varying, fixed}
 use Rattle.rules.proofs.Lists.{all-imp}
 use Rattle.stores.specs.Program.{Program, ClassesForm, Form}
-use Rattle.stores.specs.Names.{allowed}
-use Rattle.stores.specs.NameStore.{NamesForm}
-use Rattle.stores.proofs.NameStores.{allowed-short}
+use Rattle.names.specs.Names.{allowed}
+use Rattle.names.specs.NameStore.{NamesForm}
+use Rattle.names.proofs.NameStores.{allowed-short}
 use Rattle.writer.specs.Words.{minWord, varyWord, fixWord}
 use Rattle.writer.specs.Text.{item, openText, listLine, ruleLine, named, classLine, declarations, ruleText, textOf}
 

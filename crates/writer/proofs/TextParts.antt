@@ -3,7 +3,7 @@ use Prim.Native.Nat.{ℕ, zero, suc, _+_, _-_, _≤_}
 use native.Mathlib.Nat.{add-sub-cancel-left}
 use native.Mathlib.Omega.{arith}
 use mathlib.Core.Path.{_≡_, refl, sym, ap, ap₂, _∙_, subst}
-use mathlib.Core.Bool.{Bool, _&&_}
+use mathlib.Core.Bool.{Bool, _&&_, cond}
 use mathlib.Core.List.{List, [], _∷_, _++_, map}
 use lib.Dec.{T, leb}
 use lib.ListN.{length, getD, take, drop, length-drop, length-take}
@@ -15,10 +15,10 @@ use Rattle.kinds.specs.declared.limits.Kind.the-variants.{Plain, Preference}
 use Rattle.rules.specs.Lists.{from}
 use Rattle.rules.proofs.Booleans.{T-and-l, T-and-r}
 use Rattle.stores.specs.Program.{Program, ClassesForm}
-use Rattle.stores.specs.RuleStore.{encode, StoreOf, decode, kindOf, pickKind, wordCount, places, ruleAt, rulesFrom, classes?, rule?, rules?, program?, store?}
+use Rattle.stores.specs.RuleStore.{encode, StoreOf, decode, kindOf, wordCount, places, ruleAt, rulesFrom, classes?, rule?, rules?, program?, store?}
 use Rattle.stores.proofs.RuleTests.{rule-law}
 use Rattle.stores.proofs.RuleStores.{store-law}
-use Rattle.stores.proofs.NamePlaces.{length-decode}
+use Rattle.names.proofs.NamePlaces.{length-decode}
 use Rattle.writer.specs.Words.{open-bracket, atomsWord}
 use Rattle.writer.specs.Text.{openText, listLine, named, declarations, textOf}
 use Rattle.writer.specs.ClassRuns.{ClassWordsOf}
@@ -122,7 +122,7 @@ module _ {rules names starts : List ℕ} (h : Sources rules names starts) where
   -- a plain program
   module _ (e : getD rules 0 0 ≡ 0) where
     plain : kindOf (getD rules 0 0) ≡ Plain
-    plain = ap (λ (b : Bool). pickKind b Plain Preference) (eq-eqb (getD rules 0 0) 0 e)
+    plain = ap (λ (b : Bool). cond b Plain Preference) (eq-eqb (getD rules 0 0) 0 e)
 
     pub plain-rules : StoredRules (length starts) (getD rules 3 0) (take (length rules - 4) (drop 4 rules))
     plain-rules = rules-of-kind Plain plain
@@ -137,7 +137,7 @@ module _ {rules names starts : List ℕ} (h : Sources rules names starts) where
   -- a preference program
   module _ (e : getD rules 0 0 ≡ 0 → ⊥) where
     preference : kindOf (getD rules 0 0) ≡ Preference
-    preference = ap (λ (b : Bool). pickKind b Plain Preference) (ne-eqb (getD rules 0 0) 0 e)
+    preference = ap (λ (b : Bool). cond b Plain Preference) (ne-eqb (getD rules 0 0) 0 e)
 
     pub words-inside : 4 + getD rules 1 0 ≤ length rules
     words-inside = omega (arith, header, classes-of-kind Preference preference .1, counted, length-take (getD rules 1 0) (drop 4 rules), length-drop 4 rules)

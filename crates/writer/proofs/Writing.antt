@@ -2,7 +2,7 @@
 use Prim.Native.Nat.{ℕ, _+_, _*_, _≤_, _<_}
 use native.Mathlib.Nat.{zero-add}
 use native.Mathlib.Omega.{arith}
-use mathlib.Core.Path.{_≡_, refl, sym, ap, _∙_, subst}
+use mathlib.Core.Path.{_≡_, sym, ap, _∙_, subst}
 use mathlib.Core.Bool.{Bool, true, false}
 use mathlib.Core.List.{List, [], _∷_, _++_}
 use lib.Dec.{T}
@@ -15,13 +15,13 @@ use Rattle.kinds.specs.declared.limits.Kind.the-variants.{Plain}
 use Rattle.kinds.specs.declared.refusals.Refusal.the-variants.{Output, RuleStore, NameStore}
 use Rattle.rules.specs.Lists.{All}
 use Rattle.rules.proofs.Lists.{all-imp}
-use Rattle.stores.specs.Names.{allowed}
+use Rattle.names.specs.Names.{allowed}
 use Rattle.stores.specs.RuleStore.{StoreOf, decode, ruleStore, store?}
-use Rattle.stores.specs.NameStore.{encodeNames, NamesOf, decodeNames, names?}
-use Rattle.stores.specs.NameIndex.{Placed}
+use Rattle.names.specs.NameStore.{encodeNames, NamesOf, decodeNames, names?}
+use Rattle.names.specs.NameIndex.{Placed}
 use Rattle.stores.specs.declared.rule_store.RuleStore.the-variants.{Of, Refused as NoStore}
-use Rattle.stores.proofs.NameChains.{bool-true, bool-false}
-use Rattle.stores.proofs.NameStores.{allowed-short, decoded-names}
+use Rattle.names.proofs.NameChains.{bool-true, bool-false}
+use Rattle.names.proofs.NameStores.{allowed-short, decoded-names}
 use Rattle.stores.proofs.RuleStores.{store-law, of-kind, refused}
 use Rattle.stores.proofs.StoreHeader.{atoms-small}
 use Rattle.writer.specs.Text.{textOf}

@@ -6,7 +6,7 @@ use lib.Dec.{leb}
 use lib.ListN.{length, drop}
 use Rattle.kinds.specs.declared.refusals.Refusal.the-variants.{Output, RuleStore, NameStore}
 use Rattle.stores.specs.RuleStore.{store?, decode}
-use Rattle.stores.specs.NameStore.{names?, decodeNames}
+use Rattle.names.specs.NameStore.{names?, decodeNames}
 use Rattle.writer.specs.Text.{textOf}
 use Rattle.writer.specs.declared.Written.{Written}
 use Rattle.writer.specs.declared.Written.the-variants.{Text, Refused}

@@ -6,7 +6,7 @@ use lib.ListN.{length, getD}
 use Rattle.rules.specs.Lists.{flat, from}
 use Rattle.rules.specs.Rules.{Rule}
 use Rattle.rules.specs.Preferred.{varying, fixed, ofClass}
-use Rattle.stores.specs.NameStore.{encodeNames, decodeNames}
+use Rattle.names.specs.NameStore.{encodeNames, decodeNames}
 use Rattle.writer.specs.Words.{close-bracket, line-end, minWord, varyWord, fixWord}
 use Rattle.writer.specs.Text.{item, listLine, named, ruleText}
 

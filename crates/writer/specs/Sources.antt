@@ -4,7 +4,7 @@ use mathlib.Core.Path.{_≡_}
 use mathlib.Core.List.{List}
 use lib.ListN.{length}
 use Rattle.stores.specs.RuleStore.{StoreOf, decode}
-use Rattle.stores.specs.NameIndex.{Placed}
+use Rattle.names.specs.NameIndex.{Placed}
 use Rattle.writer.specs.Text.{textOf}
 use Rattle.writer.specs.Emitted.{InRange}
 use Rattle.writer.specs.Items.{storedNames}

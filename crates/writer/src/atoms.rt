@@ -1,11 +1,11 @@
 // Atoms by their names.
 use crate::emit::emit;
 use crate::emit::push;
-use stores::name_index::name_at;
+use names::index::name_at;
 ghost use Prim.Native.Nat.{_-_, _≤_, _<_};
 ghost use lib.ListN.{length};
 ghost use Rattle.rules.specs.Lists.{All, from};
-ghost use Rattle.stores.specs.NameIndex.{Placed};
+ghost use Rattle.names.specs.NameIndex.{Placed};
 ghost use Rattle.writer.specs.Emitted.{Emitted, InRange};
 ghost use Rattle.writer.specs.Items.{storedNames, StoredNames, atomItem, atomItems, atomLine};
 

@@ -5,7 +5,7 @@ ghost use mathlib.Core.List.{_∷_};
 ghost use Prim.Native.Nat.{_-_, _≤_};
 ghost use lib.ListN.{length};
 ghost use Rattle.rules.specs.Lists.{from};
-ghost use Rattle.stores.specs.NameIndex.{Placed};
+ghost use Rattle.names.specs.NameIndex.{Placed};
 ghost use Rattle.writer.specs.ClassRuns.{ClassWordsOf, upTo};
 ghost use Rattle.writer.specs.Emitted.{Emitted, InRange};
 ghost use Rattle.writer.specs.Words.{open-bracket, minWord};

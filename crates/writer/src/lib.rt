@@ -9,7 +9,7 @@ use atoms::place_names;
 use kinds::limits::Kind;
 use kinds::limits::Plain;
 use kinds::refusals::Refusal;
-use stores::name_store::check_names;
+use names::store::check_names;
 use stores::rule_store::RuleStore;
 use stores::rule_store::check_rules;
 use text::emit_text;
@@ -18,7 +18,7 @@ ghost use Prim.Native.Nat.{_≤_};
 ghost use lib.ListN.{length};
 ghost use Rattle.kinds.specs.Limits.{atomLimit};
 ghost use Rattle.stores.specs.RuleStore.{StoreOf, decode};
-ghost use Rattle.stores.specs.NameStore.{NamesOf, decodeNames};
+ghost use Rattle.names.specs.NameStore.{NamesOf, decodeNames};
 ghost use Rattle.writer.specs.Sources.{Sources, sourceText};
 ghost use Rattle.writer.specs.Answers.{fitted, fittedOutput, storesText, writeAnswer, writeOutput};
 

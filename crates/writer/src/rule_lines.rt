@@ -5,7 +5,7 @@ ghost use mathlib.Core.Path.{_≡_};
 ghost use Prim.Native.Nat.{_+_, _≤_, _<_};
 ghost use lib.ListN.{length};
 ghost use Rattle.rules.specs.Lists.{All};
-ghost use Rattle.stores.specs.NameIndex.{Placed};
+ghost use Rattle.names.specs.NameIndex.{Placed};
 ghost use Rattle.stores.specs.RuleStore.{places, ruleAt, rulesFrom};
 ghost use Rattle.writer.specs.Emitted.{Emitted, InRange};
 ghost use Rattle.writer.specs.Items.{storedNames, atomPart, ruleItem, ruleItems};

@@ -1,20 +1,20 @@
-use borrow.Author.Needs.{needs}
 use Prim.Native.Nat.{_-_}
-use native.Mathlib.Omega.{arith}
 use lib.ListN.{length}
-use Rattle.stores.specs.NameStore.{decodeNames}
-use Rattle.reader.proofs.NameBlocks.{Looking, look-begins, look-ends, look-inside, look-hit, look-again}
+use Rattle.names.specs.NameStore.{decodeNames}
+use Rattle.reader.proofs.Entering.{Looking, looking, none-known, look-inside, one-known, look-again}
+use borrow.Author.Needs.{needs}
+use native.Mathlib.Omega.{arith}
 use Rattle.reader.proofs.entries.any_known.Statement.{statement}
 use Rattle.reader.proofs.entries.any_known.Tie as tie
 
 abbrev Inv-loop : tie.InvT-loop
-Inv-loop line from bytes starts heads next at₀ at = Looking (decodeNames (length starts) bytes) line from at
+Inv-loop line from bytes starts heads links i₀ i = Looking (decodeNames (length starts) bytes) line from i
 
 abbrev μ-loop : tie.MeasureT-loop
-μ-loop line from bytes starts heads next at₀ at = length line - at
+μ-loop line from bytes starts heads links i₀ i = length line - i
 
 loop-holds : tie.Need-loop-holds Inv-loop μ-loop
-loop-holds c = look-begins _ _ _ (c .before .before .before .before .before .pre .0)
+loop-holds c = looking _ _ _ (c .before .before .before .before .before .pre .0)
 
 item-at-requires : tie.Need-item-at-requires Inv-loop μ-loop
 item-at-requires c κs = search needs
@@ -26,7 +26,7 @@ enum-told : tie.Need-enum-told Inv-loop μ-loop
 enum-told c = search needs
 
 returns : tie.Need-returns Inv-loop μ-loop
-returns c = look-ends (c .before .before .before .loop .inv) (c .before .before .item-at .ensures) (c .enum-told .given .1)
+returns c = none-known (c .before .before .before .loop .inv) (c .before .before .item-at .ensures) (c .enum-told .given .1)
 
 add-start : tie.Need-add-start Inv-loop μ-loop
 add-start c = omega (arith, look-inside (c .before .before .before .before .loop .inv) (c .before .before .before .item-at .ensures) (c .before .n .given .1))
@@ -44,7 +44,7 @@ part-find-end : tie.Need-part-find-end Inv-loop μ-loop
 part-find-end c = omega (arith, look-inside (c .before .before .before .before .loop .inv) (c .before .before .before .item-at .ensures) (c .before .n .given .1))
 
 find-requires : tie.Need-find-requires Inv-loop μ-loop
-find-requires c κs = search needs
+find-requires c κs = c .before .before .before .before .before .before .before .before .before .before .before .pre .1
 
 enum-told-2 : tie.Need-enum-told-2 Inv-loop μ-loop
 enum-told-2 c = search needs
@@ -53,7 +53,7 @@ enum-told-3 : tie.Need-enum-told-3 Inv-loop μ-loop
 enum-told-3 c = search needs
 
 returns-2 : tie.Need-returns-2 Inv-loop μ-loop
-returns-2 c = look-hit (c .before .before .before .before .before .before .before .before .loop .inv) (c .before .before .before .before .before .before .before .item-at .ensures) (c .before .before .before .before .before .n .given .1) (c .before .before .find .ensures) (c .enum-told3 .given .1)
+returns-2 c = one-known (c .before .before .before .before .before .before .before .before .loop .inv) (c .before .before .before .before .before .before .before .item-at .ensures) (c .before .before .before .before .before .n .given .1) (c .before .before .find .ensures) (c .enum-told3 .given .1)
 
 loop-less : tie.Need-loop-less Inv-loop μ-loop
 loop-less c = omega (arith, look-inside (c .before .before .before .before .before .before .before .before .loop .inv) (c .before .before .before .before .before .before .before .item-at .ensures) (c .before .before .before .before .before .n .given .1))

@@ -1,13 +1,16 @@
-use Rattle.reader.proofs.NameEntering.{index-there, enter-room, name-entered}
+use native.Mathlib.Omega.{arith}
+use Rattle.reader.proofs.NewNames.{name-range, still-decoded, entry}
 use borrow.Author.Needs.{needs}
 use Rattle.reader.proofs.entries.enter_name.Statement.{statement}
 use Rattle.reader.proofs.entries.enter_name.Tie as tie
 
 put-name-requires : tie.Need-put-name-requires
-put-name-requires c κs = search needs
+put-name-requires c κs = name-range (c .before .before .before .before .before .before .pre .0) (c .before .before .before .before .before .before .pre .1)
 
 enter-new-requires : tie.Need-enter-new-requires
-enter-new-requires c κs = (index-there (c .before .before .before .before .before .before .before .before .before .before .before .before .before .pre .0) (c .before .before .before .before .before .before .before .before .before .before .before .before .before .pre .1) (c .before .before .before .before .before .before .before .before .before .before .before .before .before .args .name .now) (c .before .before .before .before .before .before .before .before .before .before .before .before .before .pre .2) (c .before .before .before .before .before .before .put-name .ensures), enter-room (c .before .before .before .before .before .before .before .before .before .before .before .before .before .pre .0) (c .before .before .before .before .before .before .before .before .before .before .before .before .before .pre .1) (c .before .before .before .before .before .before .before .before .before .before .before .before .before .args .name .now) (c .before .before .before .before .before .before .before .before .before .before .before .before .before .pre .2) (c .before .before .before .before .before .before .put-name .ensures))
+enter-new-requires c κs =
+    let room = c .before .before .before .before .before .before .before .before .before .before .before .before .before .pre .1 in
+    (still-decoded (c .before .before .before .before .before .before .before .before .before .before .before .before .before .pre .0) room (c .before .before .before .before .before .before .put-name .ensures), (room .starts-room, room .links-room, omega (arith, room .starts-room, room .starts-small), omega (arith, room .inside, room .bytes-small)))
 
 same-length : tie.Need-same-length
 same-length c = search needs
@@ -22,7 +25,7 @@ same-length-4 : tie.Need-same-length-4
 same-length-4 c = search needs
 
 returns : tie.Need-returns
-returns c = name-entered (c .before .before .before .before .before .before .before .before .before .before .before .before .before .before .before .before .before .before .before .before .pre .0) (c .before .before .before .before .before .before .before .before .before .before .before .before .before .before .before .before .before .before .before .before .pre .1) (c .before .before .before .before .before .before .before .before .before .before .before .before .before .before .before .before .before .before .before .before .args .name .now) (c .before .before .before .before .before .before .before .before .before .before .before .before .before .before .before .before .before .before .before .before .pre .2) (c .before .before .before .before .before .before .before .before .before .before .before .before .before .put-name .ensures) (c .before .before .before .before .before .before .enter-new .ensures .0) (c .before .before .before .before .before .before .enter-new .ensures .1 .0) (c .before .before .before .before .before .before .enter-new .ensures .1 .1 .0) (c .before .before .before .before .before .before .enter-new .ensures .1 .1 .1)
+returns c = entry (c .before .before .before .before .before .before .before .before .before .before .before .before .before .before .before .before .before .before .before .before .pre .0) (c .before .before .before .before .before .before .before .before .before .before .before .before .before .before .before .before .before .before .before .before .pre .1) (c .before .before .before .before .before .before .before .before .before .before .before .before .before .put-name .ensures) (c .before .before .before .before .before .before .enter-new .ensures .0) (c .before .before .before .before .before .before .enter-new .ensures .1 .0) (c .before .before .before .before .before .before .enter-new .ensures .1 .1 .0) (c .before .before .before .before .before .before .enter-new .ensures .1 .1 .1)
 
 pub enter-name-spec : {M : Type 1} → statement M
 enter-name-spec =

@@ -16,7 +16,7 @@ same-length : tie.Need-same-length
 same-length c = search needs
 
 returns : tie.Need-returns
-returns c = then (c .before .before .before .before .before .before .push .ensures) (c .before .before .emit .ensures) .bytes
+returns c = then (c .before .before .before .before .before .before .push .ensures) (c .before .before .emit .ensures)
 
 pub put-name-spec : {M : Type 1} → statement M
 put-name-spec = tie.close (tie.spec cast-push push-requires emit-requires same-length returns)

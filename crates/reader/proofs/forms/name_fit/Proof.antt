@@ -1,5 +1,5 @@
 use mathlib.Core.Path.{sym, ap, _∙_}
-use Rattle.stores.specs.declared.names.NameClass.the-variants.{Generated}
+use Rattle.names.specs.declared.forms.NameClass.the-variants.{Generated}
 use Rattle.reader.specs.Shapes.{classFit}
 use Rattle.reader.proofs.NameLists.{fit-is}
 use borrow.Author.Needs.{needs}

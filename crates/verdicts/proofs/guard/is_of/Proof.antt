@@ -1,5 +1,5 @@
 use mathlib.Core.Path.{sym, ap, _∙_}
-use Rattle.verdicts.specs.Answers.{isOf}
+use Rattle.stores.specs.RuleStore.{isOf}
 use Rattle.verdicts.proofs.Guarding.{not-of}
 use borrow.Author.Needs.{needs}
 use Rattle.verdicts.proofs.guard.is_of.Statement.{statement}

@@ -1,30 +1,37 @@
+use mathlib.Core.Path.{refl}
+use Prim.Native.Nat.{_+_, _-_}
 use native.Mathlib.Omega.{arith}
 use borrow.Author.Needs.{needs}
+use lib.Count.{ones}
 use Rattle.verdicts.specs.Masks.{preferredM}
-use Rattle.verdicts.proofs.AgreeingSets.{preferred-answered-mask}
+use Rattle.verdicts.proofs.AgreeingSets.{preferred-answered-mask, no-model, a-model}
 use Rattle.verdicts.proofs.Candidates.{no-unit-left, is-state, is-broken, is-beaten, is-spent, is-refused}
 use Rattle.verdicts.proofs.next.candidate.Statement.{statement}
 use Rattle.verdicts.proofs.next.candidate.Tie as tie
 
 returns : tie.Need-returns
-returns c =
-    let a = c .before .before .before .before .args in
-    no-unit-left (preferredM (a .care .now) (a .want .now) (a .classes .now) (a .fixed) (a .n) (a .set)) (preferred-answered-mask _ _ _ _ _ _) (a .set) _ _ (c .if1 .taken)
+returns c = no-unit-left (preferredM (c .before .before .before .before .args .care .now) (c .before .before .before .before .args .want .now) (c .before .before .before .before .args .classes .now) (c .before .before .before .before .args .fixed) (c .before .before .before .before .args .free + ones (c .before .before .before .before .args .fixed)) (c .before .before .before .before .args .set)) (preferred-answered-mask _ _ _ _ _ _) (c .before .before .before .before .args .set) (c .before .before .before .before .args .units) (c .before .before .before .before .args .budget) (c .if1 .taken)
 
 add-used : tie.Need-add-used
 add-used c = search needs
 
-sub-preferred-masks : tie.Need-sub-preferred-masks
-sub-preferred-masks c = search needs
+first-broken-requires : tie.Need-first-broken-requires
+first-broken-requires c κs = search needs
 
-preferred-masks-requires : tie.Need-preferred-masks-requires
-preferred-masks-requires c κs = search needs
+returns-2 : tie.Need-returns-2
+returns-2 c = is-broken (preferredM (c .before .before .before .before .before .before .args .care .now) (c .before .before .before .before .before .before .args .want .now) (c .before .before .before .before .before .before .args .classes .now) (c .before .before .before .before .before .before .args .fixed) (c .before .before .before .before .before .before .args .free + ones (c .before .before .before .before .before .before .args .fixed)) (c .before .before .before .before .before .before .args .set)) (preferred-answered-mask _ _ _ _ _ _) (c .before .before .before .before .before .before .args .set) (c .before .before .before .before .before .before .args .units) (c .before .before .before .before .before .before .args .budget) (c .before .before .before .before .before .before .pre .1 .1 .1) (c .before .before .if1 .left) _ (no-model _ _ (c .before .before .before .before .before .before .args .classes .now) (c .before .before .before .before .before .before .args .fixed) (c .before .before .before .before .before .before .args .free + ones (c .before .before .before .before .before .before .args .fixed)) _ (c .before .before .before .before .before .before .args .budget - (c .before .before .before .before .before .before .args .units + 1)) _ (c .before .first-broken .ensures) (c .if2 .taken)) _ refl
+
+sub-preferred-walk : tie.Need-sub-preferred-walk
+sub-preferred-walk c = search needs
+
+preferred-walk-requires : tie.Need-preferred-walk-requires
+preferred-walk-requires c κs = search needs
 
 enum-known-verdict : tie.Need-enum-known-verdict
 enum-known-verdict c = search needs
 
-add-t16 : tie.Need-add-t16
-add-t16 c = omega (arith, is-state _ (preferred-answered-mask _ _ _ _ _ _) (c .before .before .before .before .before .before .before .before .args .set) _ _ (c .before .before .before .before .before .before .before .before .pre .1 .1 .1) (c .before .before .before .before .if1 .left) _ (c .before .before .before .preferred-masks .ensures) _ (c .before .verdict .given .1) .0)
+add-t18 : tie.Need-add-t18
+add-t18 c = omega (arith, is-state (preferredM (c .before .before .before .before .before .before .before .before .before .before .args .care .now) (c .before .before .before .before .before .before .before .before .before .before .args .want .now) (c .before .before .before .before .before .before .before .before .before .before .args .classes .now) (c .before .before .before .before .before .before .before .before .before .before .args .fixed) (c .before .before .before .before .before .before .before .before .before .before .args .free + ones (c .before .before .before .before .before .before .before .before .before .before .args .fixed)) (c .before .before .before .before .before .before .before .before .before .before .args .set)) (preferred-answered-mask _ _ _ _ _ _) (c .before .before .before .before .before .before .before .before .before .before .args .set) (c .before .before .before .before .before .before .before .before .before .before .args .units) (c .before .before .before .before .before .before .before .before .before .before .args .budget) (c .before .before .before .before .before .before .before .before .before .before .pre .1 .1 .1) (c .before .before .before .before .before .before .if1 .left) _ (a-model _ _ _ _ _ _ (c .before .before .before .before .before .before .before .before .before .before .args .budget - (c .before .before .before .before .before .before .before .before .before .before .args .units + 1)) _ _ (c .before .before .before .before .before .first-broken .ensures) (c .before .before .before .before .if2 .left) (c .before .before .before .preferred-walk .ensures)) _ (c .before .verdict .given .1) .0)
 
 enum-told : tie.Need-enum-told
 enum-told c = search needs
@@ -32,8 +39,8 @@ enum-told c = search needs
 enum-known-verdict-2 : tie.Need-enum-known-verdict-2
 enum-known-verdict-2 c = search needs
 
-add-t17 : tie.Need-add-t17
-add-t17 c = omega (arith, is-beaten _ (preferred-answered-mask _ _ _ _ _ _) (c .before .before .before .before .before .before .before .before .args .set) _ _ (c .before .before .before .before .before .before .before .before .pre .1 .1 .1) (c .before .before .before .before .if1 .left) _ (c .before .before .before .preferred-masks .ensures) _ _ (c .before .verdict2 .given .1) .0)
+add-t19 : tie.Need-add-t19
+add-t19 c = omega (arith, is-beaten (preferredM (c .before .before .before .before .before .before .before .before .before .before .args .care .now) (c .before .before .before .before .before .before .before .before .before .before .args .want .now) (c .before .before .before .before .before .before .before .before .before .before .args .classes .now) (c .before .before .before .before .before .before .before .before .before .before .args .fixed) (c .before .before .before .before .before .before .before .before .before .before .args .free + ones (c .before .before .before .before .before .before .before .before .before .before .args .fixed)) (c .before .before .before .before .before .before .before .before .before .before .args .set)) (preferred-answered-mask _ _ _ _ _ _) (c .before .before .before .before .before .before .before .before .before .before .args .set) (c .before .before .before .before .before .before .before .before .before .before .args .units) (c .before .before .before .before .before .before .before .before .before .before .args .budget) (c .before .before .before .before .before .before .before .before .before .before .pre .1 .1 .1) (c .before .before .before .before .before .before .if1 .left) _ (a-model _ _ _ _ _ _ (c .before .before .before .before .before .before .before .before .before .before .args .budget - (c .before .before .before .before .before .before .before .before .before .before .args .units + 1)) _ _ (c .before .before .before .before .before .first-broken .ensures) (c .before .before .before .before .if2 .left) (c .before .before .before .preferred-walk .ensures)) _ _ (c .before .verdict2 .given .1) .0)
 
 enum-told-2 : tie.Need-enum-told-2
 enum-told-2 c = search needs
@@ -41,20 +48,20 @@ enum-told-2 c = search needs
 enum-told-3 : tie.Need-enum-told-3
 enum-told-3 c = search needs
 
-returns-2 : tie.Need-returns-2
-returns-2 c = is-state _ (preferred-answered-mask _ _ _ _ _ _) _ _ _ (c .before .before .before .before .before .before .before .before .pre .1 .1 .1) (c .before .before .before .before .if1 .left) _ (c .before .before .before .preferred-masks .ensures) _ (c .before .verdict .given .1) .1
-
 returns-3 : tie.Need-returns-3
-returns-3 c = is-broken _ (preferred-answered-mask _ _ _ _ _ _) _ _ _ (c .before .before .before .before .before .before .before .pre .1 .1 .1) (c .before .before .before .if1 .left) _ (c .before .before .preferred-masks .ensures) _ (c .enum-told .given .1)
+returns-3 c = is-state (preferredM (c .before .before .before .before .before .before .before .before .before .before .args .care .now) (c .before .before .before .before .before .before .before .before .before .before .args .want .now) (c .before .before .before .before .before .before .before .before .before .before .args .classes .now) (c .before .before .before .before .before .before .before .before .before .before .args .fixed) (c .before .before .before .before .before .before .before .before .before .before .args .free + ones (c .before .before .before .before .before .before .before .before .before .before .args .fixed)) (c .before .before .before .before .before .before .before .before .before .before .args .set)) (preferred-answered-mask _ _ _ _ _ _) (c .before .before .before .before .before .before .before .before .before .before .args .set) (c .before .before .before .before .before .before .before .before .before .before .args .units) (c .before .before .before .before .before .before .before .before .before .before .args .budget) (c .before .before .before .before .before .before .before .before .before .before .pre .1 .1 .1) (c .before .before .before .before .before .before .if1 .left) _ (a-model _ _ _ _ _ _ (c .before .before .before .before .before .before .before .before .before .before .args .budget - (c .before .before .before .before .before .before .before .before .before .before .args .units + 1)) _ _ (c .before .before .before .before .before .first-broken .ensures) (c .before .before .before .before .if2 .left) (c .before .before .before .preferred-walk .ensures)) _ (c .before .verdict .given .1) .1
 
 returns-4 : tie.Need-returns-4
-returns-4 c = is-beaten _ (preferred-answered-mask _ _ _ _ _ _) _ _ _ (c .before .before .before .before .before .before .before .before .pre .1 .1 .1) (c .before .before .before .before .if1 .left) _ (c .before .before .before .preferred-masks .ensures) _ _ (c .before .verdict2 .given .1) .1
+returns-4 c = is-broken (preferredM (c .before .before .before .before .before .before .before .before .before .args .care .now) (c .before .before .before .before .before .before .before .before .before .args .want .now) (c .before .before .before .before .before .before .before .before .before .args .classes .now) (c .before .before .before .before .before .before .before .before .before .args .fixed) (c .before .before .before .before .before .before .before .before .before .args .free + ones (c .before .before .before .before .before .before .before .before .before .args .fixed)) (c .before .before .before .before .before .before .before .before .before .args .set)) (preferred-answered-mask _ _ _ _ _ _) (c .before .before .before .before .before .before .before .before .before .args .set) (c .before .before .before .before .before .before .before .before .before .args .units) (c .before .before .before .before .before .before .before .before .before .args .budget) (c .before .before .before .before .before .before .before .before .before .pre .1 .1 .1) (c .before .before .before .before .before .if1 .left) _ (a-model _ _ _ _ _ _ (c .before .before .before .before .before .before .before .before .before .args .budget - (c .before .before .before .before .before .before .before .before .before .args .units + 1)) _ _ (c .before .before .before .before .first-broken .ensures) (c .before .before .before .if2 .left) (c .before .before .preferred-walk .ensures)) _ (c .enum-told .given .1)
 
 returns-5 : tie.Need-returns-5
-returns-5 c = is-spent _ (preferred-answered-mask _ _ _ _ _ _) _ _ _ (c .before .before .before .before .before .before .before .pre .1 .1 .1) (c .before .before .before .if1 .left) _ (c .before .before .preferred-masks .ensures) _ (c .enum-told2 .given .1)
+returns-5 c = is-beaten (preferredM (c .before .before .before .before .before .before .before .before .before .before .args .care .now) (c .before .before .before .before .before .before .before .before .before .before .args .want .now) (c .before .before .before .before .before .before .before .before .before .before .args .classes .now) (c .before .before .before .before .before .before .before .before .before .before .args .fixed) (c .before .before .before .before .before .before .before .before .before .before .args .free + ones (c .before .before .before .before .before .before .before .before .before .before .args .fixed)) (c .before .before .before .before .before .before .before .before .before .before .args .set)) (preferred-answered-mask _ _ _ _ _ _) (c .before .before .before .before .before .before .before .before .before .before .args .set) (c .before .before .before .before .before .before .before .before .before .before .args .units) (c .before .before .before .before .before .before .before .before .before .before .args .budget) (c .before .before .before .before .before .before .before .before .before .before .pre .1 .1 .1) (c .before .before .before .before .before .before .if1 .left) _ (a-model _ _ _ _ _ _ (c .before .before .before .before .before .before .before .before .before .before .args .budget - (c .before .before .before .before .before .before .before .before .before .before .args .units + 1)) _ _ (c .before .before .before .before .before .first-broken .ensures) (c .before .before .before .before .if2 .left) (c .before .before .before .preferred-walk .ensures)) _ _ (c .before .verdict2 .given .1) .1
 
 returns-6 : tie.Need-returns-6
-returns-6 c = is-refused _ (preferred-answered-mask _ _ _ _ _ _) _ _ _ (c .before .before .before .before .before .before .before .pre .1 .1 .1) (c .before .before .before .if1 .left) _ (c .before .before .preferred-masks .ensures) _ (c .enum-told3 .given .1)
+returns-6 c = is-spent (preferredM (c .before .before .before .before .before .before .before .before .before .args .care .now) (c .before .before .before .before .before .before .before .before .before .args .want .now) (c .before .before .before .before .before .before .before .before .before .args .classes .now) (c .before .before .before .before .before .before .before .before .before .args .fixed) (c .before .before .before .before .before .before .before .before .before .args .free + ones (c .before .before .before .before .before .before .before .before .before .args .fixed)) (c .before .before .before .before .before .before .before .before .before .args .set)) (preferred-answered-mask _ _ _ _ _ _) (c .before .before .before .before .before .before .before .before .before .args .set) (c .before .before .before .before .before .before .before .before .before .args .units) (c .before .before .before .before .before .before .before .before .before .args .budget) (c .before .before .before .before .before .before .before .before .before .pre .1 .1 .1) (c .before .before .before .before .before .if1 .left) _ (a-model _ _ _ _ _ _ (c .before .before .before .before .before .before .before .before .before .args .budget - (c .before .before .before .before .before .before .before .before .before .args .units + 1)) _ _ (c .before .before .before .before .first-broken .ensures) (c .before .before .before .if2 .left) (c .before .before .preferred-walk .ensures)) _ (c .enum-told2 .given .1)
+
+returns-7 : tie.Need-returns-7
+returns-7 c = is-refused (preferredM (c .before .before .before .before .before .before .before .before .before .args .care .now) (c .before .before .before .before .before .before .before .before .before .args .want .now) (c .before .before .before .before .before .before .before .before .before .args .classes .now) (c .before .before .before .before .before .before .before .before .before .args .fixed) (c .before .before .before .before .before .before .before .before .before .args .free + ones (c .before .before .before .before .before .before .before .before .before .args .fixed)) (c .before .before .before .before .before .before .before .before .before .args .set)) (preferred-answered-mask _ _ _ _ _ _) (c .before .before .before .before .before .before .before .before .before .args .set) (c .before .before .before .before .before .before .before .before .before .args .units) (c .before .before .before .before .before .before .before .before .before .args .budget) (c .before .before .before .before .before .before .before .before .before .pre .1 .1 .1) (c .before .before .before .before .before .if1 .left) _ (a-model _ _ _ _ _ _ (c .before .before .before .before .before .before .before .before .before .args .budget - (c .before .before .before .before .before .before .before .before .before .args .units + 1)) _ _ (c .before .before .before .before .first-broken .ensures) (c .before .before .before .if2 .left) (c .before .before .preferred-walk .ensures)) _ (c .enum-told3 .given .1)
 
 pub candidate-spec : {M : Type 1} → statement M
 candidate-spec =
@@ -62,17 +69,19 @@ candidate-spec =
     (tie.spec
     returns
     add-used
-    sub-preferred-masks
-    preferred-masks-requires
+    first-broken-requires
+    returns-2
+    sub-preferred-walk
+    preferred-walk-requires
     enum-known-verdict
-    add-t16
+    add-t18
     enum-told
     enum-known-verdict-2
-    add-t17
+    add-t19
     enum-told-2
     enum-told-3
-    returns-2
     returns-3
     returns-4
     returns-5
-    returns-6)
+    returns-6
+    returns-7)

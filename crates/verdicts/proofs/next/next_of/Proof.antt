@@ -2,7 +2,7 @@ use mathlib.Core.Path.{refl, sym, subst, _∙_}
 use Prim.Native.Nat.{ℕ, _≤_, _^_}
 use native.Mathlib.Omega.{arith}
 use borrow.Author.Needs.{needs}
-use Rattle.verdicts.proofs.CheckedStore.{PreferenceHeader, Ready, taken-fits, has-header, n-is, preference-atoms, preference-room, preference-rows, preference-rules, ready, care-length, want-length, class-length, fixed-fits, next-ready}
+use Rattle.verdicts.proofs.CheckedStore.{PreferenceHeader, Ready, taken-fits, has-header, n-is, preference-atoms, preference-room, preference-rows, preference-rules, ready, care-length, want-length, class-length, free-fits, free-room, free-few, next-ready}
 use Rattle.verdicts.proofs.next.next_of.Statement.{statement}
 use Rattle.verdicts.proofs.next.next_of.Tie as tie
 
@@ -48,6 +48,12 @@ slice-aggregate-fill-rules-2 c = search needs
 fill-rules-requires : tie.Need-fill-rules-requires
 fill-rules-requires c κs = (preference-rows _ _ _ _ (header (c .before .before .before .before .before)), (preference-rules _ _ _ _ (header (c .before .before .before .before .before)), preference-rules _ _ _ _ (header (c .before .before .before .before .before))))
 
+cast-free : tie.Need-cast-free
+cast-free c = omega (arith, preference-atoms _ _ _ _ (header (c .before .before .before .before .before .before .before .before)))
+
+sub-free : tie.Need-sub-free
+sub-free c = free-fits _ _ _ _ (header (c .before .before .before .before .before .before .before .before)) _ _ _ _ (masks (c .before .before))
+
 array-share-prefix-care : tie.Need-array-share-prefix-care
 array-share-prefix-care c = taken-fits _ _ (care-length _ _ _ _ (header (c .before .before .before .before .before .before .before .before)) _ _ _ _ (masks (c .before .before)))
 
@@ -70,7 +76,7 @@ cast-next-masks : tie.Need-cast-next-masks
 cast-next-masks c = omega (arith, preference-atoms _ _ _ _ (header (c .before .before .before .before .before .before .before .before .before .before .before)))
 
 next-masks-requires : tie.Need-next-masks-requires
-next-masks-requires c κs = (sym (want-length _ _ _ _ (header (c .before .before .before .before .before .before .before .before .before .before .before)) _ _ _ _ (masks (c .before .before .before .before .before))) ∙ care-length _ _ _ _ (header (c .before .before .before .before .before .before .before .before .before .before .before)) _ _ _ _ (masks (c .before .before .before .before .before)), (preference-atoms _ _ _ _ (header (c .before .before .before .before .before .before .before .before .before .before .before)), (fixed-fits _ _ _ _ (header (c .before .before .before .before .before .before .before .before .before .before .before)) _ _ _ _ (masks (c .before .before .before .before .before)), subst (λ (x : ℕ). c .before .before .before .before .before .before .before .before .before .before .before .before .before .before .before .before .before .before .args .start ≤ 2 ^ x) (sym (n-is _ _ _ _ (header (c .before .before .before .before .before .before .before .before .before .before .before)))) (c .before .before .before .before .before .before .before .before .before .before .before .before .before .before .before .before .before .before .pre .1 .1 .1))))
+next-masks-requires c κs = (sym (want-length _ _ _ _ (header (c .before .before .before .before .before .before .before .before .before .before .before)) _ _ _ _ (masks (c .before .before .before .before .before))) ∙ care-length _ _ _ _ (header (c .before .before .before .before .before .before .before .before .before .before .before)) _ _ _ _ (masks (c .before .before .before .before .before)), (free-few _ _ _ _ (header (c .before .before .before .before .before .before .before .before .before .before .before)) _ _ _ _ (masks (c .before .before .before .before .before)), (free-room _ _ _ _ (header (c .before .before .before .before .before .before .before .before .before .before .before)) _ _ _ _ (masks (c .before .before .before .before .before)), (preference-atoms _ _ _ _ (header (c .before .before .before .before .before .before .before .before .before .before .before)), subst (λ (x : ℕ). c .before .before .before .before .before .before .before .before .before .before .before .before .before .before .before .before .before .before .args .start ≤ 2 ^ x) (sym (n-is _ _ _ _ (header (c .before .before .before .before .before .before .before .before .before .before .before)))) (c .before .before .before .before .before .before .before .before .before .before .before .before .before .before .before .before .before .before .pre .1 .1 .1)))))
 
 returns : tie.Need-returns
 returns c = next-ready _ _ _ _ (header (c .before .before .before .before .before .before .before .before .before .before .before .before)) _ _ _ _ (masks (c .before .before .before .before .before .before)) _ _ _ (c .next-masks .ensures)
@@ -91,6 +97,8 @@ next-of-spec =
     slice-aggregate-fill-rules
     slice-aggregate-fill-rules-2
     fill-rules-requires
+    cast-free
+    sub-free
     array-share-prefix-care
     slice-aggregate-next-masks
     array-share-prefix-want

@@ -1,5 +1,5 @@
-use Rattle.verdicts.proofs.AgreeingSets.{no-model, a-model}
 use borrow.Author.Needs.{needs}
+use Rattle.verdicts.proofs.AgreeingSets.{no-model, a-model}
 use Rattle.verdicts.proofs.preferred.preferred_masks.Statement.{statement}
 use Rattle.verdicts.proofs.preferred.preferred_masks.Tie as tie
 

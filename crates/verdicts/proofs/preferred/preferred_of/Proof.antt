@@ -1,7 +1,7 @@
 use mathlib.Core.Path.{refl, sym, _∙_}
 use native.Mathlib.Omega.{arith}
 use borrow.Author.Needs.{needs}
-use Rattle.verdicts.proofs.CheckedStore.{PreferenceHeader, Ready, taken-fits, has-header, preference-atoms, preference-room, preference-rows, preference-rules, ready, care-length, want-length, class-length, fixed-fits, preferred-ready}
+use Rattle.verdicts.proofs.CheckedStore.{PreferenceHeader, Ready, taken-fits, has-header, preference-atoms, preference-room, preference-rows, preference-rules, ready, care-length, want-length, class-length, free-fits, free-room, free-few, preferred-ready}
 use Rattle.verdicts.proofs.preferred.preferred_of.Statement.{statement}
 use Rattle.verdicts.proofs.preferred.preferred_of.Tie as tie
 
@@ -47,6 +47,12 @@ slice-aggregate-fill-rules-2 c = search needs
 fill-rules-requires : tie.Need-fill-rules-requires
 fill-rules-requires c κs = (preference-rows _ _ _ _ (header (c .before .before .before .before .before)), (preference-rules _ _ _ _ (header (c .before .before .before .before .before)), preference-rules _ _ _ _ (header (c .before .before .before .before .before))))
 
+cast-free : tie.Need-cast-free
+cast-free c = omega (arith, preference-atoms _ _ _ _ (header (c .before .before .before .before .before .before .before .before)))
+
+sub-free : tie.Need-sub-free
+sub-free c = free-fits _ _ _ _ (header (c .before .before .before .before .before .before .before .before)) _ _ _ _ (masks (c .before .before))
+
 array-share-prefix-care : tie.Need-array-share-prefix-care
 array-share-prefix-care c = taken-fits _ _ (care-length _ _ _ _ (header (c .before .before .before .before .before .before .before .before)) _ _ _ _ (masks (c .before .before)))
 
@@ -65,11 +71,8 @@ array-share-prefix-classes c = taken-fits _ _ (class-length _ _ _ _ (header (c .
 slice-aggregate-preferred-masks-3 : tie.Need-slice-aggregate-preferred-masks-3
 slice-aggregate-preferred-masks-3 c = class-length _ _ _ _ (header (c .before .before .before .before .before .before .before .before .before .before .before)) _ _ _ _ (masks (c .before .before .before .before .before))
 
-cast-preferred-masks : tie.Need-cast-preferred-masks
-cast-preferred-masks c = omega (arith, preference-atoms _ _ _ _ (header (c .before .before .before .before .before .before .before .before .before .before .before)))
-
 preferred-masks-requires : tie.Need-preferred-masks-requires
-preferred-masks-requires c κs = (sym (want-length _ _ _ _ (header (c .before .before .before .before .before .before .before .before .before .before .before)) _ _ _ _ (masks (c .before .before .before .before .before))) ∙ care-length _ _ _ _ (header (c .before .before .before .before .before .before .before .before .before .before .before)) _ _ _ _ (masks (c .before .before .before .before .before)), (preference-atoms _ _ _ _ (header (c .before .before .before .before .before .before .before .before .before .before .before)), fixed-fits _ _ _ _ (header (c .before .before .before .before .before .before .before .before .before .before .before)) _ _ _ _ (masks (c .before .before .before .before .before))))
+preferred-masks-requires c κs = (sym (want-length _ _ _ _ (header (c .before .before .before .before .before .before .before .before .before .before .before)) _ _ _ _ (masks (c .before .before .before .before .before))) ∙ care-length _ _ _ _ (header (c .before .before .before .before .before .before .before .before .before .before .before)) _ _ _ _ (masks (c .before .before .before .before .before)), (free-few _ _ _ _ (header (c .before .before .before .before .before .before .before .before .before .before .before)) _ _ _ _ (masks (c .before .before .before .before .before)), free-room _ _ _ _ (header (c .before .before .before .before .before .before .before .before .before .before .before)) _ _ _ _ (masks (c .before .before .before .before .before))))
 
 returns : tie.Need-returns
 returns c = preferred-ready _ _ _ _ (header (c .before .before .before .before .before .before .before .before .before .before .before .before)) _ _ _ _ (masks (c .before .before .before .before .before .before)) _ _ _ (c .preferred-masks .ensures)
@@ -90,12 +93,13 @@ preferred-of-spec =
     slice-aggregate-fill-rules
     slice-aggregate-fill-rules-2
     fill-rules-requires
+    cast-free
+    sub-free
     array-share-prefix-care
     slice-aggregate-preferred-masks
     array-share-prefix-want
     slice-aggregate-preferred-masks-2
     array-share-prefix-classes
     slice-aggregate-preferred-masks-3
-    cast-preferred-masks
     preferred-masks-requires
     returns)

@@ -1,0 +1,67 @@
+-- Names: which bytes each kind of program takes (document 01, "The two kinds of file").
+use Prim.Native.Nat.{ℕ}
+use mathlib.Core.Bool.{Bool, true, false, _&&_, _||_, cond}
+use mathlib.Core.List.{List, [], _∷_}
+use lib.Dec.{leb, eqb}
+use lib.ListN.{length, getD, drop}
+use Rattle.kinds.specs.Limits.{nameLimit}
+use Rattle.kinds.specs.declared.limits.Kind.{Kind}
+use Rattle.kinds.specs.declared.limits.Kind.the-variants.{Plain, Preference}
+use Rattle.rules.specs.Lists.{every}
+use Rattle.names.specs.declared.forms.NameClass.{NameClass}
+use Rattle.names.specs.declared.forms.NameClass.the-variants.{House, Generated, TooLong, Wrong}
+
+-- a letter a to z
+abbrev pub letter? : ℕ → Bool
+letter? b = leb 97 b && leb b 122
+
+abbrev pub digit? : ℕ → Bool
+digit? b = leb 48 b && leb b 57
+
+-- a letter, a digit or `_`
+abbrev pub nameByte? : ℕ → Bool
+nameByte? b = letter? b || (digit? b || eqb b 95)
+
+-- a letter, then letters, digits or `_`: a house name but for its length
+unfoldable pub house? : List ℕ → Bool
+house? [] = false
+house? (b ∷ bs) = letter? b && every nameByte? bs
+
+-- 0 to 16 without leading zero
+unfoldable pub classNumber? : List ℕ → Bool
+classNumber? bs =
+    (eqb (length bs) 1 && digit? (getD bs 0 0))
+    || (eqb (length bs) 2 && (eqb (getD bs 0 0) 49 && (leb 48 (getD bs 1 0) && leb (getD bs 1 0) 54)))
+
+-- a name of the house form, by its length
+abbrev pub sized : List ℕ → NameClass → NameClass
+sized bs c = cond (leb (length bs) nameLimit) c TooLong
+
+-- `N.`, `S.` or `D.` before a house name, `E.` before a class number
+abbrev pub dotted : ℕ → List ℕ → NameClass
+dotted c bs =
+    cond ((eqb c 78 || (eqb c 83 || eqb c 68)) && house? bs) (sized bs Generated)
+    (cond (eqb c 69 && classNumber? bs) Generated Wrong)
+
+-- `U`, or one of the dotted names
+abbrev pub generated : List ℕ → NameClass
+generated bs =
+    cond (eqb (length bs) 1 && eqb (getD bs 0 0) 85) Generated
+    (cond (leb 2 (length bs) && eqb (getD bs 1 0) 46) (dotted (getD bs 0 0) (drop 2 bs)) Wrong)
+
+unfoldable pub nameClass : List ℕ → NameClass
+nameClass bs = cond (house? bs) (sized bs House) (generated bs)
+
+abbrev pub takes : Kind → NameClass → Bool
+takes Plain House = true
+takes Plain Generated = true
+takes Plain TooLong = false
+takes Plain Wrong = false
+takes Preference House = true
+takes Preference Generated = false
+takes Preference TooLong = false
+takes Preference Wrong = false
+
+-- a name allowed to that kind
+unfoldable pub allowed : Kind → List ℕ → Bool
+allowed kind bs = takes kind (nameClass bs)

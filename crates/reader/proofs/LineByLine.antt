@@ -1,0 +1,132 @@
+-- The lines of a text by their places, and the walk over them.
+use Prim.Native.Nat.{ℕ, zero, suc, _+_, _-_, _≤_, _<_, zero-le}
+use native.Mathlib.Numerals.{add-one}
+use native.Mathlib.Omega.{arith}
+use mathlib.Core.Path.{_≡_, refl, sym, ap, ap₂, _∙_, subst}
+use mathlib.Core.Bool.{Bool, true, false, cond}
+use mathlib.Core.List.{List, [], _∷_}
+use lib.Dec.{eqb}
+use lib.ListN.{length, take, drop, length-drop, drop-of-length-le}
+use lib.Seq.{drop-drop, length-take-le}
+use Rattle.kinds.specs.declared.limits.Kind.{Kind}
+use Rattle.kinds.specs.declared.refusals.Refusal.{Refusal}
+use Rattle.kinds.specs.declared.refusals.Refusal.the-variants.{Form as BrokenForm}
+use Rattle.reader.specs.declared.gathered.Gathered.{Gathered}
+use Rattle.reader.specs.declared.gathered.Line.{Line}
+use Rattle.reader.specs.declared.gathered.Line.the-variants.{Next, Fault}
+use Rattle.reader.specs.declared.reading.Gather.{Gather}
+use Rattle.reader.specs.declared.reading.Gather.the-variants.{Whole, Refused}
+use Rattle.reader.specs.Lines.{lineLength, linesFrom, lines}
+use Rattle.reader.specs.Forms.{formOf}
+use Rattle.reader.specs.Faults.{State, ruling?, stepForm}
+use Rattle.reader.specs.Said.{Said, accepted, refused, onStep, readLines, start}
+use Rattle.reader.specs.Gathered.{stateOf, Held, LineSays, LineIs}
+use Rattle.reader.specs.Gathering.{startCounts, passedOn, GatherSays, GatherIs}
+use Rattle.reader.proofs.Scanning.{part-sized}
+use Rattle.reader.proofs.HeldState.{held-is}
+
+lines-skip : (k : ℕ) (s : List ℕ) → linesFrom k s ≡ lines (drop k s)
+unfolding lines linesFrom
+lines-skip zero [] = refl
+lines-skip (suc k) [] = refl
+lines-skip zero (b ∷ s) = refl
+lines-skip (suc k) (b ∷ s) = lines-skip k s
+
+line-le : (s : List ℕ) → lineLength s ≤ length s
+unfolding lineLength
+line-le [] = zero-le
+line-le (b ∷ s) = go (eqb b 10) (line-le s)
+  where
+    go : (x : Bool) → lineLength s ≤ length s → suc (cond x 0 (lineLength s)) ≤ suc (length s)
+    go true h = omega arith
+    go false h = omega arith
+
+first-line : (s : List ℕ) → 1 ≤ length s → (lines s ≡ take (lineLength s) s ∷ lines (drop (lineLength s) s)) × (1 ≤ lineLength s)
+unfolding lines linesFrom lineLength
+first-line [] h = absurd (omega arith)
+first-line (b ∷ s) h = (ap (λ l. take (suc n) (b ∷ s) ∷ l) (lines-skip n s), omega arith)
+  where
+    n : ℕ
+    n = cond (eqb b 10) 0 (lineLength s)
+
+-- the line at a place
+module _ (s : List ℕ) (at : ℕ) (l : at < length s) {n : ℕ} (e : n ≡ lineLength (drop at s)) where
+  pub line-inside : (at + n ≤ length s) × (at < at + n)
+  line-inside = let f = first-line (drop at s) (omega (arith, length-drop at s)) .1 in (omega (arith, line-le (drop at s), length-drop at s), omega arith)
+
+  -- its bytes, as the code takes them
+  abbrev pub line : List ℕ
+  line = take (at + n - at) (drop at s)
+
+  lines-at : lines (drop at s) ≡ line ∷ lines (drop (at + n) s)
+  lines-at =
+      first-line (drop at s) (omega (arith, length-drop at s)) .0
+      ∙ ap (λ m. take m (drop at s) ∷ lines (drop m (drop at s))) (sym e)
+      ∙ ap₂ _∷_ (sym (part-sized at n (drop at s))) (ap lines (drop-drop n at s))
+
+  pub line-short : length line ≤ length s
+  line-short = omega (arith, ap length (part-sized at n (drop at s)) ∙ length-take-le n (drop at s) (omega (arith, line-inside .0, length-drop at s)), line-inside .0)
+
+-- the lines before `at` are read
+pub record Reading (kind : Kind) (s : List ℕ) (g : Gathered) (words bytes starts heads links marks : List ℕ) (at number : ℕ) : Type 0 where
+  pub inside : at ≤ length s
+  pub few : number ≤ at + 1
+  pub held : Held kind (stateOf kind g words bytes) g words bytes starts heads links marks
+  pub left : readLines number (stateOf kind g words bytes) (lines (drop at s)) ≡ readLines 1 (start s) (lines s)
+
+pub reading : {kind : Kind} {s : List ℕ} {g : Gathered} {words bytes starts heads links marks : List ℕ} → Held kind (start s) startCounts words bytes starts heads links marks → g ≡ startCounts → Reading kind s g words bytes starts heads links marks 0 1
+reading {kind} {s} {g} {words} {bytes} {starts} {heads} {links} {marks} h e =
+    let is = held-is h in
+    subst (λ j. Reading kind s j words bytes starts heads links marks 0 1) (sym e)
+    (record {
+      inside = zero-le;
+      few = omega arith;
+      held = subst (λ st. Held kind st startCounts words bytes starts heads links marks) is h;
+      left = ap (λ st. readLines 1 st (lines s)) (sym is);
+    })
+
+module _ {kind : Kind} {s : List ℕ} {g : Gathered} {words bytes starts heads links marks : List ℕ} {at number : ℕ} (h : Reading kind s g words bytes starts heads links marks at number) where
+  abbrev st : State
+  st = stateOf kind g words bytes
+
+  abbrev whole : Said
+  whole = readLines 1 (start s) (lines s)
+
+  module _ (o : length s ≤ at) {r : Bool} (e : r ≡ ruling? (g .stage)) where
+    at-end : cond (ruling? (st .stage)) (accepted st) (refused BrokenForm number) ≡ whole
+    unfolding readLines lines linesFrom
+    at-end = ap (λ l. readLines number st (linesFrom 0 l)) (sym (drop-of-length-le s o)) ∙ h .left
+
+    ruling-is : ruling? (st .stage) ≡ r
+    ruling-is = sym (e ∙ ap ruling? (h .held .stage-is))
+
+    pub all-read : r ≡ true → GatherIs kind whole words bytes starts heads links marks (Whole g)
+    all-read d = record { says = (sym (rw (ruling-is, d) at at-end), h .held) }
+
+    pub line-missing : r ≡ false → GatherIs kind whole words bytes starts heads links marks (Refused BrokenForm number)
+    line-missing d = record { says = sym (rw (ruling-is, d) at at-end) }
+
+  module _ (l : at < length s) {n : ℕ} (e : n ≡ lineLength (drop at s)) where
+    step : onStep (stepForm st (formOf (line s at l e))) number (λ after. readLines (suc number) after (lines (drop (at + n) s))) ≡ whole
+    unfolding readLines
+    step = ap (readLines number st) (sym (lines-at s at l e)) ∙ h .left
+
+    module _ {words′ bytes′ starts′ heads′ links′ marks′ : List ℕ} {a : Line} (w : LineIs kind st (formOf (line s at l e)) words′ bytes′ starts′ heads′ links′ marks′ a) where
+      said : {b : Line} → a ≡ b → LineSays kind st (formOf (line s at l e)) words′ bytes′ starts′ heads′ links′ marks′ b
+      said d = subst (LineSays kind st (formOf (line s at l e)) words′ bytes′ starts′ heads′ links′ marks′) d (w .says)
+
+      pub line-refused : {f : Refusal} → a ≡ Fault f → whole ≡ refused f number
+      line-refused d = sym (rw (said d) at step)
+
+      pub line-read : {g′ : Gathered} → a ≡ Next g′ → Reading kind s g′ words′ bytes′ starts′ heads′ links′ marks′ (at + n) (number + 1)
+      line-read {g′} d =
+          let k = said d in
+          record {
+            inside = line-inside s at l e .0;
+            few = omega (arith, h .few, line-inside s at l e .1);
+            held = k .1;
+            left = ap (λ m. readLines m (stateOf kind g′ words′ bytes′) (lines (drop (at + n) s))) (add-one number) ∙ (rw (k .0) at step);
+          }
+
+      pub line-passed : {f : Refusal} → a ≡ Fault f → {q : Gather} → q ≡ passedOn a number → GatherIs kind whole words′ bytes′ starts′ heads′ links′ marks′ q
+      line-passed d k = record { says = subst (GatherSays kind whole words′ bytes′ starts′ heads′ links′ marks′) (sym (k ∙ ap (λ x. passedOn x number) d)) (line-refused d) }

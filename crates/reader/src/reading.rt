@@ -1,0 +1,175 @@
+// The lines of a text, one after another, into the scratch stores.
+use crate::answers::Stage;
+use crate::declared_line;
+use crate::forms;
+use crate::forms::Shape;
+use crate::gathered::Gathered;
+use crate::gathered::Line;
+use crate::rule_line;
+use crate::scan;
+use kinds::limits::Kind;
+use kinds::refusals::Refusal;
+ghost use mathlib.Core.Path.{_≡_};
+ghost use mathlib.Core.Bool.{cond};
+ghost use Prim.Native.Nat.{_≤_};
+ghost use lib.ListN.{length};
+ghost use Rattle.kinds.specs.Limits.{textLimit};
+ghost use Rattle.reader.specs.Lines.{lines};
+ghost use Rattle.reader.specs.Forms.{atoms, begins, tagOf, formOf};
+ghost use Rattle.reader.specs.Said.{start, readLines};
+ghost use Rattle.reader.specs.Gathered.{stateOf, Held, LineIs};
+ghost use Rattle.reader.specs.Gathering.{startCounts, passedOn, GatherIs};
+
+// What the lines of a text give: the counts beside the filled scratch stores, or the earliest faulty line with its refusal.
+pub enum Gather {
+    Whole(Gathered),
+    Refused { refusal: Refusal, line: usize },
+}
+
+pub fn kind_of(text: &[u8]) -> Kind
+    ensures { λ r. ⌜ r ≡ cond (begins (tagOf atoms) (now (text .entry))) Kind.Plain Kind.Preference ⌝ }
+{
+    if scan::begins_at(text, 0, b"(atoms") {
+        return Kind::Plain;
+    }
+    Kind::Preference
+}
+
+// The counts before the first line; four words are kept for the header.
+pub fn start_counts() -> Gathered
+    ensures { λ r. ⌜ r ≡ startCounts ⌝ }
+{
+    Gathered {
+        stage: Stage::Declaring,
+        classes: 0,
+        atoms: 0,
+        rules: 0,
+        occurrences: 0,
+        words: 4,
+        bytes: 0,
+    }
+}
+
+// One line against what the lines before have given.
+fn read_line(
+    line: &[u8],
+    kind: Kind,
+    gathered: Gathered,
+    words: &mut [u16],
+    bytes: &mut [u8],
+    starts: &mut [u16],
+    firsts: &mut [u16],
+    links: &mut [u16],
+    marks: &mut [u16],
+) -> Line
+    requires { ⌜ length (now line) ≤ textLimit ⌝ }
+    requires { ⌜ Held kind (stateOf kind gathered (now words) (now bytes)) gathered (now words) (now bytes) (now starts) (now firsts) (now links) (now marks) ⌝ }
+    ensures { λ r. ⌜ LineIs kind (stateOf kind gathered (now (words .entry)) (now (bytes .entry))) (formOf (now (line .entry))) (now (words .exit)) (now (bytes .exit)) (now (starts .exit)) (now (firsts .exit)) (now (links .exit)) (now (marks .exit)) r ⌝ }
+{
+    match forms::shape_of(line, kind) {
+        Shape::Declares {
+            word,
+            from,
+            count,
+            refused,
+        } => declared_line::declare_atoms(
+            line,
+            kind,
+            gathered,
+            word,
+            from,
+            count,
+            refused,
+            words,
+            bytes,
+            starts,
+            firsts,
+            links,
+            marks,
+        ),
+        Shape::Rule {
+            head,
+            body,
+            not,
+            heads,
+            bodies,
+            nots,
+            refused,
+        } => rule_line::add_rule(
+            line,
+            kind,
+            gathered,
+            head,
+            body,
+            not,
+            heads,
+            bodies,
+            nots,
+            refused,
+            words,
+            bytes,
+            starts,
+            firsts,
+            links,
+            marks,
+        ),
+        Shape::Broken => Line::Fault(Refusal::Form),
+    }
+}
+
+// A line's refusal, passed on with the line.
+fn passed_on(answer: Line, line: usize) -> Gather
+    ensures { λ r. ⌜ r ≡ passedOn answer line ⌝ }
+{
+    match answer {
+        Line::Next(gathered) => Gather::Whole(gathered),
+        Line::Fault(refusal) => Gather::Refused { refusal, line },
+    }
+}
+
+pub fn read_lines(
+    text: &[u8],
+    kind: Kind,
+    words: &mut [u16],
+    bytes: &mut [u8],
+    starts: &mut [u16],
+    firsts: &mut [u16],
+    links: &mut [u16],
+    marks: &mut [u16],
+) -> Gather
+    requires { ⌜ length (now text) ≤ textLimit ⌝ }
+    requires { ⌜ Held kind (start (now text)) startCounts (now words) (now bytes) (now starts) (now firsts) (now links) (now marks) ⌝ }
+    ensures { λ r. ⌜ GatherIs kind (readLines 1 (start (now (text .entry))) (lines (now (text .entry)))) (now (words .exit)) (now (bytes .exit)) (now (starts .exit)) (now (firsts .exit)) (now (links .exit)) (now (marks .exit)) r ⌝ }
+{
+    let mut gathered = start_counts();
+    let mut at: usize = 0;
+    let mut number: usize = 1;
+    while at < text.len() {
+        let to = at + scan::line_at(text, at);
+        let answer = read_line(
+            &text[at..to],
+            kind,
+            gathered,
+            words,
+            bytes,
+            starts,
+            firsts,
+            links,
+            marks,
+        );
+        let Line::Next(after) = answer else {
+            return passed_on(answer, number);
+        };
+        gathered = after;
+        number += 1;
+        at = to;
+    }
+    let stage = gathered.stage;
+    if rule_line::is_ruling(stage) {
+        return Gather::Whole(gathered);
+    }
+    Gather::Refused {
+        refusal: Refusal::Form,
+        line: number,
+    }
+}

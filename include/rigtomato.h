@@ -1,0 +1,145 @@
+/*
+ * Rigtomato for C programs.
+ *
+ * Link with target/staticlib/librigtomato.a, which `rt staticlib rigtomato` makes at the
+ * repository's root:
+ *
+ *     gcc -Iinclude program.c target/staticlib/librigtomato.a -o program
+ *
+ * What the functions do is worded in document 01, the request, and proved for every input that
+ * the parameters can carry. In short:
+ *
+ * - A text is a preference file (`(min ..)` lines, `(vary ..)`, `(fix ..)`, rules) or a plain
+ *   program (`(atoms ..)`, rules). rigtomato_read turns it into two stores, rigtomato_write turns
+ *   the stores back into the same text.
+ * - A rule store is an array of uint16_t: kind (0 plain, 1 preference), atom count n, class count
+ *   k, rule count r; in a preference store n class words (1 to 16 the class, 17 varying, 18
+ *   fixed, never falling); then for each rule the lengths of its lists head, body and not, and
+ *   the atom numbers of the three lists.
+ * - A name store is an array of bytes: for each atom its name's length in one byte, then the name.
+ * - A set of atoms is a number: the sum of 2^i over its atoms i, numbered from 0 in declared
+ *   order.
+ *
+ * Memory. A pointer and the length after it, in elements and not in bytes, are one array. The
+ * library reads only inside the arrays that it is handed and writes only inside the outputs that
+ * it is lent; it keeps no pointer, allocates nothing and has no state, so it may be called from
+ * several threads at once with outputs of their own. An output must not overlap an input or the
+ * other output. With length 0 a pointer is not followed. The functions keep some hundred kilobytes
+ * of arrays on the caller's stack: give a thread a megabyte or more.
+ *
+ * Refusals. On a refusal no element of an output is written. After success the elements past the
+ * written part keep their content.
+ */
+#ifndef RIGTOMATO_H
+#define RIGTOMATO_H
+
+#include <stddef.h>
+#include <stdint.h>
+
+#ifdef __cplusplus
+extern "C" {
+#endif
+
+/* ---- The refusals ---- */
+
+/* Of a text, with the line (from 1) on which it shows. The earliest faulty line counts; on it, the
+ * lowest number. A missing line stands one past the last. */
+#define RIGTOMATO_TEXT_TOO_LONG 1    /* more than RIGTOMATO_TEXT_LIMIT bytes; line 0 */
+#define RIGTOMATO_FORM 2             /* form, a name's bytes or line order broken, or a line missing */
+#define RIGTOMATO_NAME 3             /* house name too long, or a generated name in a preference file */
+#define RIGTOMATO_DECLARED_TWICE 4   /* atom declared twice */
+#define RIGTOMATO_NOT_DECLARED 5     /* atom not declared */
+#define RIGTOMATO_TWICE_IN_LIST 6    /* atom twice in one list of a rule */
+#define RIGTOMATO_LIMIT 7            /* too many atoms, rules, atom occurrences or classes */
+#define RIGTOMATO_FILLED_NOT 8       /* a filled `not` list in a preference file */
+
+/* Of what the caller handed in. They are tested in the sequence 10, 14, 11, 12, 13, 9; the reader
+ * tests 9 after 1 to 8. */
+#define RIGTOMATO_OUTPUT_SHORT 9     /* a lent output is shorter than the result */
+#define RIGTOMATO_RULE_STORE 10      /* rule store not of the form, or of the other kind */
+#define RIGTOMATO_TOO_MANY_ATOMS 11  /* more than 60 atoms */
+#define RIGTOMATO_SET_TOO_LARGE 12   /* set number 2^n or more, or start above 2^n */
+#define RIGTOMATO_BUDGET_TOO_LARGE 13 /* budget over 2^40 */
+#define RIGTOMATO_NAME_STORE 14      /* name store does not fit the rule store */
+
+/* ---- Sizes ---- */
+
+/* The most bytes of a text; what the writer and the translator give is never longer. */
+#define RIGTOMATO_TEXT_LIMIT 655360
+/* The most words of a rule store: 4, and three lengths for each of 4,200 rules, and 24,000 atoms. */
+#define RIGTOMATO_RULES_LIMIT 36604
+/* The most bytes of a name store: 1,100 names of 18 bytes, each with its length. */
+#define RIGTOMATO_NAMES_LIMIT 20900
+/* The largest budget, 2^40. */
+#define RIGTOMATO_BUDGET_LIMIT (UINT64_C(1) << 40)
+
+/* ---- Reading and writing ---- */
+
+struct rigtomato_read_answer {
+    uint64_t refusal; /* 0 accepted, else the refusal's number: 1 to 9 */
+    uint64_t line;    /* the line of refusals 2 to 8, from 1; else 0 */
+    uint64_t words;   /* accepted: the words written to `rules`; else 0 */
+    uint64_t bytes;   /* accepted: the bytes written to `names`; else 0 */
+};
+
+/* Reads a text of either kind into a rule store and a name store. rules[0] tells the kind. */
+struct rigtomato_read_answer rigtomato_read(const uint8_t *text, size_t text_len,
+                                            uint16_t *rules, size_t rules_len,
+                                            uint8_t *names, size_t names_len);
+
+struct rigtomato_text_answer {
+    uint64_t refusal; /* 0 written, else the refusal's number: 10, 14 or 9 */
+    uint64_t bytes;   /* written: the bytes written to `out`; else 0 */
+};
+
+/* Writes the text of a rule store of either kind and its name store. */
+struct rigtomato_text_answer rigtomato_write(const uint16_t *rules, size_t rules_len,
+                                             const uint8_t *names, size_t names_len,
+                                             uint8_t *out, size_t out_len);
+
+/* Writes the text of a preference file's plain program, whose stable sets, cut down to the file's
+ * atoms, are the file's preferred states, each from one stable set. */
+struct rigtomato_text_answer rigtomato_translate(const uint16_t *rules, size_t rules_len,
+                                                 const uint8_t *names, size_t names_len,
+                                                 uint8_t *out, size_t out_len);
+
+/* ---- Verdicts ---- */
+
+/* The kind of an answer, and what its value and units then are (0 where nothing is said). */
+#define RIGTOMATO_YES 0     /* preferred, or stable; units: those the walk took */
+#define RIGTOMATO_BROKEN 1  /* no model; value: the number, from 0, of the first broken rule */
+#define RIGTOMATO_BEATEN 2  /* value: the first better set; units: its place in the walk, from 1 */
+#define RIGTOMATO_SPENT 3   /* more units needed than the budget; units: the budget */
+#define RIGTOMATO_REFUSED 4 /* value: the refusal's number: 10, 11, 12 or 13 */
+
+/* Of rigtomato_next_state, beside RIGTOMATO_SPENT and RIGTOMATO_REFUSED: */
+#define RIGTOMATO_STATE 0   /* value: the least preferred set at or above the start; units: taken */
+#define RIGTOMATO_NONE 1    /* no preferred set at or above the start; units: those it took */
+
+struct rigtomato_verdict {
+    uint64_t kind;
+    uint64_t value;
+    uint64_t units;
+};
+
+/* Is the set preferred in this preference store? The walk goes over all sets that agree with it on
+ * the fixed atoms, by rising number, one unit each. */
+struct rigtomato_verdict rigtomato_preferred(const uint16_t *rules, size_t rules_len,
+                                             uint64_t set, uint64_t budget);
+
+/* Is the set stable in this plain store? The walk goes over the set's proper subsets, by rising
+ * number, one unit each. */
+struct rigtomato_verdict rigtomato_stable(const uint16_t *rules, size_t rules_len,
+                                          uint64_t set, uint64_t budget);
+
+/* The least preferred set with number at or above the start, which may be 2^n. Each candidate costs
+ * one unit and, if it is a model, the units of its verdict. Starting from 0, then from each answer
+ * plus one, until RIGTOMATO_NONE, gives every preferred set once, in rising order. */
+struct rigtomato_verdict rigtomato_next_state(const uint16_t *rules, size_t rules_len,
+                                              uint64_t start, uint64_t budget);
+
+#ifdef __cplusplus
+}
+#endif
+
+#endif

@@ -1,0 +1,6 @@
+//! What the engine's speed is measured against: hand-written C and Rust for the walks, a fast
+//! reader, writer and translator.
+
+pub mod inputs;
+pub mod twin;
+pub mod walks;

@@ -1,0 +1,477 @@
+//! Reader, writer and translator as a Rust programmer would write them for speed: one pass over
+//! the bytes, names in a HashMap, stores to text without a detour. It is compared with the second
+//! implementation before it is timed.
+
+use std::collections::{HashMap, HashSet};
+
+/// A refusal's number and line.
+pub type Refused = (u64, u64);
+
+#[derive(Debug, Default, PartialEq, Eq)]
+pub struct Stores {
+    pub rules: Vec<u16>,
+    pub names: Vec<u8>,
+}
+
+struct Limits {
+    atoms: usize,
+    rules: usize,
+    occurrences: usize,
+}
+
+const PLAIN: Limits = Limits {
+    atoms: 1_100,
+    rules: 4_200,
+    occurrences: 24_000,
+};
+const PREFERENCE: Limits = Limits {
+    atoms: 256,
+    rules: 1_024,
+    occurrences: 8_192,
+};
+
+/// The fault of a name: 0 where it has none.
+fn name_fault(name: &[u8], plain: bool) -> u64 {
+    let house = |name: &[u8]| -> u64 {
+        let rest = |b: &u8| b.is_ascii_lowercase() || b.is_ascii_digit() || *b == b'_';
+        match name.first() {
+            Some(first) if first.is_ascii_lowercase() && name.iter().all(rest) => {
+                if name.len() > 16 {
+                    3
+                } else {
+                    0
+                }
+            }
+            _ => 2,
+        }
+    };
+    let generated = if plain { 0 } else { 3 };
+    match name {
+        b"U" => generated,
+        [b'N' | b'S' | b'D', b'.', rest @ ..] => match house(rest) {
+            0 => generated,
+            fault => fault,
+        },
+        [b'E', b'.', b'0'..=b'9'] | [b'E', b'.', b'1', b'0'..=b'6'] => generated,
+        _ => house(name),
+    }
+}
+
+/// A line being read, and its lowest fault so far.
+struct Line<'t> {
+    left: &'t [u8],
+    fault: u64,
+}
+
+impl<'t> Line<'t> {
+    fn found(&mut self, fault: u64) {
+        if fault != 0 && (self.fault == 0 || fault < self.fault) {
+            self.fault = fault;
+        }
+    }
+
+    fn expect(&mut self, bytes: &[u8]) -> Option<()> {
+        self.left = self.left.strip_prefix(bytes)?;
+        Some(())
+    }
+
+    /// The names up to the closing bracket, which is taken too.
+    fn names(&mut self, mut each: impl FnMut(&mut Self, &'t [u8])) -> Option<()> {
+        while let Some(rest) = self.left.strip_prefix(b" ") {
+            let end = rest.iter().position(|b| matches!(b, b' ' | b')' | b'('))?;
+            let (name, rest) = rest.split_at(end);
+            self.left = rest;
+            each(self, name);
+        }
+        self.expect(b")")
+    }
+}
+
+struct Reader<'t> {
+    plain: bool,
+    limits: Limits,
+    numbers: HashMap<&'t [u8], u16>,
+    stores: Stores,
+    atoms: usize,
+    rules: usize,
+    occurrences: usize,
+    /// The last list in which each atom was seen, as the list's number from 1.
+    seen: Vec<u32>,
+    lists: u32,
+}
+
+impl<'t> Reader<'t> {
+    fn declaration(&mut self, line: &mut Line<'t>, class: Option<u16>) -> Option<()> {
+        let plain = self.plain;
+        line.names(|line, name| {
+            line.found(name_fault(name, plain));
+            if self.numbers.insert(name, self.atoms as u16).is_some() {
+                line.found(4);
+            }
+            self.atoms += 1;
+            if self.atoms > self.limits.atoms {
+                line.found(7);
+            }
+            if line.fault == 0 {
+                self.stores.names.push(name.len() as u8);
+                self.stores.names.extend_from_slice(name);
+                self.stores.rules.extend(class);
+            }
+        })
+    }
+
+    fn list(&mut self, line: &mut Line<'t>, word: &[u8], count_at: usize) -> Option<u16> {
+        line.expect(word)?;
+        self.lists += 1;
+        let plain = self.plain;
+        let before = self.stores.rules.len();
+        line.names(|line, name| {
+            self.occurrences += 1;
+            if self.occurrences > self.limits.occurrences {
+                line.found(7);
+            }
+            let Some(&number) = self.numbers.get(name) else {
+                line.found(name_fault(name, plain));
+                line.found(5);
+                return;
+            };
+            let seen = &mut self.seen[usize::from(number)];
+            if *seen == self.lists {
+                line.found(6);
+            }
+            *seen = self.lists;
+            self.stores.rules.push(number);
+        })?;
+        let count = (self.stores.rules.len() - before) as u16;
+        self.stores.rules[count_at] = count;
+        Some(count)
+    }
+
+    fn rule(&mut self, line: &mut Line<'t>) -> Option<()> {
+        self.rules += 1;
+        if self.rules > self.limits.rules {
+            line.found(7);
+        }
+        let counts = self.stores.rules.len();
+        self.stores.rules.extend([0; 3]);
+        line.expect(b"(rule ")?;
+        self.list(line, b"(head", counts)?;
+        self.list(line, b" (body", counts + 1)?;
+        if self.list(line, b" (not", counts + 2)? > 0 && !self.plain {
+            line.found(8);
+        }
+        line.expect(b")")
+    }
+}
+
+pub fn read(text: &[u8]) -> Result<Stores, Refused> {
+    if text.len() > 655_360 {
+        return Err((1, 0));
+    }
+    let plain = text.starts_with(b"(atoms");
+    let mut reader = Reader {
+        plain,
+        limits: if plain { PLAIN } else { PREFERENCE },
+        numbers: HashMap::new(),
+        stores: Stores {
+            rules: vec![u16::from(!plain), 0, 0, 0],
+            names: Vec::new(),
+        },
+        atoms: 0,
+        rules: 0,
+        occurrences: 0,
+        seen: Vec::new(),
+        lists: 0,
+    };
+    let mut classes = 0;
+    // What is still to come: 3 `min` or `vary`, 2 `fix`, 1 `atoms`, 0 rules.
+    let mut stage = if plain { 1 } else { 3 };
+    let mut line_number = 0;
+    let mut left = text;
+    while !left.is_empty() {
+        line_number += 1;
+        let Some(end) = left.iter().position(|b| *b == b'\n') else {
+            return Err((2, line_number));
+        };
+        let mut line = Line {
+            left: &left[..end],
+            fault: 0,
+        };
+        left = &left[end + 1..];
+        let stands = match stage {
+            0 => reader.rule(&mut line),
+            1 => {
+                stage = 0;
+                line.expect(b"(atoms")
+                    .and_then(|()| reader.declaration(&mut line, None))
+            }
+            2 => {
+                stage = 0;
+                line.expect(b"(fix")
+                    .and_then(|()| reader.declaration(&mut line, Some(18)))
+            }
+            _ if line.expect(b"(min").is_some() => {
+                classes += 1;
+                if classes > 16 {
+                    line.found(7);
+                }
+                reader.declaration(&mut line, Some(classes))
+            }
+            _ => {
+                stage = 2;
+                line.expect(b"(vary")
+                    .and_then(|()| reader.declaration(&mut line, Some(17)))
+            }
+        };
+        if stands.is_none() || !line.left.is_empty() {
+            return Err((2, line_number));
+        }
+        if line.fault != 0 {
+            return Err((line.fault, line_number));
+        }
+        if stage == 0 && reader.seen.is_empty() {
+            reader.seen = vec![0; reader.atoms];
+        }
+    }
+    if stage != 0 {
+        return Err((2, line_number + 1));
+    }
+    reader.stores.rules[1] = reader.atoms as u16;
+    reader.stores.rules[2] = classes;
+    reader.stores.rules[3] = reader.rules as u16;
+    Ok(reader.stores)
+}
+
+/// Is the rule store of the form?
+fn is_rule_store(words: &[u16]) -> Option<()> {
+    let holds = |condition: bool| condition.then_some(());
+    let &[kind, n, k, r, ref rest @ ..] = words else {
+        return None;
+    };
+    let (limits, classes) = match kind {
+        0 => (PLAIN, 0),
+        1 => (PREFERENCE, 16),
+        _ => return None,
+    };
+    holds(usize::from(n) <= limits.atoms && k <= classes && usize::from(r) <= limits.rules)?;
+    let mut left = rest;
+    if kind == 1 {
+        holds(left.len() >= usize::from(n))?;
+        let (class_words, rest) = left.split_at(usize::from(n));
+        let mut last = 1;
+        for word in class_words {
+            holds(*word >= last && (*word <= k || *word == 17 || *word == 18))?;
+            last = *word;
+        }
+        left = rest;
+    }
+    let mut seen = vec![0u32; usize::from(n)];
+    let mut lists = 0;
+    let mut occurrences = 0;
+    for _ in 0..r {
+        let (counts, rest) = left.split_at_checked(3)?;
+        holds(kind == 0 || counts[2] == 0)?;
+        left = rest;
+        for count in counts {
+            let (list, rest) = left.split_at_checked(usize::from(*count))?;
+            lists += 1;
+            occurrences += list.len();
+            for atom in list {
+                let stamp = seen.get_mut(usize::from(*atom))?;
+                holds(*stamp != lists)?;
+                *stamp = lists;
+            }
+            left = rest;
+        }
+    }
+    holds(occurrences <= limits.occurrences && left.is_empty())
+}
+
+/// Does the name store fit the rule store?
+fn names_fit(rules: &[u16], names: &[u8]) -> Option<()> {
+    let mut seen = HashSet::with_capacity(usize::from(rules[1]));
+    let mut left = names;
+    for _ in 0..rules[1] {
+        let (length, rest) = left.split_first()?;
+        let (name, rest) = rest.split_at_checked(usize::from(*length))?;
+        (name_fault(name, rules[0] == 0) == 0 && seen.insert(name)).then_some(())?;
+        left = rest;
+    }
+    left.is_empty().then_some(())
+}
+
+fn check(stores: &Stores) -> Result<(), u64> {
+    is_rule_store(&stores.rules).ok_or(10u64)?;
+    names_fit(&stores.rules, &stores.names).ok_or(14)
+}
+
+/// The text of the stores, or a refusal's number.
+pub fn write(stores: &Stores) -> Result<Vec<u8>, u64> {
+    check(stores)?;
+    Ok(text_of(stores))
+}
+
+/// The plain program's text of a preference file's stores, or a refusal's number.
+pub fn translate(stores: &Stores) -> Result<Vec<u8>, u64> {
+    if stores.rules.first() != Some(&1) {
+        return Err(10);
+    }
+    check(stores)?;
+    Ok(text_of(&translated(stores)))
+}
+
+fn names(stores: &Stores) -> Vec<&[u8]> {
+    let mut names = Vec::with_capacity(usize::from(stores.rules[1]));
+    let mut left = stores.names.as_slice();
+    while let Some((length, rest)) = left.split_first() {
+        let (name, rest) = rest.split_at(usize::from(*length));
+        names.push(name);
+        left = rest;
+    }
+    names
+}
+
+/// Calls `each` with the three lists of each rule.
+fn each_rule<'s>(stores: &'s Stores, mut each: impl FnMut([&'s [u16]; 3])) {
+    let words = &stores.rules;
+    let mut at = if words[0] == 1 {
+        4 + usize::from(words[1])
+    } else {
+        4
+    };
+    for _ in 0..words[3] {
+        let head = at + 3 + usize::from(words[at]);
+        let body = head + usize::from(words[at + 1]);
+        let not = body + usize::from(words[at + 2]);
+        each([&words[at + 3..head], &words[head..body], &words[body..not]]);
+        at = not;
+    }
+}
+
+/// The text of checked stores.
+fn text_of(stores: &Stores) -> Vec<u8> {
+    let names = names(stores);
+    let words = &stores.rules;
+    let mut text = Vec::with_capacity(64 * 1024);
+    let list = |text: &mut Vec<u8>, open: &[u8], atoms: &mut dyn Iterator<Item = usize>| {
+        text.extend_from_slice(open);
+        for atom in atoms {
+            text.push(b' ');
+            text.extend_from_slice(names[atom]);
+        }
+    };
+    let atoms = usize::from(words[1]);
+    if words[0] == 0 {
+        list(&mut text, b"(atoms", &mut (0..atoms));
+        text.extend_from_slice(b")\n");
+    } else {
+        let mut next = 0;
+        for class in (1..=words[2]).chain([17, 18]) {
+            let open: &[u8] = match class {
+                17 => b"(vary",
+                18 => b"(fix",
+                _ => b"(min",
+            };
+            let end = next + words[4 + next..4 + atoms].partition_point(|word| *word <= class);
+            list(&mut text, open, &mut (next..end));
+            text.extend_from_slice(b")\n");
+            next = end;
+        }
+    }
+    each_rule(stores, |[head, body, not]| {
+        let number = |atom: &u16| usize::from(*atom);
+        list(&mut text, b"(rule (head", &mut head.iter().map(number));
+        list(&mut text, b") (body", &mut body.iter().map(number));
+        list(&mut text, b") (not", &mut not.iter().map(number));
+        text.extend_from_slice(b"))\n");
+    });
+    text
+}
+
+/// The plain program's stores of the checked stores of a preference file.
+fn translated(stores: &Stores) -> Stores {
+    let words = &stores.rules;
+    let n = words[1];
+    let k = words[2];
+    let class = &words[4..4 + usize::from(n)];
+    let count = |last: u16| class.partition_point(|word| *word <= last) as u16;
+    let (p, unfixed) = (count(16), count(17));
+    let big_n = |a: u16| n + a;
+    let s = |a: u16| 2 * n + a;
+    let d = |a: u16| 2 * n + unfixed + a;
+    let e = |j: u16| 2 * n + unfixed + p + j;
+    let u = e(k + 1);
+    let mut out = Stores {
+        rules: vec![0, u + 1, 0, 0],
+        names: Vec::new(),
+    };
+    let file_names = names(stores);
+    let mut name = |prefix: &[u8], name: &[u8]| {
+        out.names.push((prefix.len() + name.len()) as u8);
+        out.names.extend_from_slice(prefix);
+        out.names.extend_from_slice(name);
+    };
+    for (prefix, last) in [(&b""[..], n), (b"N.", n), (b"S.", unfixed), (b"D.", p)] {
+        for a in &file_names[..usize::from(last)] {
+            name(prefix, a);
+        }
+    }
+    for j in 0..=k {
+        name(b"E.", j.to_string().as_bytes());
+    }
+    name(b"U", b"");
+    let mut rules = 0;
+    let mut rule = |head: &[u16], body: &[u16], not: &[u16]| {
+        rules += 1;
+        out.rules
+            .extend([head.len() as u16, body.len() as u16, not.len() as u16]);
+        out.rules.extend_from_slice(head);
+        out.rules.extend_from_slice(body);
+        out.rules.extend_from_slice(not);
+    };
+    for a in 0..n {
+        rule(&[a], &[], &[big_n(a)]);
+        rule(&[big_n(a)], &[], &[a]);
+    }
+    let (mut head_part, mut body_part, mut not_part) = (Vec::new(), Vec::new(), Vec::new());
+    each_rule(stores, |[head, body, _]| {
+        not_part.clear();
+        not_part.extend_from_slice(head);
+        not_part.extend(body.iter().map(|b| big_n(*b)));
+        rule(&[], &[], &not_part);
+    });
+    each_rule(stores, |[head, body, _]| {
+        let free = |a: &&u16| **a < unfixed;
+        let fixed = |a: &&u16| **a >= unfixed;
+        head_part.clear();
+        head_part.extend(head.iter().filter(free).map(|a| s(*a)));
+        head_part.push(u);
+        body_part.clear();
+        body_part.extend(body.iter().filter(free).map(|a| s(*a)));
+        body_part.extend(body.iter().filter(fixed));
+        not_part.clear();
+        not_part.extend(head.iter().filter(fixed));
+        rule(&head_part, &body_part, &not_part);
+    });
+    rule(&[e(0), u], &[], &[]);
+    for i in 1..=k {
+        head_part.clear();
+        head_part.extend((count(i - 1)..count(i)).map(d));
+        head_part.extend([e(i), u]);
+        rule(&head_part, &[e(i - 1)], &[]);
+    }
+    for a in 0..p {
+        let i = class[usize::from(a)];
+        rule(&[u], &[d(a)], &[a]);
+        rule(&[u], &[d(a), s(a)], &[]);
+        rule(&[u], &[e(i - 1), s(a)], &[a]);
+        rule(&[s(a), u], &[e(i)], &[big_n(a)]);
+    }
+    (0..unfixed).for_each(|a| rule(&[s(a)], &[u], &[]));
+    (0..p).for_each(|a| rule(&[d(a)], &[u], &[]));
+    (0..=k).for_each(|j| rule(&[e(j)], &[u], &[]));
+    rule(&[u], &[e(k)], &[]);
+    rule(&[], &[], &[u]);
+    out.rules[3] = rules;
+    out
+}

@@ -1,0 +1,29 @@
+//! Writes random preference files: `random_files DIRECTORY COUNT SEED`.
+
+use compare::generate::{preference, Size};
+use compare::random::Random;
+use reference::writer::write;
+use std::path::Path;
+use std::process::ExitCode;
+
+fn main() -> ExitCode {
+    let arguments: Vec<String> = std::env::args().collect();
+    let [_, directory, count, seed] = arguments.as_slice() else {
+        eprintln!("usage: random_files DIRECTORY COUNT SEED");
+        return ExitCode::from(2);
+    };
+    let (Ok(count), Ok(seed)) = (count.parse::<usize>(), seed.parse::<u64>()) else {
+        eprintln!("random_files: COUNT and SEED are numbers");
+        return ExitCode::from(2);
+    };
+    let mut random = Random::new(seed);
+    for i in 0..count {
+        let (program, names) = preference(&mut random, Size::SMALL);
+        let path = Path::new(directory).join(format!("random_{i:04}.pref"));
+        if let Err(error) = std::fs::write(&path, write(&program, &names)) {
+            eprintln!("random_files: {}: {error}", path.display());
+            return ExitCode::FAILURE;
+        }
+    }
+    ExitCode::SUCCESS
+}

@@ -1,0 +1,403 @@
+//! The families of cases, each of which compares some calls.
+
+use crate::checker::{Checked, Checker};
+use crate::generate::{either, plain, preference, Size};
+use crate::random::Random;
+use crate::spoil;
+use reference::lent;
+use reference::limits::{Kind, BUDGET_LIMIT, TEXT_LIMIT};
+use reference::program::{Names, Program, Role, Rule};
+use reference::reader;
+use reference::stores::{name_store, rule_store};
+use reference::translator;
+use reference::verdicts::{is_model, Next, Verdict};
+use reference::writer;
+
+/// The lengths of outputs worth lending where the result has this length.
+fn lengths(random: &mut Random, length: usize) -> Vec<usize> {
+    let mut all = vec![length, length + random.within(1, 40)];
+    if length > 0 {
+        all.push(length - 1);
+        all.push(random.below(length));
+    }
+    all
+}
+
+/// Reads the text with outputs exact, short and long; where it is refused, with some outputs.
+pub fn read(check: &mut Checker, random: &mut Random, text: &[u8]) -> Checked {
+    let Ok((program, names)) = reader::read(text) else {
+        let (rules_len, names_len) = *random.pick(&[(0, 0), (40, 40), (400, 400), (0, 999)]);
+        return check.read(text, rules_len, names_len);
+    };
+    let words = rule_store(&program).len();
+    let bytes = name_store(&names).len();
+    check.read(text, words, bytes)?;
+    check.read(
+        text,
+        words + random.within(1, 40),
+        bytes + random.within(1, 40),
+    )?;
+    check.read(text, words - 1, bytes)?;
+    if bytes > 0 {
+        check.read(text, words, bytes - 1)?;
+        check.read(text, random.below(words), random.below(bytes))?;
+    }
+    Ok(())
+}
+
+/// Writes and translates the stores with outputs exact, short and long.
+pub fn texts_of_stores(
+    check: &mut Checker,
+    random: &mut Random,
+    rules: &[u16],
+    names: &[u8],
+) -> Checked {
+    let mut most = vec![0; TEXT_LIMIT];
+    for out_len in match lent::write(rules, names, &mut most) {
+        Ok(length) => lengths(random, length),
+        Err(_) => vec![random.below(300)],
+    } {
+        check.write(rules, names, out_len)?;
+    }
+    for out_len in match lent::translate(rules, names, &mut most) {
+        Ok(length) => lengths(random, length),
+        Err(_) => vec![random.below(300)],
+    } {
+        check.translate(rules, names, out_len)?;
+    }
+    Ok(())
+}
+
+/// A budget that is too small, just enough, more than enough or too large.
+fn budgets(random: &mut Random, needed: u64) -> [u64; 3] {
+    let small = if needed == 0 { 0 } else { needed - 1 };
+    let other = match random.below(5) {
+        0 => BUDGET_LIMIT,
+        1 => BUDGET_LIMIT + 1,
+        2 => u64::MAX,
+        3 => random.any() % (needed + 1),
+        _ => needed + 1,
+    };
+    [needed, small, other]
+}
+
+fn verdict_units(verdict: &Verdict) -> u64 {
+    match verdict {
+        Verdict::Yes { units } | Verdict::Beaten { units, .. } | Verdict::Spent { units } => *units,
+        Verdict::Broken { .. } => 0,
+    }
+}
+
+/// Verdicts on sets of a small program of either kind, and its next states.
+pub fn verdicts(check: &mut Checker, random: &mut Random, program: &Program) -> Checked {
+    let rules = rule_store(program);
+    let sets = 1u64 << program.atoms;
+    let mut chosen: Vec<u64> = if sets <= 8 {
+        (0..sets).collect()
+    } else {
+        let models: Vec<u64> = (0..sets)
+            .filter(|&set| is_model(&program.rules, set))
+            .collect();
+        let places = random.choose(5, models.len());
+        let some = places.into_iter().map(|place| models[place]);
+        some.chain([random.any() % sets, random.any() % sets])
+            .collect()
+    };
+    chosen.extend([sets - 1, sets, u64::MAX]);
+    for set in chosen {
+        let verdict = match program.kind {
+            Kind::Preference => lent::preferred(&rules, set, BUDGET_LIMIT),
+            Kind::Plain => lent::stable(&rules, set, BUDGET_LIMIT),
+        };
+        for budget in budgets(random, verdict.as_ref().map_or(0, verdict_units)) {
+            check.preferred(&rules, set, budget)?;
+            check.stable(&rules, set, budget)?;
+        }
+    }
+    next_states(check, random, &rules, sets)
+}
+
+fn next_states(check: &mut Checker, random: &mut Random, rules: &[u16], sets: u64) -> Checked {
+    check.next_state(rules, sets, 0)?;
+    check.next_state(rules, sets + 1, random.any() % 9)?;
+    let mut start = 0;
+    for _ in 0..6 {
+        let Ok(next) = lent::next_state(rules, start, BUDGET_LIMIT) else {
+            return check.next_state(rules, start, BUDGET_LIMIT);
+        };
+        let (set, needed) = match next {
+            Next::State { set, units } => (Some(set), units),
+            Next::None { units } | Next::Spent { units } => (None, units),
+        };
+        for budget in budgets(random, needed) {
+            check.next_state(rules, start, budget)?;
+        }
+        match set {
+            Some(set) => start = set + 1,
+            None => break,
+        }
+    }
+    check.next_state(rules, random.any() % sets, BUDGET_LIMIT)
+}
+
+/// A valid small file and all that can be asked of it.
+pub fn valid(check: &mut Checker, random: &mut Random) -> Checked {
+    let (program, names) = either(random, Size::SMALL);
+    let text = writer::write(&program, &names);
+    read(check, random, &text)?;
+    texts_of_stores(check, random, &rule_store(&program), &name_store(&names))?;
+    verdicts(check, random, &program)
+}
+
+/// The stable sets of a small translation.
+pub fn translated(check: &mut Checker, random: &mut Random) -> Checked {
+    let size = Size {
+        atoms: 3,
+        rules: 3,
+        list: 2,
+    };
+    let (file, names) = preference(random, size);
+    let (plain, plain_names) = translator::translate(&file, &names);
+    read(check, random, &writer::write(&plain, &plain_names))?;
+    if plain.atoms > 16 {
+        return Ok(());
+    }
+    let rules = rule_store(&plain);
+    // Sets with the generated atoms that a stable set has, so that verdicts go deep.
+    for _ in 0..8 {
+        let chosen = random.any() & ((1 << file.atoms) - 1);
+        let unchosen = (!chosen & ((1 << file.atoms) - 1)) << file.atoms;
+        let others = ((1u64 << plain.atoms) - 1) & !((1 << (2 * file.atoms)) - 1);
+        check.stable(&rules, chosen | unchosen | others, BUDGET_LIMIT)?;
+        check.stable(&rules, random.any() & ((1 << plain.atoms) - 1), 1_000)?;
+    }
+    Ok(())
+}
+
+/// A small file with one to three damages.
+pub fn damaged_text(check: &mut Checker, random: &mut Random) -> Checked {
+    let (program, names) = either(random, Size::SMALL);
+    let whole = writer::write(&program, &names);
+    for turn in 0..40 {
+        let mut text = whole.clone();
+        for _ in 0..random.within(1, 3) {
+            if turn % 2 == 0 {
+                spoil::text(random, &mut text);
+            } else {
+                spoil::names_of_text(random, &mut text);
+            }
+        }
+        read(check, random, &text)?;
+    }
+    Ok(())
+}
+
+/// No file at all.
+pub fn soup(check: &mut Checker, random: &mut Random) -> Checked {
+    for _ in 0..20 {
+        let text = spoil::soup(random, 24);
+        read(check, random, &text)?;
+    }
+    Ok(())
+}
+
+/// All functions that take stores, on whatever words and bytes.
+fn any_stores(check: &mut Checker, random: &mut Random, rules: &[u16], names: &[u8]) -> Checked {
+    texts_of_stores(check, random, rules, names)?;
+    let number = *random.pick(&[0, 1, 5, 255, 256, u64::MAX]);
+    let budget = *random.pick(&[0, 1, 20, BUDGET_LIMIT, BUDGET_LIMIT + 1]);
+    // A damaged store may still say a program with more atoms than can be walked through.
+    let budget = match rules.get(1) {
+        Some(9..=60) => budget.min(300),
+        _ => budget,
+    };
+    check.preferred(rules, number, budget)?;
+    check.stable(rules, number, budget)?;
+    check.next_state(rules, number, budget.min(2_000))
+}
+
+/// Small stores with one to three damages.
+pub fn damaged_stores(check: &mut Checker, random: &mut Random) -> Checked {
+    let (program, names) = either(random, Size::SMALL);
+    let whole = (rule_store(&program), name_store(&names));
+    for _ in 0..10 {
+        let (mut rules, mut names) = whole.clone();
+        let (rule_damages, name_damages) = *random.pick(&[(1, 0), (0, 1), (2, 0), (0, 2), (1, 1)]);
+        for _ in 0..rule_damages {
+            spoil::rules(random, &mut rules);
+        }
+        for _ in 0..name_damages {
+            spoil::names(random, &mut names);
+        }
+        any_stores(check, random, &rules, &names)?;
+    }
+    Ok(())
+}
+
+/// Each word of a small store replaced by each interesting word, and each byte of its name store
+/// by each byte.
+pub fn every_word(check: &mut Checker, random: &mut Random) -> Checked {
+    let size = Size {
+        atoms: 4,
+        rules: 3,
+        list: 2,
+    };
+    let (program, names) = either(random, size);
+    let (rules, names) = (rule_store(&program), name_store(&names));
+    for place in 0..rules.len() {
+        for word in spoil::interesting_words(&rules) {
+            let mut spoiled = rules.clone();
+            spoiled[place] = word;
+            any_stores(check, random, &spoiled, &names)?;
+        }
+    }
+    for place in 0..names.len().min(8) {
+        for byte in 0..=255 {
+            let mut spoiled = names.clone();
+            spoiled[place] = byte;
+            check.write(&rules, &spoiled, 400)?;
+            check.translate(&rules, &spoiled, 4_000)?;
+        }
+    }
+    Ok(())
+}
+
+/// Programs of up to 61 atoms, with budgets that a walk can be brought to its end with.
+pub fn many_atoms(check: &mut Checker, random: &mut Random) -> Checked {
+    let size = Size {
+        atoms: 61,
+        rules: 40,
+        list: 4,
+    };
+    let (mut program, _) = either(random, size);
+    if random.once_in(2) {
+        // Nearly all fixed, so that the preferred walk has an end.
+        for role in program.roles.iter_mut().skip(4) {
+            *role = Role::Fixed;
+        }
+    }
+    let rules = rule_store(&program);
+    let sets = 1u64 << program.atoms;
+    for _ in 0..6 {
+        // The models among the sets near the full one and near the empty one.
+        let mut set = random.any() & random.any() & random.any() & (sets - 1);
+        if random.once_in(2) {
+            set ^= sets - 1;
+        }
+        for budget in [0, 1, random.any() % 700] {
+            check.preferred(&rules, set, budget)?;
+            check.stable(&rules, set, budget)?;
+            check.next_state(&rules, set, budget)?;
+        }
+    }
+    for number in [sets - 1, sets, sets + 1, 1 << 60, u64::MAX] {
+        let budget = *random.pick(&[0, 3, BUDGET_LIMIT + 1]);
+        check.preferred(&rules, number, budget)?;
+        check.stable(&rules, number, budget)?;
+        check.next_state(&rules, number, budget)?;
+    }
+    Ok(())
+}
+
+/// A long file of either kind, near the limits or past them, and the same damaged.
+pub fn long(check: &mut Checker, random: &mut Random) -> Checked {
+    let sizes = [(256, 1_024, 8), (256, 60, 256), (120, 300, 12)];
+    let plain_sizes = [(1_100, 4_200, 4), (1_100, 40, 1_100), (700, 900, 12)];
+    let chosen = random.below(3);
+    let (atoms, rules, list) = sizes[chosen];
+    let (plain_atoms, plain_rules, plain_list) = plain_sizes[chosen];
+    let (program, names) = if random.once_in(2) {
+        preference(random, Size { atoms, rules, list })
+    } else {
+        let size = Size {
+            atoms: plain_atoms,
+            rules: plain_rules,
+            list: plain_list,
+        };
+        plain(random, size)
+    };
+    let text = writer::write(&program, &names);
+    let (rules, names) = (rule_store(&program), name_store(&names));
+    read(check, random, &text)?;
+    texts_of_stores(check, random, &rules, &names)?;
+    for _ in 0..3 {
+        let mut text = text.clone();
+        spoil::text(random, &mut text);
+        read(check, random, &text)?;
+        let (mut rules, mut names) = (rules.clone(), names.clone());
+        if random.once_in(2) {
+            spoil::rules(random, &mut rules);
+        } else {
+            spoil::names(random, &mut names);
+        }
+        check.write(&rules, &names, 700_000)?;
+        check.translate(&rules, &names, 700_000)?;
+        check.preferred(&rules, random.any(), 5)?;
+        check.stable(&rules, random.any(), 5)?;
+        check.next_state(&rules, random.any(), 5)?;
+    }
+    Ok(())
+}
+
+fn numbered(count: usize) -> Names {
+    (0..count).map(|i| format!("a{i}").into_bytes()).collect()
+}
+
+/// A program with exactly so many atoms, rules and occurrences.
+fn exact(kind: Kind, atoms: usize, rules: usize, occurrences: usize) -> (Program, Names) {
+    let mut program = Program::empty(kind);
+    program.atoms = atoms;
+    if kind == Kind::Preference {
+        program.roles = vec![Role::Varying; atoms];
+    }
+    let mut left = occurrences;
+    for _ in 0..rules {
+        let head = left.min(atoms);
+        left -= head;
+        let body = left.min(atoms);
+        left -= body;
+        program.rules.push(Rule {
+            head: (0..head).collect(),
+            body: (0..body).collect(),
+            not: Vec::new(),
+        });
+    }
+    (program, numbered(atoms))
+}
+
+/// Each limit met and passed by one, as a text and as a store. Done once a run.
+pub fn limits(check: &mut Checker, random: &mut Random) -> Checked {
+    for (kind, atoms, rules, occurrences) in [
+        (Kind::Preference, 256, 1_024, 8_192),
+        (Kind::Plain, 1_100, 4_200, 24_000),
+    ] {
+        for (a, r, o) in [(0, 0, 0), (1, 0, 0), (0, 1, 0), (0, 0, 1), (1, 1, 1)] {
+            let (program, names) = exact(kind, atoms + a, rules + r, occurrences + o);
+            let text = writer::write(&program, &names);
+            read(check, random, &text)?;
+            texts_of_stores(check, random, &rule_store(&program), &name_store(&names))?;
+        }
+    }
+    for classes in 15..=18 {
+        let (mut program, names) = exact(Kind::Preference, 2, 1, 2);
+        program.classes = classes;
+        for last in [Role::Minimised(classes), Role::Varying, Role::Fixed] {
+            program.roles = vec![Role::Minimised(1), last];
+            read(check, random, &writer::write(&program, &names))?;
+            any_stores(check, random, &rule_store(&program), &name_store(&names))?;
+        }
+    }
+    for length in [TEXT_LIMIT - 1, TEXT_LIMIT, TEXT_LIMIT + 1, TEXT_LIMIT + 9] {
+        for start in ["", "(vary)\n(fix)\n", "(atoms)\n", "(atoms", "(vary"] {
+            for fill in [b'\n', b' ', b'a', b'('] {
+                let mut text = start.as_bytes().to_vec();
+                text.resize(length, fill);
+                check.read(&text, 50, 50)?;
+                text.pop();
+                text.push(b'\n');
+                check.read(&text, 50, 50)?;
+            }
+        }
+    }
+    Ok(())
+}

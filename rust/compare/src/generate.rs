@@ -1,0 +1,185 @@
+//! Random preference files and plain programs, all of them accepted.
+
+use crate::random::Random;
+use reference::limits::Kind;
+use reference::program::{Names, Program, Role, Rule};
+
+/// How large a random program may be.
+#[derive(Clone, Copy, Debug)]
+pub struct Size {
+    pub atoms: usize,
+    pub rules: usize,
+    /// The most atoms of one list.
+    pub list: usize,
+}
+
+impl Size {
+    /// So small that all sets can be tried by brute force.
+    pub const SMALL: Size = Size {
+        atoms: 8,
+        rules: 9,
+        list: 3,
+    };
+}
+
+fn house_name(random: &mut Random) -> Vec<u8> {
+    const FIRST: &[u8] = b"abcdefghijklmnopqrstuvwxyz";
+    const REST: &[u8] = b"abcdefghijklmnopqrstuvwxyz0123456789_";
+    const WORDS: [&str; 14] = [
+        "min", "vary", "fix", "atoms", "rule", "head", "body", "not", "a", "b", "lamp", "lamp_",
+        "e", "n",
+    ];
+    if random.once_in(6) {
+        return random.pick(&WORDS).as_bytes().to_vec();
+    }
+    let length = match random.below(5) {
+        0 => 1,
+        1 => 16,
+        2 => random.within(1, 16),
+        _ => random.within(1, 3),
+    };
+    let mut name = vec![*random.pick(FIRST)];
+    while name.len() < length {
+        name.push(*random.pick(REST));
+    }
+    name
+}
+
+fn name(random: &mut Random, kind: Kind) -> Vec<u8> {
+    if kind == Kind::Preference || random.once_in(3) {
+        return house_name(random);
+    }
+    match random.below(8) {
+        0 => b"U".to_vec(),
+        1 | 2 => format!("E.{}", random.within(0, 16)).into_bytes(),
+        _ => {
+            let prefix: &[u8] = *random.pick(&[b"N.", b"S.", b"D."]);
+            [prefix, &house_name(random)].concat()
+        }
+    }
+}
+
+/// This many different names allowed to the kind.
+pub fn names(random: &mut Random, kind: Kind, count: usize) -> Names {
+    let mut seen = std::collections::HashSet::new();
+    let mut names = Names::new();
+    while names.len() < count {
+        let name = name(random, kind);
+        if seen.insert(name.clone()) {
+            names.push(name);
+        }
+    }
+    names
+}
+
+fn list(random: &mut Random, atoms: usize, least: usize, most: usize) -> Vec<usize> {
+    let count = random.within(least, most);
+    random.choose(count, atoms)
+}
+
+/// Mostly a disjunction with a short body, at times a constraint.
+fn rule(random: &mut Random, kind: Kind, atoms: usize, most: usize) -> Rule {
+    let head = if random.once_in(6) {
+        Vec::new()
+    } else {
+        list(random, atoms, 1, most)
+    };
+    let body = if random.once_in(2) {
+        list(random, atoms, 0, 1)
+    } else {
+        list(random, atoms, 0, most)
+    };
+    let not = match kind {
+        Kind::Plain => list(random, atoms, 0, most),
+        Kind::Preference => Vec::new(),
+    };
+    Rule { head, body, not }
+}
+
+fn rules(random: &mut Random, program: &mut Program, size: Size) {
+    let count = random.within(0, size.rules);
+    let mut places = 0;
+    while program.rules.len() < count {
+        let rule = match program.rules.last() {
+            Some(last) if random.once_in(12) => last.clone(),
+            _ => rule(random, program.kind, program.atoms, size.list),
+        };
+        // A rule without lists makes each set a broken one, so it is kept rare.
+        if rule.occurrences() == 0 && !random.once_in(20) {
+            continue_with_a_fact(random, program);
+            continue;
+        }
+        places += rule.occurrences();
+        if places > program.kind.occurrence_limit() {
+            break;
+        }
+        program.rules.push(rule);
+    }
+}
+
+fn continue_with_a_fact(random: &mut Random, program: &mut Program) {
+    let head = if program.atoms > 0 {
+        vec![random.below(program.atoms)]
+    } else {
+        Vec::new()
+    };
+    let full = program.occurrences() + head.len() > program.kind.occurrence_limit();
+    program.rules.push(Rule {
+        head: if full { Vec::new() } else { head },
+        ..Rule::default()
+    });
+}
+
+/// A preference file with its names: some with empty classes, with and without fixed atoms.
+pub fn preference(random: &mut Random, size: Size) -> (Program, Names) {
+    let mut program = Program::empty(Kind::Preference);
+    program.atoms = random.within(0, size.atoms);
+    program.classes = match random.below(8) {
+        0 => 0,
+        1 => random.within(0, 16),
+        _ => random.within(1, 4),
+    };
+    let fixed_often = random.within(0, 4);
+    let varying_often = random.within(1, 6);
+    let mut words: Vec<usize> = (0..program.atoms)
+        .map(|_| {
+            if random.below(10) < fixed_often {
+                18
+            } else if random.below(10) < varying_often || program.classes == 0 {
+                17
+            } else {
+                random.within(1, program.classes)
+            }
+        })
+        .collect();
+    words.sort_unstable();
+    program.roles = words
+        .into_iter()
+        .map(|word| match word {
+            17 => Role::Varying,
+            18 => Role::Fixed,
+            class => Role::Minimised(class),
+        })
+        .collect();
+    rules(random, &mut program, size);
+    let names = names(random, Kind::Preference, program.atoms);
+    (program, names)
+}
+
+/// A plain program with its names.
+pub fn plain(random: &mut Random, size: Size) -> (Program, Names) {
+    let mut program = Program::empty(Kind::Plain);
+    program.atoms = random.within(0, size.atoms);
+    rules(random, &mut program, size);
+    let names = names(random, Kind::Plain, program.atoms);
+    (program, names)
+}
+
+/// A program of either kind.
+pub fn either(random: &mut Random, size: Size) -> (Program, Names) {
+    if random.once_in(2) {
+        preference(random, size)
+    } else {
+        plain(random, size)
+    }
+}

@@ -1,0 +1,134 @@
+//! A run: the families in turn, from one seed, until enough is compared.
+
+use crate::cases;
+use crate::checker::{Checked, Checker, Difference, Outcome};
+use crate::engine::Engine;
+use crate::random::Random;
+use std::collections::BTreeMap;
+use std::time::{Duration, Instant};
+
+type Family = fn(&mut Checker, &mut Random) -> Checked;
+
+/// The families with how often each has its turn in a round.
+const FAMILIES: [(&str, Family, usize); 8] = [
+    ("valid files", cases::valid, 60),
+    ("damaged texts", cases::damaged_text, 40),
+    ("no files", cases::soup, 20),
+    ("damaged stores", cases::damaged_stores, 40),
+    ("many atoms", cases::many_atoms, 30),
+    ("translated files", cases::translated, 10),
+    ("every word of a store", cases::every_word, 1),
+    ("long files", cases::long, 2),
+];
+
+/// When a run ends: when both are reached.
+#[derive(Clone, Copy, Debug)]
+pub struct Until {
+    pub comparisons: u64,
+    pub time: Duration,
+}
+
+pub struct Report {
+    pub comparisons: u64,
+    /// The comparisons of each family.
+    pub families: Vec<(&'static str, u64)>,
+    /// How often each function gave which outcome.
+    pub outcomes: BTreeMap<(&'static str, Outcome), u64>,
+    pub time: Duration,
+}
+
+/// Compares the engine with the second implementation.
+pub fn run(engine: &dyn Engine, seed: u64, until: Until) -> Result<Report, Difference> {
+    let start = Instant::now();
+    let mut check = Checker::new(engine);
+    let mut counts = [0; FAMILIES.len()];
+    let mut round = 0u64;
+    while check.comparisons < until.comparisons || start.elapsed() < until.time {
+        for (place, (name, family, turns)) in FAMILIES.iter().enumerate() {
+            // A turn has its own numbers, so that one family can change without the others.
+            let own = seed ^ round.wrapping_mul(0x1_0001) ^ ((place as u64 + 1) << 56);
+            let mut random = Random::new(own);
+            let before = check.comparisons;
+            for _ in 0..*turns {
+                family(&mut check, &mut random).map_err(|difference| Difference {
+                    text: format!("{name}, seed {seed}, round {round}\n{}", difference.text),
+                })?;
+            }
+            counts[place] += check.comparisons - before;
+        }
+        round += 1;
+    }
+    let before = check.comparisons;
+    cases::limits(&mut check, &mut Random::new(seed))?;
+    let mut families = vec![("limits", check.comparisons - before)];
+    families.extend(
+        FAMILIES
+            .iter()
+            .zip(counts)
+            .map(|(family, count)| (family.0, count)),
+    );
+    Ok(Report {
+        comparisons: check.comparisons,
+        families,
+        outcomes: check.outcomes,
+        time: start.elapsed(),
+    })
+}
+
+/// The outcomes that a run has to see, or its cases are too poor.
+pub fn wanted_outcomes() -> Vec<(&'static str, Outcome)> {
+    let mut wanted = Vec::new();
+    let mut refusals = |function: &'static str, numbers: &[u64]| {
+        wanted.extend(
+            numbers
+                .iter()
+                .map(|&number| (function, Outcome::Refused(number))),
+        );
+    };
+    refusals("read", &[1, 2, 3, 4, 5, 6, 7, 8, 9]);
+    refusals("write", &[10, 14, 9]);
+    refusals("translate", &[10, 14, 9]);
+    refusals("preferred", &[10, 11, 12, 13]);
+    refusals("stable", &[10, 11, 12, 13]);
+    refusals("next_state", &[10, 11, 12, 13]);
+    for function in ["read", "write", "translate"] {
+        wanted.push((function, Outcome::Done));
+    }
+    for kind in [0, 1, 2, 3] {
+        wanted.push(("preferred", Outcome::Kind(kind)));
+        wanted.push(("stable", Outcome::Kind(kind)));
+    }
+    for kind in [0, 1, 3] {
+        wanted.push(("next_state", Outcome::Kind(kind)));
+    }
+    wanted
+}
+
+impl Report {
+    pub fn print(&self) {
+        for (name, count) in &self.families {
+            println!("{count:>9}  {name}");
+        }
+        let mut last = "";
+        for ((function, outcome), count) in &self.outcomes {
+            if *function != last {
+                print!("{}{function}:", if last.is_empty() { "" } else { "\n" });
+                last = function;
+            }
+            match outcome {
+                Outcome::Done => print!(" done {count}"),
+                Outcome::Kind(kind) => print!(" kind {kind} {count}"),
+                Outcome::Refused(number) => print!(" refused {number} {count}"),
+            }
+        }
+        let seconds = self.time.as_secs_f64();
+        println!("\n{} comparisons in {seconds:.1} s", self.comparisons);
+    }
+
+    /// The wanted outcomes that were not seen.
+    pub fn unseen(&self) -> Vec<(&'static str, Outcome)> {
+        let mut wanted = wanted_outcomes();
+        wanted.retain(|outcome| !self.outcomes.contains_key(outcome));
+        wanted
+    }
+}

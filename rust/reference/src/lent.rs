@@ -1,0 +1,96 @@
+//! The public functions as a caller meets them: stores handed in, outputs lent.
+//!
+//! Nothing is written on a refusal; after success, what lies past the written part keeps its
+//! content.
+
+use crate::limits::{Kind, BUDGET_LIMIT, VERDICT_ATOM_LIMIT};
+use crate::program::Program;
+use crate::reader;
+use crate::refusal::{Reason, Refusal};
+use crate::stores::{check_names, check_rules, check_rules_of, name_store, rule_store};
+use crate::translator;
+use crate::verdicts::{self, Next, Verdict};
+use crate::writer;
+
+/// How much of its two outputs the reader wrote.
+#[derive(Clone, Copy, Debug, PartialEq, Eq)]
+pub struct Accepted {
+    pub words: usize,
+    pub bytes: usize,
+}
+
+/// Reads a text into a rule store and a name store.
+pub fn read(text: &[u8], rules: &mut [u16], names: &mut [u8]) -> Result<Accepted, Refusal> {
+    let (program, read_names) = reader::read(text)?;
+    let words = rule_store(&program);
+    let bytes = name_store(&read_names);
+    if rules.len() < words.len() || names.len() < bytes.len() {
+        return Err(Refusal::without_line(Reason::OutputShort));
+    }
+    rules[..words.len()].copy_from_slice(&words);
+    names[..bytes.len()].copy_from_slice(&bytes);
+    Ok(Accepted {
+        words: words.len(),
+        bytes: bytes.len(),
+    })
+}
+
+fn deliver(text: &[u8], out: &mut [u8]) -> Result<usize, Reason> {
+    if out.len() < text.len() {
+        return Err(Reason::OutputShort);
+    }
+    out[..text.len()].copy_from_slice(text);
+    Ok(text.len())
+}
+
+/// Writes the text of a rule store and a name store; gives its length.
+pub fn write(rules: &[u16], names: &[u8], out: &mut [u8]) -> Result<usize, Reason> {
+    let program = check_rules(rules)?;
+    let names = check_names(&program, names)?;
+    deliver(&writer::write(&program, &names), out)
+}
+
+/// Writes the text of a preference file's plain program; gives its length.
+pub fn translate(rules: &[u16], names: &[u8], out: &mut [u8]) -> Result<usize, Reason> {
+    let file = check_rules_of(Kind::Preference, rules)?;
+    let names = check_names(&file, names)?;
+    let (plain, plain_names) = translator::translate(&file, &names);
+    deliver(&writer::write(&plain, &plain_names), out)
+}
+
+/// The checks before a verdict: the store's kind, then atoms, set and budget. `last` is the
+/// largest number allowed, given 2^n.
+fn admit(
+    kind: Kind,
+    rules: &[u16],
+    number: u64,
+    budget: u64,
+    last: fn(u64) -> u64,
+) -> Result<Program, Reason> {
+    let program = check_rules_of(kind, rules)?;
+    if program.atoms > VERDICT_ATOM_LIMIT {
+        return Err(Reason::TooManyAtoms);
+    }
+    if number > last(1 << program.atoms) {
+        return Err(Reason::SetTooLarge);
+    }
+    if budget > BUDGET_LIMIT {
+        return Err(Reason::BudgetTooLarge);
+    }
+    Ok(program)
+}
+
+pub fn preferred(rules: &[u16], set: u64, budget: u64) -> Result<Verdict, Reason> {
+    let file = admit(Kind::Preference, rules, set, budget, |sets| sets - 1)?;
+    Ok(verdicts::preferred(&file, set, budget))
+}
+
+pub fn stable(rules: &[u16], set: u64, budget: u64) -> Result<Verdict, Reason> {
+    let plain = admit(Kind::Plain, rules, set, budget, |sets| sets - 1)?;
+    Ok(verdicts::stable(&plain, set, budget))
+}
+
+pub fn next_state(rules: &[u16], start: u64, budget: u64) -> Result<Next, Reason> {
+    let file = admit(Kind::Preference, rules, start, budget, |sets| sets)?;
+    Ok(verdicts::next_state(&file, start, budget))
+}

@@ -1,0 +1,134 @@
+//! The public functions over slices: inputs handed in, outputs lent. On a refusal no element of
+//! an output is written; after success what lies past the written part keeps its content.
+
+use crate::refusal::{Refusal, TextRefusal};
+use crate::sys;
+
+/// How much of its two outputs the reader wrote.
+#[derive(Clone, Copy, Debug, PartialEq, Eq)]
+pub struct Accepted {
+    pub words: usize,
+    pub bytes: usize,
+}
+
+/// What is said about a set.
+#[derive(Clone, Copy, Debug, PartialEq, Eq)]
+pub enum Verdict {
+    /// It is preferred, or stable; the walk took these units.
+    Yes { units: u64 },
+    /// It is no model; this is the number, from 0, of the first rule that it breaks.
+    Broken { rule: u64 },
+    /// It is a model; this is the first better set, found with these units.
+    Beaten { set: u64, units: u64 },
+    /// More units are needed than the budget.
+    Spent,
+}
+
+/// What is said about the states at or above a start.
+#[derive(Clone, Copy, Debug, PartialEq, Eq)]
+pub enum Next {
+    /// The least of them.
+    State { set: u64, units: u64 },
+    /// There is none.
+    None { units: u64 },
+    /// More units are needed than the budget.
+    Spent,
+}
+
+/// Reads a text of either kind into a rule store and a name store.
+pub fn read(text: &[u8], rules: &mut [u16], names: &mut [u8]) -> Result<Accepted, TextRefusal> {
+    // SAFETY: each pointer and length is one slice, and the outputs are borrowed for us alone.
+    let answer = unsafe {
+        sys::rigtomato_read(
+            text.as_ptr(),
+            text.len(),
+            rules.as_mut_ptr(),
+            rules.len(),
+            names.as_mut_ptr(),
+            names.len(),
+        )
+    };
+    match answer.refusal {
+        0 => Ok(Accepted {
+            words: answer.words as usize,
+            bytes: answer.bytes as usize,
+        }),
+        number => Err(TextRefusal {
+            refusal: Refusal::of_number(number),
+            line: (answer.line != 0).then_some(answer.line),
+        }),
+    }
+}
+
+fn written(answer: sys::TextAnswer) -> Result<usize, Refusal> {
+    match answer.refusal {
+        0 => Ok(answer.bytes as usize),
+        number => Err(Refusal::of_number(number)),
+    }
+}
+
+/// Writes the text of the stores; gives its length.
+pub fn write(rules: &[u16], names: &[u8], out: &mut [u8]) -> Result<usize, Refusal> {
+    // SAFETY: as in `read`.
+    written(unsafe {
+        sys::rigtomato_write(
+            rules.as_ptr(),
+            rules.len(),
+            names.as_ptr(),
+            names.len(),
+            out.as_mut_ptr(),
+            out.len(),
+        )
+    })
+}
+
+/// Writes the text of a preference file's plain program; gives its length.
+pub fn translate(rules: &[u16], names: &[u8], out: &mut [u8]) -> Result<usize, Refusal> {
+    // SAFETY: as in `read`.
+    written(unsafe {
+        sys::rigtomato_translate(
+            rules.as_ptr(),
+            rules.len(),
+            names.as_ptr(),
+            names.len(),
+            out.as_mut_ptr(),
+            out.len(),
+        )
+    })
+}
+
+fn verdict(answer: sys::VerdictAnswer) -> Result<Verdict, Refusal> {
+    let (value, units) = (answer.value, answer.units);
+    match answer.kind {
+        0 => Ok(Verdict::Yes { units }),
+        1 => Ok(Verdict::Broken { rule: value }),
+        2 => Ok(Verdict::Beaten { set: value, units }),
+        3 => Ok(Verdict::Spent),
+        _ => Err(Refusal::of_number(value)),
+    }
+}
+
+/// Is the set preferred in the preference store?
+pub fn preferred(rules: &[u16], set: u64, budget: u64) -> Result<Verdict, Refusal> {
+    // SAFETY: the pointer and the length are one slice.
+    verdict(unsafe { sys::rigtomato_preferred(rules.as_ptr(), rules.len(), set, budget) })
+}
+
+/// Is the set stable in the plain store?
+pub fn stable(rules: &[u16], set: u64, budget: u64) -> Result<Verdict, Refusal> {
+    // SAFETY: the pointer and the length are one slice.
+    verdict(unsafe { sys::rigtomato_stable(rules.as_ptr(), rules.len(), set, budget) })
+}
+
+/// The least preferred set with number at or above the start.
+pub fn next_state(rules: &[u16], start: u64, budget: u64) -> Result<Next, Refusal> {
+    // SAFETY: the pointer and the length are one slice.
+    let answer = unsafe { sys::rigtomato_next_state(rules.as_ptr(), rules.len(), start, budget) };
+    let (value, units) = (answer.value, answer.units);
+    match answer.kind {
+        0 => Ok(Next::State { set: value, units }),
+        1 => Ok(Next::None { units }),
+        3 => Ok(Next::Spent),
+        _ => Err(Refusal::of_number(value)),
+    }
+}

@@ -1,0 +1,193 @@
+//! Rigtomato for Rust programs: a safe binding over the proved static library.
+//!
+//! ```
+//! use rigtomato::{Program, LARGEST_BUDGET};
+//!
+//! let text = "(min sensor)\n(min lamp)\n(vary dark)\n(fix)\n\
+//!     (rule (head sensor lamp) (body) (not))\n(rule (head dark) (body lamp) (not))\n";
+//! let file = Program::read(text.as_bytes())?;
+//! let states: Result<Vec<u64>, _> = file.states(LARGEST_BUDGET).collect();
+//! let states = states?;
+//! assert_eq!(states, [6]);
+//! assert_eq!(file.names_in(states[0]).collect::<Vec<_>>(), ["lamp", "dark"]);
+//! # Ok::<(), Box<dyn std::error::Error>>(())
+//! ```
+//!
+//! A call keeps some hundred kilobytes of arrays on the stack, which the two megabytes of an
+//! ordinary Rust thread hold.
+
+pub mod lent;
+mod refusal;
+pub mod sys;
+
+pub use lent::{Next, Verdict};
+pub use refusal::{Refusal, TextRefusal};
+
+use std::error::Error;
+use std::fmt;
+
+/// The largest budget of units, 2^40.
+pub const LARGEST_BUDGET: u64 = 1 << 40;
+/// The most bytes of a text.
+pub const TEXT_LIMIT: usize = 655_360;
+
+/// The most words of a rule store: a plain program's.
+const RULES_LIMIT: usize = 4 + 3 * 4_200 + 24_000;
+/// The most bytes of a name store: a plain program's, with the longest names.
+const NAMES_LIMIT: usize = 1_100 * 19;
+
+#[derive(Clone, Copy, Debug, PartialEq, Eq)]
+pub enum Kind {
+    Plain,
+    Preference,
+}
+
+/// The two stores of an accepted text.
+#[derive(Clone, Debug, PartialEq, Eq)]
+pub struct Program {
+    rules: Vec<u16>,
+    names: Vec<u8>,
+}
+
+impl Program {
+    /// Reads a text of either kind.
+    pub fn read(text: &[u8]) -> Result<Program, TextRefusal> {
+        let mut rules = vec![0; RULES_LIMIT];
+        let mut names = vec![0; NAMES_LIMIT];
+        let accepted = lent::read(text, &mut rules, &mut names)?;
+        rules.truncate(accepted.words);
+        names.truncate(accepted.bytes);
+        Ok(Program { rules, names })
+    }
+
+    pub fn kind(&self) -> Kind {
+        match self.rules[0] {
+            0 => Kind::Plain,
+            _ => Kind::Preference,
+        }
+    }
+
+    /// How many atoms are declared.
+    pub fn atoms(&self) -> usize {
+        usize::from(self.rules[1])
+    }
+
+    /// How many rules there are.
+    pub fn rules(&self) -> usize {
+        usize::from(self.rules[3])
+    }
+
+    pub fn rule_store(&self) -> &[u16] {
+        &self.rules
+    }
+
+    pub fn name_store(&self) -> &[u8] {
+        &self.names
+    }
+
+    /// The atoms' names in declared order.
+    pub fn names(&self) -> impl Iterator<Item = &str> {
+        let mut left = self.names.as_slice();
+        std::iter::from_fn(move || {
+            let (length, rest) = left.split_first()?;
+            let (name, rest) = rest.split_at(usize::from(*length));
+            left = rest;
+            Some(std::str::from_utf8(name).expect("names are letters, digits, `_` and `.`"))
+        })
+    }
+
+    /// The names of a set's atoms in declared order.
+    pub fn names_in(&self, set: u64) -> impl Iterator<Item = &str> {
+        let numbered = self.names().take(64).enumerate();
+        numbered
+            .filter(move |(atom, _)| (set >> atom) & 1 == 1)
+            .map(|(_, name)| name)
+    }
+
+    /// The text; it is the text that was read.
+    pub fn write(&self) -> Vec<u8> {
+        let mut out = vec![0; TEXT_LIMIT];
+        let length = lent::write(&self.rules, &self.names, &mut out);
+        out.truncate(length.expect("the stores of an accepted text have a text"));
+        out
+    }
+
+    /// The text of a preference file's plain program; a plain program is refused.
+    pub fn translate(&self) -> Result<Vec<u8>, Refusal> {
+        let mut out = vec![0; TEXT_LIMIT];
+        let length = lent::translate(&self.rules, &self.names, &mut out)?;
+        out.truncate(length);
+        Ok(out)
+    }
+
+    /// Is the set preferred in this preference file?
+    pub fn preferred(&self, set: u64, budget: u64) -> Result<Verdict, Refusal> {
+        lent::preferred(&self.rules, set, budget)
+    }
+
+    /// Is the set stable in this plain program?
+    pub fn stable(&self, set: u64, budget: u64) -> Result<Verdict, Refusal> {
+        lent::stable(&self.rules, set, budget)
+    }
+
+    /// The least preferred set with number at or above the start.
+    pub fn next_state(&self, start: u64, budget: u64) -> Result<Next, Refusal> {
+        lent::next_state(&self.rules, start, budget)
+    }
+
+    /// The preferred states by rising number, each with this budget. After an error there is
+    /// nothing more.
+    pub fn states(&self, budget: u64) -> States<'_> {
+        States {
+            program: self,
+            start: Some(0),
+            budget,
+        }
+    }
+}
+
+/// Why a listing broke off.
+#[derive(Clone, Copy, Debug, PartialEq, Eq)]
+pub enum Stopped {
+    /// The next state needs more units than the budget.
+    Spent,
+    Refused(Refusal),
+}
+
+impl fmt::Display for Stopped {
+    fn fmt(&self, out: &mut fmt::Formatter) -> fmt::Result {
+        match self {
+            Stopped::Spent => write!(out, "the budget is spent"),
+            Stopped::Refused(refusal) => refusal.fmt(out),
+        }
+    }
+}
+
+impl Error for Stopped {}
+
+/// The preferred states of a file: see [`Program::states`].
+#[derive(Clone, Debug)]
+pub struct States<'p> {
+    program: &'p Program,
+    start: Option<u64>,
+    budget: u64,
+}
+
+impl Iterator for States<'_> {
+    type Item = Result<u64, Stopped>;
+
+    fn next(&mut self) -> Option<Self::Item> {
+        let start = self.start.take()?;
+        match self.program.next_state(start, self.budget) {
+            Ok(Next::State { set, .. }) => {
+                self.start = Some(set + 1);
+                Some(Ok(set))
+            }
+            Ok(Next::None { .. }) => None,
+            Ok(Next::Spent) => Some(Err(Stopped::Spent)),
+            Err(refusal) => Some(Err(Stopped::Refused(refusal))),
+        }
+    }
+}
+
+impl std::iter::FusedIterator for States<'_> {}

@@ -1,0 +1,92 @@
+//! Who can be turned back, and why.
+
+use std::error::Error;
+use std::fmt;
+
+/// A refusal. Its number, `refusal as u64`, is document 01's.
+#[derive(Clone, Copy, Debug, PartialEq, Eq)]
+pub enum Refusal {
+    TextTooLong = 1,
+    Form = 2,
+    Name = 3,
+    DeclaredTwice = 4,
+    NotDeclared = 5,
+    TwiceInList = 6,
+    Limit = 7,
+    FilledNot = 8,
+    OutputShort = 9,
+    RuleStore = 10,
+    TooManyAtoms = 11,
+    SetTooLarge = 12,
+    BudgetTooLarge = 13,
+    NameStore = 14,
+}
+
+impl Refusal {
+    const ALL: [Refusal; 14] = [
+        Refusal::TextTooLong,
+        Refusal::Form,
+        Refusal::Name,
+        Refusal::DeclaredTwice,
+        Refusal::NotDeclared,
+        Refusal::TwiceInList,
+        Refusal::Limit,
+        Refusal::FilledNot,
+        Refusal::OutputShort,
+        Refusal::RuleStore,
+        Refusal::TooManyAtoms,
+        Refusal::SetTooLarge,
+        Refusal::BudgetTooLarge,
+        Refusal::NameStore,
+    ];
+
+    /// The refusal with this number. The library gives no other.
+    pub(crate) fn of_number(number: u64) -> Refusal {
+        let found = Refusal::ALL
+            .into_iter()
+            .find(|refusal| *refusal as u64 == number);
+        found.unwrap_or_else(|| panic!("the library gave the unknown refusal {number}"))
+    }
+}
+
+impl fmt::Display for Refusal {
+    fn fmt(&self, out: &mut fmt::Formatter) -> fmt::Result {
+        let sentence = match self {
+            Refusal::TextTooLong => "text too long",
+            Refusal::Form => "form or line order broken, or a needed line absent",
+            Refusal::Name => "house name too long, or a generated name in a preference file",
+            Refusal::DeclaredTwice => "atom declared twice",
+            Refusal::NotDeclared => "atom not declared",
+            Refusal::TwiceInList => "atom twice in one list of a rule",
+            Refusal::Limit => "a count passes its limit",
+            Refusal::FilledNot => "a filled `not` list in a preference file",
+            Refusal::OutputShort => "a lent output is shorter than the result",
+            Refusal::RuleStore => "rule store not of the form, or of the other kind",
+            Refusal::TooManyAtoms => "over 60 atoms",
+            Refusal::SetTooLarge => "set number or start too large",
+            Refusal::BudgetTooLarge => "budget over 2^40",
+            Refusal::NameStore => "name store does not fit the rule store",
+        };
+        write!(out, "{sentence} (refusal {})", *self as u64)
+    }
+}
+
+impl Error for Refusal {}
+
+/// The refusal of a text, with its line from 1 where it has one.
+#[derive(Clone, Copy, Debug, PartialEq, Eq)]
+pub struct TextRefusal {
+    pub refusal: Refusal,
+    pub line: Option<u64>,
+}
+
+impl fmt::Display for TextRefusal {
+    fn fmt(&self, out: &mut fmt::Formatter) -> fmt::Result {
+        match self.line {
+            Some(line) => write!(out, "line {line}: {}", self.refusal),
+            None => self.refusal.fmt(out),
+        }
+    }
+}
+
+impl Error for TextRefusal {}

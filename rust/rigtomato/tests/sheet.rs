@@ -1,0 +1,99 @@
+//! Document 01's sheet through the binding.
+
+use rigtomato::{Kind, Next, Program, Refusal, Stopped, TextRefusal, Verdict, LARGEST_BUDGET};
+
+const RULES: &str =
+    "(rule (head sensor lamp) (body) (not))\n(rule (head dark) (body lamp) (not))\n";
+
+fn file(declarations: &str) -> Program {
+    Program::read(format!("{declarations}{RULES}").as_bytes()).unwrap()
+}
+
+fn states(program: &Program) -> Vec<u64> {
+    program
+        .states(LARGEST_BUDGET)
+        .collect::<Result<_, _>>()
+        .unwrap()
+}
+
+#[test]
+fn file_a() {
+    let a = file("(min sensor)\n(min lamp)\n(vary dark)\n(fix)\n");
+    assert_eq!((a.kind(), a.atoms(), a.rules()), (Kind::Preference, 3, 2));
+    assert_eq!(a.names().collect::<Vec<_>>(), ["sensor", "lamp", "dark"]);
+    assert_eq!(states(&a), [6]);
+    let verdict = |set, budget| a.preferred(set, budget).unwrap();
+    assert_eq!(verdict(6, LARGEST_BUDGET), Verdict::Yes { units: 8 });
+    assert_eq!(
+        verdict(1, LARGEST_BUDGET),
+        Verdict::Beaten { set: 6, units: 7 }
+    );
+    assert_eq!(verdict(0, LARGEST_BUDGET), Verdict::Broken { rule: 0 });
+    assert_eq!(verdict(2, LARGEST_BUDGET), Verdict::Broken { rule: 1 });
+    assert_eq!(verdict(1, 6), Verdict::Spent);
+    assert_eq!(verdict(1, 7), Verdict::Beaten { set: 6, units: 7 });
+    assert_eq!(a.next_state(0, 29), Ok(Next::State { set: 6, units: 29 }));
+    assert_eq!(a.next_state(8, 0), Ok(Next::None { units: 0 }));
+    assert_eq!(a.states(28).collect::<Vec<_>>(), [Err(Stopped::Spent)]);
+    assert_eq!(a.stable(0, 0), Err(Refusal::RuleStore));
+    assert_eq!(a.preferred(8, 0), Err(Refusal::SetTooLarge));
+    assert_eq!(
+        a.preferred(7, LARGEST_BUDGET + 1),
+        Err(Refusal::BudgetTooLarge)
+    );
+}
+
+#[test]
+fn file_a_declared_otherwise() {
+    assert_eq!(
+        states(&file("(min sensor lamp)\n(vary dark)\n(fix)\n")),
+        [1, 5, 6]
+    );
+    assert_eq!(
+        states(&file("(min lamp)\n(min sensor)\n(vary dark)\n(fix)\n")),
+        [2, 6]
+    );
+    let fixed = file("(min sensor)\n(min lamp)\n(vary)\n(fix dark)\n");
+    assert_eq!(states(&fixed), [1, 6]);
+    assert_eq!(fixed.preferred(1, 4), Ok(Verdict::Yes { units: 4 }));
+}
+
+#[test]
+fn texts() {
+    let text = "(vary)\n(fix)\n";
+    let empty = Program::read(text.as_bytes()).unwrap();
+    assert_eq!(empty.write(), text.as_bytes());
+    let plain = Program::read(&empty.translate().unwrap()).unwrap();
+    assert_eq!(
+        (plain.kind(), plain.atoms(), plain.rules()),
+        (Kind::Plain, 2, 4)
+    );
+    assert_eq!(plain.names().collect::<Vec<_>>(), ["E.0", "U"]);
+    assert_eq!(plain.translate(), Err(Refusal::RuleStore));
+    let refused = |refusal, line| Err(TextRefusal { refusal, line });
+    assert_eq!(Program::read(b""), refused(Refusal::Form, Some(1)));
+    assert_eq!(
+        Program::read(b"(vary a a)\n(fix)\n"),
+        refused(Refusal::DeclaredTwice, Some(1))
+    );
+    assert_eq!(
+        Program::read(&[b'a'; 655_361]),
+        refused(Refusal::TextTooLong, None)
+    );
+}
+
+/// The largest file on a thread of the ordinary size.
+#[test]
+fn an_ordinary_thread_is_enough() {
+    let names: String = (0..256).map(|i| format!(" abcdefghijklm{i:03}")).collect();
+    let rule = "(rule (head abcdefghijklm000) (body abcdefghijklm001) (not))\n";
+    let text = format!("(min{names})\n(vary)\n(fix)\n{}", rule.repeat(1_024));
+    let work = move || {
+        let file = Program::read(text.as_bytes()).unwrap();
+        assert_eq!(file.write(), text.as_bytes());
+        let plain = Program::read(&file.translate().unwrap()).unwrap();
+        assert_eq!(plain.atoms(), 4 * 256 + 1 + 2);
+        assert_eq!(plain.stable(0, 0), Err(Refusal::TooManyAtoms));
+    };
+    std::thread::spawn(work).join().unwrap();
+}

@@ -1,0 +1,210 @@
+/* Document 01's sheet for file A, through the C interface. Prints what fails and ends with status
+ * 1 then. Compile with
+ *     gcc -Wall -Wextra -Werror -Iinclude tests/c/sheet.c target/staticlib/librigtomato.a */
+#include "rigtomato.h"
+
+#include <inttypes.h>
+#include <stdio.h>
+#include <string.h>
+
+static int checks;
+static int failures;
+
+static void check(int holds, const char *what)
+{
+    checks++;
+    if (!holds) {
+        failures++;
+        printf("FAILED: %s\n", what);
+    }
+}
+
+#define CHECK(condition) check((condition), #condition)
+
+static const char RULES[] = "(rule (head sensor lamp) (body) (not))\n"
+                            "(rule (head dark) (body lamp) (not))\n";
+
+/* A program's two stores. */
+struct stores {
+    uint16_t rules[RIGTOMATO_RULES_LIMIT];
+    size_t rules_len;
+    uint8_t names[RIGTOMATO_NAMES_LIMIT];
+    size_t names_len;
+};
+
+static struct stores file; /* large, so not on the stack */
+
+static struct rigtomato_read_answer read_text(const char *text, size_t length)
+{
+    struct rigtomato_read_answer answer =
+        rigtomato_read((const uint8_t *)text, length, file.rules, RIGTOMATO_RULES_LIMIT,
+                       file.names, RIGTOMATO_NAMES_LIMIT);
+    file.rules_len = answer.words;
+    file.names_len = answer.bytes;
+    return answer;
+}
+
+/* Reads the declarations with file A's rules behind them. */
+static void read_declared(const char *declarations)
+{
+    char text[1024];
+    snprintf(text, sizeof text, "%s%s", declarations, RULES);
+    struct rigtomato_read_answer answer = read_text(text, strlen(text));
+    CHECK(answer.refusal == 0 && answer.line == 0);
+}
+
+static int is(struct rigtomato_verdict answer, uint64_t kind, uint64_t value, uint64_t units)
+{
+    if (answer.kind == kind && answer.value == value && answer.units == units)
+        return 1;
+    printf("kind %" PRIu64 ", value %" PRIu64 ", units %" PRIu64 "\n", answer.kind, answer.value,
+           answer.units);
+    return 0;
+}
+
+static struct rigtomato_verdict preferred(uint64_t set, uint64_t budget)
+{
+    return rigtomato_preferred(file.rules, file.rules_len, set, budget);
+}
+
+static struct rigtomato_verdict next_state(uint64_t start, uint64_t budget)
+{
+    return rigtomato_next_state(file.rules, file.rules_len, start, budget);
+}
+
+/* Are these, in this order, all the preferred states of the file? */
+static int states_are(size_t count, const uint64_t *states)
+{
+    uint64_t start = 0;
+    for (size_t i = 0; i < count; i++) {
+        struct rigtomato_verdict next = next_state(start, RIGTOMATO_BUDGET_LIMIT);
+        if (next.kind != RIGTOMATO_STATE || next.value != states[i])
+            return 0;
+        start = next.value + 1;
+    }
+    return next_state(start, RIGTOMATO_BUDGET_LIMIT).kind == RIGTOMATO_NONE;
+}
+
+static void file_a(void)
+{
+    const uint64_t most = RIGTOMATO_BUDGET_LIMIT;
+    static const uint16_t words[] = {1, 3, 2, 2, 1, 2, 17, 2, 0, 0, 0, 1, 1, 1, 0, 2, 1};
+    static const char names[] = "\x06sensor\x04lamp\x04" "dark";
+
+    read_declared("(min sensor)\n(min lamp)\n(vary dark)\n(fix)\n");
+    CHECK(file.rules_len == sizeof words / sizeof words[0]);
+    CHECK(memcmp(file.rules, words, sizeof words) == 0);
+    CHECK(file.names_len == sizeof names - 1);
+    CHECK(memcmp(file.names, names, sizeof names - 1) == 0);
+
+    CHECK(is(preferred(6, most), RIGTOMATO_YES, 0, 8));
+    CHECK(is(preferred(1, most), RIGTOMATO_BEATEN, 6, 7));
+    CHECK(is(preferred(0, most), RIGTOMATO_BROKEN, 0, 0));
+    CHECK(is(preferred(2, most), RIGTOMATO_BROKEN, 1, 0));
+    CHECK(is(preferred(1, 6), RIGTOMATO_SPENT, 0, 6));
+    CHECK(is(preferred(1, 7), RIGTOMATO_BEATEN, 6, 7));
+    CHECK(is(preferred(8, most), RIGTOMATO_REFUSED, RIGTOMATO_SET_TOO_LARGE, 0));
+    CHECK(is(preferred(7, most + 1), RIGTOMATO_REFUSED, RIGTOMATO_BUDGET_TOO_LARGE, 0));
+    CHECK(is(next_state(0, most), RIGTOMATO_STATE, 6, 29));
+    CHECK(is(next_state(0, 28), RIGTOMATO_SPENT, 0, 28));
+    CHECK(is(next_state(7, most), RIGTOMATO_NONE, 0, 3));
+    CHECK(is(next_state(8, 0), RIGTOMATO_NONE, 0, 0));
+    CHECK(is(next_state(9, 0), RIGTOMATO_REFUSED, RIGTOMATO_SET_TOO_LARGE, 0));
+    CHECK(is(rigtomato_stable(file.rules, file.rules_len, 0, 0), RIGTOMATO_REFUSED,
+             RIGTOMATO_RULE_STORE, 0));
+    CHECK(states_are(1, (const uint64_t[]){6}));
+}
+
+static void file_a_declared_otherwise(void)
+{
+    read_declared("(min sensor lamp)\n(vary dark)\n(fix)\n");
+    CHECK(states_are(3, (const uint64_t[]){1, 5, 6}));
+    read_declared("(min lamp)\n(min sensor)\n(vary dark)\n(fix)\n");
+    CHECK(states_are(2, (const uint64_t[]){2, 6}));
+    read_declared("(min sensor)\n(min lamp)\n(vary)\n(fix dark)\n");
+    CHECK(states_are(2, (const uint64_t[]){1, 6}));
+    CHECK(is(preferred(1, RIGTOMATO_BUDGET_LIMIT), RIGTOMATO_YES, 0, 4));
+}
+
+/* The text comes back from the stores, into an output exact, one byte short and longer. */
+static void written(const char *text)
+{
+    static uint8_t out[4096];
+    size_t length = strlen(text);
+    CHECK(read_text(text, length).refusal == 0);
+    for (size_t lent = length - 1; lent <= length + 2; lent++) {
+        memset(out, 0xa5, sizeof out);
+        struct rigtomato_text_answer answer = rigtomato_write(
+            file.rules, file.rules_len, file.names, file.names_len, out, lent);
+        size_t done = 0;
+        if (lent < length) {
+            CHECK(answer.refusal == RIGTOMATO_OUTPUT_SHORT && answer.bytes == 0);
+        } else {
+            CHECK(answer.refusal == 0 && answer.bytes == length);
+            CHECK(memcmp(out, text, length) == 0);
+            done = length;
+        }
+        int kept = 1;
+        for (size_t i = done; i < sizeof out; i++)
+            kept = kept && out[i] == 0xa5;
+        CHECK(kept);
+    }
+}
+
+/* Translates, reads the delivered text again and gives its atoms, rules and occurrences. */
+static void translated(const char *text, unsigned atoms, unsigned rules, unsigned occurrences)
+{
+    static uint8_t out[RIGTOMATO_TEXT_LIMIT];
+    CHECK(read_text(text, strlen(text)).refusal == 0);
+    struct rigtomato_text_answer answer = rigtomato_translate(
+        file.rules, file.rules_len, file.names, file.names_len, out, sizeof out);
+    CHECK(answer.refusal == 0);
+    CHECK(read_text((const char *)out, answer.bytes).refusal == 0);
+    CHECK(file.rules[0] == 0 && file.rules[1] == atoms && file.rules[3] == rules);
+    CHECK(file.rules_len == 4 + 3 * rules + occurrences);
+    answer = rigtomato_translate(file.rules, file.rules_len, file.names, file.names_len, out,
+                                 sizeof out);
+    CHECK(answer.refusal == RIGTOMATO_RULE_STORE && answer.bytes == 0);
+}
+
+static void small_files(void)
+{
+    CHECK(read_text("(vary)\n(fix)\n", 13).refusal == 0);
+    CHECK(states_are(1, (const uint64_t[]){0}));
+    translated("(vary)\n(fix)\n", 2, 4, 7);
+    const char *broken = "(vary)\n(fix)\n(rule (head) (body) (not))\n";
+    CHECK(read_text(broken, strlen(broken)).refusal == 0);
+    CHECK(next_state(0, RIGTOMATO_BUDGET_LIMIT).kind == RIGTOMATO_NONE);
+    translated("(min sensor)\n(vary dark)\n(fix)\n(rule (head sensor dark) (body) (not))\n", 10, 19,
+               46);
+}
+
+static void refusals(void)
+{
+    struct rigtomato_read_answer answer = rigtomato_read(NULL, 0, NULL, 0, NULL, 0);
+    CHECK(answer.refusal == RIGTOMATO_FORM && answer.line == 1);
+    answer = read_text("(min a)\n(vary a)\n(fix)\n", 23);
+    CHECK(answer.refusal == RIGTOMATO_DECLARED_TWICE && answer.line == 2);
+    CHECK(answer.words == 0 && answer.bytes == 0);
+    CHECK(is(rigtomato_preferred(NULL, 0, 0, 0), RIGTOMATO_REFUSED, RIGTOMATO_RULE_STORE, 0));
+    /* A plain program: `a` if not `b`, `b` if not `a`. */
+    const char *plain = "(atoms a b)\n(rule (head a) (body) (not b))\n"
+                        "(rule (head b) (body) (not a))\n";
+    CHECK(read_text(plain, strlen(plain)).refusal == 0);
+    CHECK(is(rigtomato_stable(file.rules, file.rules_len, 1, 1), RIGTOMATO_YES, 0, 1));
+    CHECK(is(rigtomato_stable(file.rules, file.rules_len, 3, 1), RIGTOMATO_BEATEN, 0, 1));
+    CHECK(is(rigtomato_stable(file.rules, file.rules_len, 0, 1), RIGTOMATO_BROKEN, 0, 0));
+    CHECK(is(preferred(0, 0), RIGTOMATO_REFUSED, RIGTOMATO_RULE_STORE, 0));
+}
+
+int main(void)
+{
+    file_a();
+    file_a_declared_otherwise();
+    written("(min sensor)\n(min lamp)\n(vary dark)\n(fix)\n"
+            "(rule (head sensor lamp) (body) (not))\n(rule (head dark) (body lamp) (not))\n");
+    small_files();
+    refusals();
+    printf("tests/c/sheet.c: %d checks, %d failed\n", checks, failures);
+    return failures != 0;
+}

@@ -1,0 +1,78 @@
+#!/usr/bin/env python3
+"""Compares, for each preference file, the stable models of its delivered translation, as clingo
+finds them, cut down to the file's atoms, with the listed states.
+
+usage: run.py TRANSLATE STATES FILE..
+
+TRANSLATE and STATES are commands that read a preference file from standard input.
+"""
+import json
+import re
+import shlex
+import subprocess
+import sys
+
+from to_clingo import convert
+
+
+def output(command, path):
+    with open(path, "rb") as text:
+        return subprocess.run(shlex.split(command), stdin=text, capture_output=True, check=True).stdout.decode()
+
+
+def declared(path):
+    """The file's atoms in declared order."""
+    names = []
+    with open(path) as text:
+        for line in text:
+            word, *rest = line.strip().strip("()").split(" ")
+            if word in ("min", "vary", "fix"):
+                names += rest
+    return names
+
+
+def stable_models(program):
+    """Each stable model as a set of atom numbers; every model once for each time it is found."""
+    command = ["clingo", "--outf=2", "--warn=none", "0"]
+    solved = subprocess.run(command, input=program.encode(), capture_output=True)
+    answer = json.loads(solved.stdout)
+    if answer["Result"] not in ("SATISFIABLE", "UNSATISFIABLE"):
+        raise ValueError("clingo: " + answer["Result"] + solved.stderr.decode())
+    models = answer["Call"][0].get("Witnesses", [])
+    return [{int(re.fullmatch(r"x\((\d+)\)", atom).group(1)) for atom in model.get("Value", [])} for model in models]
+
+
+def listed_states(listing):
+    *states, total = listing.splitlines()
+    if total != f"(total {len(states)})":
+        raise ValueError("no complete listing: " + total)
+    return [tuple(re.fullmatch(r"\(state((?: [^ ()]+)*)\)", line).group(1).split()) for line in states]
+
+
+def difference(translate, states, path):
+    names = declared(path)
+    listed = listed_states(output(states, path))
+    models = stable_models(convert(output(translate, path)))
+    cut = [tuple(names[i] for i in sorted(model) if i < len(names)) for model in models]
+    if sorted(cut) != sorted(listed):
+        return len(listed), f"{path}: listed {sorted(listed)}, clingo {sorted(cut)}"
+    return len(listed), None
+
+
+def main():
+    translate, states, *paths = sys.argv[1:]
+    found = []
+    total = 0
+    for path in paths:
+        count, fault = difference(translate, states, path)
+        total += count
+        if fault:
+            found.append(fault)
+    for fault in found:
+        print(fault)
+    print(f"{len(paths)} files, {total} states, {len(found)} differences")
+    return 1 if found or not paths else 0
+
+
+if __name__ == "__main__":
+    sys.exit(main())
