@@ -37,11 +37,11 @@ use Rattle.pairing.proofs.PlainNames.{plain-names, file-names}
 use Rattle.translation.specs.Answers.{translationText, storesTranslation, translateAnswer, translateOutput}
 use Rattle.rigtomato.specs.Demand3.{Handed, delivered, ReadsAs, Demand3, Demand3Holds}
 
-true-of : (b : Bool) → T b → b ≡ true
+pub true-of : (b : Bool) → T b → b ≡ true
 true-of true t = refl
 true-of false t = absurd t
 
-never : {A : Type 0} → _≡_ {A = ℕ} 0 1 → A
+pub never : {A : Type 0} → _≡_ {A = ℕ} 0 1 → A
 never z = absurd (omega arith)
 
 -- a text that was accepted
@@ -54,7 +54,7 @@ pub record Filled (text : List ℕ) (rules names : ℕ) (words bytes : ℕ) : Ty
   pub rules-room : length (ruleWordsOf file) ≤ rules
   pub names-room : length (nameBytesOf file) ≤ names
 
-filled : (text : List ℕ) (rules names words bytes : ℕ) → readAnswer text rules names ≡ Accepted words bytes → Filled text rules names words bytes
+pub filled : (text : List ℕ) (rules names words bytes : ℕ) → readAnswer text rules names ≡ Accepted words bytes → Filled text rules names words bytes
 unfolding readAnswer
 filled text rules names words bytes e = by-said (said text) refl e
   where
@@ -78,7 +78,7 @@ filled text rules names words bytes e = by-said (said text) refl e
     by-said (refused f k) q r = never (cc)
 
 -- an accepted text, with outputs that are long enough
-reads-as : (text : List ℕ) (st : State) → said text ≡ accepted st → ReadsAs text st
+pub reads-as : (text : List ℕ) (st : State) → said text ≡ accepted st → ReadsAs text st
 unfolding readAnswer readRules readNames
 reads-as text st e = record {
   lines = e;
@@ -87,7 +87,7 @@ reads-as text st e = record {
   names-filled = λ rules names r n. rw (e, le-leb _ _ r, le-leb _ _ n);
 }
 
-front : (w before : List ℕ) → take (length w) (over w before) ≡ w
+pub front : (w before : List ℕ) → take (length w) (over w before) ≡ w
 front w before = take-append-seam w (drop (length w) before)
 
 -- the translator on the stores of a program of the form
@@ -102,10 +102,10 @@ module _ (p : Program) (form : Form p) (names : List (List ℕ)) (fit : NamesFor
     pub size-is : size ≡ length (translationText p names)
     pub room-for : length (translationText p names) ≤ room
 
-  named : p .kind ≡ Preference → names? Preference (p .atoms) (encodeNames names) ≡ true
+  pub named : p .kind ≡ Preference → names? Preference (p .atoms) (encodeNames names) ≡ true
   named k = true-of _ (names-law Preference (p .atoms) (encodeNames names) .1 (names, record { form = subst (λ (c : Kind). NamesForm c (p .atoms) names) k fit; bytes = refl }))
 
-  stores-text : storesTranslation (encode p) (encodeNames names) ≡ translationText p names
+  pub stores-text : storesTranslation (encode p) (encodeNames names) ≡ translationText p names
   unfolding storesTranslation
   stores-text = rw (decode-encode p form, decode-names fit)
 

@@ -12,11 +12,11 @@ use Rattle.pairing.specs.Atoms.{declared}
 use Rattle.pairing.specs.Steps.{step1, step2, step3, step4, step5, step6, step7, step8, step9, step10, translation}
 use Rattle.pairing.specs.Translated.{translatedRules}
 use Rattle.verdicts.specs.Walk.{preferredWalk, candidates, search, capped, preferredNeeds, preferredVerdict, firstState, cappedNext, nextVerdict}
-use Rattle.rigtomato.specs.Printed.{digits, stateLine, totalLine, listing, printed, statesOf, statesPrinted}
+use Rattle.rigtomato.specs.Printed.{digits, stateLine, totalLine, listing, wholeListing, printed, statesOf, statesPrinted}
 use Rattle.rigtomato.specs.Sheet.{fileA, oneClass, lampFirst, darkFixed, nothing, emptyRule, oneRule, listingA, Sheet}
 
 pub sheet : Sheet
-unfolding fileA oneClass lampFirst darkFixed nothing emptyRule oneRule listingA nameClass house? classNumber? allowed sameBytes listLine openText lines linesFrom lineLength items itemsFrom run span cutNames cutList declaredForm ruleForm formOf twice numberOf declare addRule start readLines said declared step1 step2 step3 step4 step5 step6 step7 step8 step9 step10 translation translatedRules preferredWalk candidates search capped preferredNeeds preferredVerdict firstState cappedNext nextVerdict digits stateLine totalLine listing printed statesOf statesPrinted
+unfolding fileA oneClass lampFirst darkFixed nothing emptyRule oneRule listingA nameClass house? classNumber? allowed sameBytes listLine openText lines linesFrom lineLength items itemsFrom run span cutNames cutList declaredForm ruleForm formOf twice numberOf declare addRule start readLines said declared step1 step2 step3 step4 step5 step6 step7 step8 step9 step10 translation translatedRules preferredWalk candidates search capped preferredNeeds preferredVerdict firstState cappedNext nextVerdict digits stateLine totalLine listing wholeListing printed statesOf statesPrinted
 sheet = record {
   a-6 = refl;
   a-1 = refl;

@@ -1,2 +1,76 @@
-// The public entry points (document 01).
+// The public entry points (document 01). None asks anything of its caller.
+pub mod capi;
 pub mod fields;
+mod listing;
+mod printing;
+mod programs;
+
+ghost use mathlib.Core.Path.{_≡_};
+ghost use lib.ListN.{length};
+ghost use Rattle.writer.specs.Answers.{over, writeAnswer, writeOutput};
+ghost use Rattle.reader.specs.Answers.{readAnswer, readRules, readNames};
+ghost use Rattle.translation.specs.Answers.{translateAnswer, translateOutput};
+ghost use Rattle.verdicts.specs.Answers.{preferredAnswer, stableAnswer, nextAnswer};
+ghost use Rattle.rigtomato.specs.Printed.{translatePrinted, statesPrinted, shown};
+
+// A text of either kind into its two stores.
+pub fn read(text: &[u8], rules: &mut [u16], names: &mut [u8]) -> reader::answers::Read
+    ensures answer { λ r. ⌜ r ≡ readAnswer (now (text .entry)) (length (now (rules .entry))) (length (now (names .entry))) ⌝ }
+    ensures rules { λ r. ⌜ now (rules .exit) ≡ readRules (now (text .entry)) (now (rules .entry)) (now (names .entry)) ⌝ }
+    ensures names { λ r. ⌜ now (names .exit) ≡ readNames (now (text .entry)) (now (rules .entry)) (now (names .entry)) ⌝ }
+{
+    reader::read(text, rules, names)
+}
+
+// The text of two stores.
+pub fn write(rules: &[u16], names: &[u8], out: &mut [u8]) -> writer::Written
+    ensures answer { λ r. ⌜ r ≡ writeAnswer (now (rules .entry)) (now (names .entry)) (length (now (out .entry))) ⌝ }
+    ensures output { λ r. ⌜ now (out .exit) ≡ writeOutput (now (rules .entry)) (now (names .entry)) (now (out .entry)) ⌝ }
+{
+    writer::write(rules, names, out)
+}
+
+// The text of the plain program of a preference file's stores.
+pub fn translate(rules: &[u16], names: &[u8], out: &mut [u8]) -> writer::Written
+    ensures answer { λ r. ⌜ r ≡ translateAnswer (now (rules .entry)) (now (names .entry)) (length (now (out .entry))) ⌝ }
+    ensures output { λ r. ⌜ now (out .exit) ≡ translateOutput (now (rules .entry)) (now (names .entry)) (now (out .entry)) ⌝ }
+{
+    translation::translate(rules, names, out)
+}
+
+// Whether a set of a preference store's atoms is preferred.
+pub fn preferred(rules: &[u16], set: u64, budget: u64) -> verdicts::answers::Verdict
+    ensures { λ r. ⌜ r ≡ preferredAnswer (now (rules .entry)) set budget ⌝ }
+{
+    verdicts::preferred::preferred(rules, set, budget)
+}
+
+// Whether a set of a plain store's atoms is stable.
+pub fn stable(rules: &[u16], set: u64, budget: u64) -> verdicts::answers::Verdict
+    ensures { λ r. ⌜ r ≡ stableAnswer (now (rules .entry)) set budget ⌝ }
+{
+    verdicts::stable::stable(rules, set, budget)
+}
+
+// The least preferred set from a number on.
+pub fn next_state(rules: &[u16], start: u64, budget: u64) -> verdicts::answers::NextState
+    ensures { λ r. ⌜ r ≡ nextAnswer (now (rules .entry)) start budget ⌝ }
+{
+    verdicts::next::next_state(rules, start, budget)
+}
+
+// What the translator prints on a text; nothing where the output has no room for it.
+pub fn translate_text(text: &[u8], out: &mut [u8]) -> usize
+    ensures size { λ r. ⌜ r ≡ length (shown (translatePrinted (now (text .entry))) (now (out .entry))) ⌝ }
+    ensures output { λ r. ⌜ now (out .exit) ≡ over (shown (translatePrinted (now (text .entry))) (now (out .entry))) (now (out .entry)) ⌝ }
+{
+    programs::translate_text(text, out)
+}
+
+// What the lister prints on a text; nothing where the output has no room for it.
+pub fn states_text(text: &[u8], out: &mut [u8]) -> usize
+    ensures size { λ r. ⌜ r ≡ length (shown (statesPrinted (now (text .entry))) (now (out .entry))) ⌝ }
+    ensures output { λ r. ⌜ now (out .exit) ≡ over (shown (statesPrinted (now (text .entry))) (now (out .entry))) (now (out .entry)) ⌝ }
+{
+    programs::states_text(text, out)
+}

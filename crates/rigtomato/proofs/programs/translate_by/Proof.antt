@@ -1,0 +1,91 @@
+use Rattle.rigtomato.proofs.ProgramTexts.{rules-part, names-part, refused-text, accepted-text, translated-stores}
+use Rattle.rigtomato.proofs.PrintedLines.{shown-renamed}
+use Rattle.rigtomato.specs.Printed.{translatePrinted}
+use Rattle.rigtomato.specs.StoresPrinted.{storesTranslated}
+use native.Mathlib.Omega.{arith}
+use borrow.Author.Needs.{needs}
+use Rattle.rigtomato.proofs.programs.translate_by.Statement.{statement}
+use Rattle.rigtomato.proofs.programs.translate_by.Tie as tie
+
+read-requires : tie.Need-read-requires
+read-requires c κs = search needs
+
+enum-known-answer : tie.Need-enum-known-answer
+enum-known-answer c = search needs
+
+sub-show-translation : tie.Need-sub-show-translation
+sub-show-translation c = search needs
+
+part-show-translation-start : tie.Need-part-show-translation-start
+part-show-translation-start c = search needs
+
+part-show-translation-end : tie.Need-part-show-translation-end
+part-show-translation-end c = omega (arith, rules-part (c .before .before .before .before .before .before .before .before .before .before .before .before .before .before .before .args .text .now) (c .before .before .before .before .before .before .before .before .before .before .before .before .before .before .before .args .rules .now) (c .before .before .before .before .before .before .before .before .before .before .before .before .before .before .before .args .names .now) (c .before .before .before .before .before .before .before .before .read .ensures .0) (c .before .before .answer .given .1) (c .before .before .before .before .before .before .before .before .read .ensures .1 .0) (c .before .before .before .before .before .before .before .before .read .ensures .1 .1))
+
+sub-show-translation-2 : tie.Need-sub-show-translation-2
+sub-show-translation-2 c = search needs
+
+part-show-translation-start-2 : tie.Need-part-show-translation-start-2
+part-show-translation-start-2 c = search needs
+
+part-show-translation-end-2 : tie.Need-part-show-translation-end-2
+part-show-translation-end-2 c = omega (arith, names-part (c .before .before .before .before .before .before .before .before .before .before .before .before .before .before .before .before .before .args .text .now) (c .before .before .before .before .before .before .before .before .before .before .before .before .before .before .before .before .before .args .rules .now) (c .before .before .before .before .before .before .before .before .before .before .before .before .before .before .before .before .before .args .names .now) (c .before .before .before .before .before .before .before .before .before .before .read .ensures .0) (c .before .before .before .before .answer .given .1) (c .before .before .before .before .before .before .before .before .before .before .read .ensures .1 .0) (c .before .before .before .before .before .before .before .before .before .before .read .ensures .1 .1))
+
+show-translation-requires : tie.Need-show-translation-requires
+show-translation-requires c κs = search needs
+
+enum-known-answer-2 : tie.Need-enum-known-answer-2
+enum-known-answer-2 c = search needs
+
+show-refused-requires : tie.Need-show-refused-requires
+show-refused-requires c κs = search needs
+
+same-length : tie.Need-same-length
+same-length c = search needs
+
+same-length-2 : tie.Need-same-length-2
+same-length-2 c = search needs
+
+same-length-3 : tie.Need-same-length-3
+same-length-3 c = search needs
+
+returns : tie.Need-returns
+unfolding translatePrinted
+returns c = shown-renamed (accepted-text _ (c .before .before .before .before .before .before .before .before .before .before .before .before .before .before .before .before .before .before .before .before .before .before .args .text .now) (c .before .before .before .before .before .before .before .before .before .before .before .before .before .before .before .before .before .before .before .before .before .before .pre .0) (c .before .before .before .before .before .before .before .before .before .before .before .before .before .before .before .before .before .before .before .before .before .before .args .rules .now) (c .before .before .before .before .before .before .before .before .before .before .before .before .before .before .before .before .before .before .before .before .before .before .args .names .now) (c .before .before .before .before .before .before .before .before .before .before .before .before .before .before .before .before .before .before .before .before .before .before .pre .1) (c .before .before .before .before .before .before .before .before .before .before .before .before .before .before .before .before .before .before .before .before .before .before .pre .2) (c .before .before .before .before .before .before .before .before .before .before .before .before .before .before .before .read .ensures .0) (c .before .before .before .before .before .before .before .before .before .answer .given .1) (c .before .before .before .before .before .before .before .before .before .before .before .before .before .before .before .read .ensures .1 .0) (c .before .before .before .before .before .before .before .before .before .before .before .before .before .before .before .read .ensures .1 .1) storesTranslated translated-stores) (c .before .before .show-translation .ensures)
+
+same-length-4 : tie.Need-same-length-4
+same-length-4 c = search needs
+
+same-length-5 : tie.Need-same-length-5
+same-length-5 c = search needs
+
+same-length-6 : tie.Need-same-length-6
+same-length-6 c = search needs
+
+returns-2 : tie.Need-returns-2
+unfolding translatePrinted
+returns-2 c = shown-renamed (refused-text _ (c .before .before .before .before .before .before .before .before .before .before .before .before .before .before .before .before .before .before .args .text .now) (c .before .before .before .before .before .before .before .before .before .before .before .before .before .before .before .before .before .before .pre .0) (c .before .before .before .before .before .before .before .before .before .before .before .before .before .before .before .before .before .before .args .rules .now) (c .before .before .before .before .before .before .before .before .before .before .before .before .before .before .before .before .before .before .args .names .now) (c .before .before .before .before .before .before .before .before .before .before .before .before .before .before .before .before .before .before .pre .1) (c .before .before .before .before .before .before .before .before .before .before .before .before .before .before .before .before .before .before .pre .2) (c .before .before .before .before .before .before .before .before .before .before .before .read .ensures .0) (c .before .before .before .before .before .answer2 .given .1)) (c .before .before .show-refused .ensures)
+
+pub translate-by-spec : {M : Type 1} → statement M
+translate-by-spec =
+    tie.close
+    (tie.spec
+    read-requires
+    enum-known-answer
+    sub-show-translation
+    part-show-translation-start
+    part-show-translation-end
+    sub-show-translation-2
+    part-show-translation-start-2
+    part-show-translation-end-2
+    show-translation-requires
+    enum-known-answer-2
+    show-refused-requires
+    same-length
+    same-length-2
+    same-length-3
+    returns
+    same-length-4
+    same-length-5
+    same-length-6
+    returns-2)
