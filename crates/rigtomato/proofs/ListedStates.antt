@@ -22,10 +22,10 @@ use Rattle.rules.specs.Sets.{has}
 use Rattle.rules.proofs.Lists.{all-imp}
 use Rattle.stores.specs.Program.{Program, ClassesForm}
 use Rattle.stores.specs.RuleStore.{decode}
-use Rattle.stores.specs.Names.{allowed}
+use Rattle.names.specs.Names.{allowed}
 use Rattle.stores.proofs.RuleStores.{of-kind}
-use Rattle.stores.proofs.NamePlaces.{length-decode}
-use Rattle.stores.proofs.NameStores.{allowed-short}
+use Rattle.names.proofs.NamePlaces.{length-decode}
+use Rattle.names.proofs.NameStores.{allowed-short}
 use Rattle.writer.specs.Text.{item}
 use Rattle.writer.specs.Items.{storedNames}
 use Rattle.writer.specs.Emitted.{Emitted, InRange}

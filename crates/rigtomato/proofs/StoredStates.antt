@@ -14,11 +14,11 @@ use Rattle.kinds.specs.declared.refusals.Refusal.the-variants.{RuleStore as NoS
 use Rattle.stores.specs.RuleStore.{encode, decode, ruleStore}
 use Rattle.stores.specs.declared.rule_store.RuleStore.{RuleStore}
 use Rattle.stores.specs.declared.rule_store.RuleStore.the-variants.{Of, Refused}
-use Rattle.stores.specs.NameStore.{names?, decodeNames}
-use Rattle.stores.specs.NameIndex.{Indexed}
+use Rattle.names.specs.NameStore.{names?, decodeNames}
+use Rattle.names.specs.NameIndex.{Indexed}
 use Rattle.stores.proofs.RuleStores.{of-kind}
-use Rattle.stores.proofs.NameStores.{decoded-names}
-use Rattle.stores.proofs.NameEntries.{length-filled, filled}
+use Rattle.names.proofs.NameStores.{decoded-names}
+use Rattle.names.proofs.NameEntries.{length-filled, filled}
 use Rattle.writer.specs.Items.{storedNames}
 use Rattle.rigtomato.specs.Printed.{refusedText, sized, statesOf}
 use Rattle.rigtomato.specs.StoresPrinted.{Listable, storesListing, storesStates}

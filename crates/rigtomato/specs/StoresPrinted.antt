@@ -11,9 +11,9 @@ use Rattle.kinds.specs.declared.refusals.Refusal.the-variants.{RuleStore, NameS
 use Rattle.rules.specs.Lists.{All}
 use Rattle.stores.specs.RuleStore.{decode, ruleStore, isOf}
 use Rattle.stores.specs.declared.rule_store.RuleStore.the-variants.{Of}
-use Rattle.stores.specs.Names.{allowed}
-use Rattle.stores.specs.NameStore.{names?, decodeNames}
-use Rattle.stores.specs.NameIndex.{Placed}
+use Rattle.names.specs.Names.{allowed}
+use Rattle.names.specs.NameStore.{names?, decodeNames}
+use Rattle.names.specs.NameIndex.{Placed}
 use Rattle.writer.specs.Emitted.{Emitted}
 use Rattle.writer.specs.Items.{storedNames}
 use Rattle.writer.specs.declared.Written.{Written}

@@ -19,7 +19,7 @@ pub fn read(text: &[u8], rules: &mut [u16], names: &mut [u8]) -> reader::answers
     ensures rules { λ r. ⌜ now (rules .exit) ≡ readRules (now (text .entry)) (now (rules .entry)) (now (names .entry)) ⌝ }
     ensures names { λ r. ⌜ now (names .exit) ≡ readNames (now (text .entry)) (now (rules .entry)) (now (names .entry)) ⌝ }
 {
-    reader::reading::read(text, rules, names)
+    reader::read(text, rules, names)
 }
 
 // The text of two stores.

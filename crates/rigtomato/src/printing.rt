@@ -1,13 +1,13 @@
 // What the two programs print, line by line (document 01, "Sheets of known states").
 use kinds::refusals::Refusal;
-use stores::name_index::name_at;
+use names::index::name_at;
 use writer::emit::emit;
 use writer::emit::push;
 ghost use mathlib.Core.Path.{_≡_};
 ghost use Prim.Native.Nat.{_≤_, _<_};
 ghost use lib.ListN.{length};
 ghost use Rattle.rules.specs.Sets.{has};
-ghost use Rattle.stores.specs.NameIndex.{Placed};
+ghost use Rattle.names.specs.NameIndex.{Placed};
 ghost use Rattle.writer.specs.Emitted.{Emitted, InRange};
 ghost use Rattle.writer.specs.Items.{storedNames};
 ghost use Rattle.rigtomato.specs.Printed.{decimal, refusedText, member, members, stateLine, totalLine, Shown};

@@ -2,7 +2,7 @@ use Rattle.rigtomato.proofs.PrintedLines.{state-opens, parts}
 use Rattle.writer.proofs.AtomItems.{last-run}
 use Rattle.writer.proofs.Emitting.{start, turn, finish, range-begin, range-here}
 use mathlib.Core.Path.{refl}
-use Rattle.stores.proofs.NamePlaces.{length-decode}
+use Rattle.names.proofs.NamePlaces.{length-decode}
 use borrow.Author.Needs.{needs}
 use Rattle.rigtomato.proofs.printing.emit_state.Statement.{statement}
 use Rattle.rigtomato.proofs.printing.emit_state.Tie as tie
