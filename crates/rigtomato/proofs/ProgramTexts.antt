@@ -27,6 +27,7 @@ use Rattle.writer.specs.declared.Written.the-variants.{Text, Refused as NotWrit
 use Rattle.writer.specs.Answers.{over, fitted, writtenBytes}
 use Rattle.reader.specs.declared.answers.Read.{Read}
 use Rattle.reader.specs.declared.answers.Read.the-variants.{Accepted, Refused as NotRead}
+use Rattle.reader.specs.Gathered.{scratchWords, scratchBytes}
 use Rattle.reader.specs.Faults.{State}
 use Rattle.reader.specs.Said.{Said, accepted, refused, said, programOf}
 use Rattle.reader.specs.Answers.{readAnswer, readRules, readNames, ruleWordsOf, nameBytesOf, answerOf}
@@ -50,7 +51,7 @@ rules-words (r ∷ rs) =
       rules-words rs,
     )
 
-pub words-fit : (p : Program) → Form p → length (encode p) ≤ 36604
+pub words-fit : (p : Program) → Form p → length (encode p) ≤ scratchWords
 unfolding encode
 words-fit p f =
     let a = length-append (p .words) (flat ruleWords (p .rules)) in
@@ -61,7 +62,7 @@ words-fit p f =
     by-kind : (k : Kind) → length (p .words) ≡ wordCount k (p .atoms) → p .atoms ≤ atomLimit k → length (p .rules) ≤ ruleLimit k → sum occurrences (p .rules) ≤ occurrenceLimit k
         → length (p .words ++ flat ruleWords (p .rules)) ≡ length (p .words) + length (flat ruleWords (p .rules))
         → length (flat ruleWords (p .rules)) ≡ 3 * length (p .rules) + sum occurrences (p .rules)
-        → 4 + length (p .words ++ flat ruleWords (p .rules)) ≤ 36604
+        → 4 + length (p .words ++ flat ruleWords (p .rules)) ≤ scratchWords
     by-kind Plain c n r o a b = omega arith
     by-kind Preference c n r o a b = omega arith
 
@@ -70,13 +71,13 @@ unfolding encodeNames
 names-bytes [] h = omega arith
 names-bytes (x ∷ names) h = omega (arith, length-append (nameBytes x) (flat nameBytes names), names-bytes names (h .1), h .0)
 
-pub bytes-fit : (p : Program) (names : List (List ℕ)) → Form p → NamesForm (p .kind) (p .atoms) names → length (encodeNames names) ≤ 20900
+pub bytes-fit : (p : Program) (names : List (List ℕ)) → Form p → NamesForm (p .kind) (p .atoms) names → length (encodeNames names) ≤ scratchBytes
 bytes-fit p names f g = by-kind (p .kind) (f .atoms-fit)
   where
     short : length (encodeNames names) ≤ 19 * p .atoms
     short = omega (arith, names-bytes names (all-imp (λ x. T (allowed (p .kind) x)) (λ x. length x ≤ 18) (allowed-short (p .kind)) names (g .all-allowed)), g .count)
 
-    by-kind : (k : Kind) → p .atoms ≤ atomLimit k → length (encodeNames names) ≤ 20900
+    by-kind : (k : Kind) → p .atoms ≤ atomLimit k → length (encodeNames names) ≤ scratchBytes
     by-kind Plain l = omega (arith, short)
     by-kind Preference l = omega (arith, short)
 
@@ -199,7 +200,7 @@ module _ (f : Program → List (List ℕ) → List ℕ) (text : List ℕ) where
     unfolding readAnswer
     said-refused words bytes g k e = ap (λ (s : Said). answerOf s words bytes) e
 
-    module _ (rules names : List ℕ) (words : 36604 ≤ length rules) (bytes : 20900 ≤ length names) {answer : Read} (a : answer ≡ readAnswer text (length rules) (length names)) where
+    module _ (rules names : List ℕ) (words : scratchWords ≤ length rules) (bytes : scratchBytes ≤ length names) {answer : Read} (a : answer ≡ readAnswer text (length rules) (length names)) where
       pub refused-text : {r : Refusal} {line : ℕ} → answer ≡ NotRead r line → refusedText r line ≡ printed f text
       refused-text {r} {line} e = by-said (said text) refl
         where

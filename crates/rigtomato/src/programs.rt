@@ -5,19 +5,16 @@ use crate::printing::show_refused;
 use kinds::limits::Kind;
 use kinds::refusals::Refusal;
 use reader::answers::Read;
+use reader::gathered::Scratch;
 use reader::read;
 use translation::translate;
 use writer::Written;
 ghost use Prim.Native.Nat.{_≤_};
 ghost use lib.ListN.{length};
 ghost use Rattle.kinds.specs.Limits.{streamLimit};
+ghost use Rattle.reader.specs.Gathered.{scratchWords, scratchBytes};
 ghost use Rattle.rigtomato.specs.Printed.{translatePrinted, statesPrinted, Shown};
 ghost use Rattle.rigtomato.specs.StoresPrinted.{storesTranslated};
-
-// The stores of any accepted text fit: a plain program's words, and its names of 18 bytes with their lengths.
-const WORDS: usize = 36604;
-
-const BYTES: usize = 20900;
 
 // What the translator prints on two stores.
 fn show_translation(rules: &[u16], names: &[u8], out: &mut [u8]) -> usize
@@ -33,7 +30,7 @@ fn show_translation(rules: &[u16], names: &[u8], out: &mut [u8]) -> usize
 
 // The translation of a text, with room for its stores.
 fn translate_by(text: &[u8], rules: &mut [u16], names: &mut [u8], out: &mut [u8]) -> usize
-    requires { ⌜ (length (now text) ≤ streamLimit) × (36604 ≤ length (now rules)) × (20900 ≤ length (now names)) ⌝ }
+    requires { ⌜ (length (now text) ≤ streamLimit) × (scratchWords ≤ length (now rules)) × (scratchBytes ≤ length (now names)) ⌝ }
     ensures { λ r. ⌜ Shown (translatePrinted (now (text .entry))) (now (out .entry)) (now (out .exit)) r ⌝ }
 {
     let answer = read(text, rules, names);
@@ -49,7 +46,7 @@ fn translate_by(text: &[u8], rules: &mut [u16], names: &mut [u8], out: &mut [u8]
 
 // The states of a text, with room for its stores.
 fn states_by(text: &[u8], rules: &mut [u16], names: &mut [u8], out: &mut [u8]) -> usize
-    requires { ⌜ (length (now text) ≤ streamLimit) × (36604 ≤ length (now rules)) × (20900 ≤ length (now names)) ⌝ }
+    requires { ⌜ (length (now text) ≤ streamLimit) × (scratchWords ≤ length (now rules)) × (scratchBytes ≤ length (now names)) ⌝ }
     ensures { λ r. ⌜ Shown (statesPrinted (now (text .entry))) (now (out .entry)) (now (out .exit)) r ⌝ }
 {
     let answer = read(text, rules, names);
@@ -66,8 +63,8 @@ pub fn translate_text(text: &[u8], out: &mut [u8]) -> usize
     if Kind::STREAM < text.len() {
         return show_refused(Refusal::TextTooLong, 0, out);
     }
-    let mut rules = [0u16; WORDS];
-    let mut names = [0u8; BYTES];
+    let mut rules = [0u16; Scratch::WORDS];
+    let mut names = [0u8; Scratch::BYTES];
     translate_by(text, &mut rules, &mut names, out)
 }
 
@@ -78,7 +75,7 @@ pub fn states_text(text: &[u8], out: &mut [u8]) -> usize
     if Kind::STREAM < text.len() {
         return show_refused(Refusal::TextTooLong, 0, out);
     }
-    let mut rules = [0u16; WORDS];
-    let mut names = [0u8; BYTES];
+    let mut rules = [0u16; Scratch::WORDS];
+    let mut names = [0u8; Scratch::BYTES];
     states_by(text, &mut rules, &mut names, out)
 }
