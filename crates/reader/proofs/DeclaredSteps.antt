@@ -20,8 +20,8 @@ use Rattle.names.specs.NameStore.{decodeNames}
 use Rattle.names.specs.NameIndex.{Indexed}
 use Rattle.stores.specs.RuleStore.{ruleWords, wordCount}
 use Rattle.names.proofs.NameStores.{allowed-short}
-use Rattle.reader.specs.declared.answers.Stage.{Stage}
-use Rattle.reader.specs.declared.answers.Stage.the-variants.{Declaring, Fixing, Ruling}
+use Rattle.reader.specs.declared.stage.Stage.{Stage}
+use Rattle.reader.specs.declared.stage.Stage.the-variants.{Declaring, Fixing, Ruling}
 use Rattle.reader.specs.declared.forms.Keyword.{Keyword}
 use Rattle.reader.specs.declared.gathered.Gathered.{Gathered}
 use Rattle.reader.specs.declared.gathered.Line.{Line}

@@ -19,8 +19,9 @@ use Rattle.reader.specs.declared.gathered.Gathered.{Gathered}
 use Rattle.reader.specs.Faults.{State}
 use Rattle.reader.specs.Answers.{ruleWordsOf, nameBytesOf}
 use Rattle.reader.specs.Gathered.{storedWords, Held}
-use Rattle.reader.specs.Gathering.{headerWords, Delivered}
-use Rattle.reader.proofs.HeldState.{sets-seam, behind, held-small}
+use Rattle.reader.specs.Delivered.{headerWords, Delivered}
+use Rattle.writer.proofs.Emitting.{sets-seam}
+use Rattle.reader.proofs.HeldState.{behind, held-small}
 
 over-is : (d w : List ℕ) → length w ≤ length d → sets d 0 w ≡ over w d
 over-is d w l = sets-seam [] d w l

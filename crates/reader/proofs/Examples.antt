@@ -7,7 +7,7 @@ use Rattle.rules.specs.Rules.{rule}
 use Rattle.names.specs.Names.{nameClass, house?, classNumber?, allowed}
 use Rattle.names.specs.NameStore.{sameBytes}
 use Rattle.writer.specs.Text.{textOf, listLine, openText, ruleLine}
-use Rattle.reader.specs.declared.answers.Stage.the-variants.{Ruling}
+use Rattle.reader.specs.declared.stage.Stage.the-variants.{Ruling}
 use Rattle.reader.specs.Lines.{lines, linesFrom, lineLength}
 use Rattle.reader.specs.Items.{items, itemsFrom, run, span}
 use Rattle.reader.specs.Forms.{cutNames, cutList, declaredForm, ruleForm, formOf}

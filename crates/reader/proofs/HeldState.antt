@@ -15,22 +15,15 @@ use Rattle.names.specs.NameStore.{encodeNames, decodeNames}
 use Rattle.stores.specs.RuleStore.{ruleWords, wordCount, rulesFrom}
 use Rattle.names.specs.NameIndex.{Indexed}
 use Rattle.stores.proofs.RuleTests.{rule-front, past-front}
+use Rattle.names.proofs.NameStores.{decode-front}
 use Rattle.names.proofs.NameEntries.{length-filled, filled}
+use Rattle.writer.proofs.Emitting.{sets-seam}
 use Rattle.reader.specs.declared.gathered.Gathered.{Gathered}
 use Rattle.reader.specs.Faults.{State}
 use Rattle.reader.specs.Gathered.{stateOf, storedWords, Filled, Held}
 use Rattle.reader.proofs.KeptRules.{rules-small, occurrences-small}
 
 -- decoding what stands at the front
-
-pub names-front : (names : List (List ℕ)) (rest : List ℕ) → decodeNames (length names) (encodeNames names ++ rest) ≡ names
-unfolding decodeNames encodeNames
-names-front [] rest = refl
-names-front (x ∷ names) rest =
-    let tail : x ++ (encodeNames names ++ rest) ≡ (x ++ encodeNames names) ++ rest = sym (append-assoc x (encodeNames names) rest) in
-    let first : take (length x) ((x ++ encodeNames names) ++ rest) ≡ x = ap (take (length x)) (sym tail) ∙ take-append-seam x (encodeNames names ++ rest) in
-    let past : drop (1 + length x) (length x ∷ ((x ++ encodeNames names) ++ rest)) ≡ encodeNames names ++ rest = rw (one-add (length x)) (ap (drop (length x)) (sym tail) ∙ drop-append-seam x (encodeNames names ++ rest)) in
-    ap₂ _∷_ first (ap (decodeNames (length names)) past ∙ names-front names rest)
 
 pub rules-front : (rs : List (Rule ℕ)) (rest : List ℕ) → rulesFrom (length rs) (flat ruleWords rs ++ rest) ≡ rs
 unfolding rulesFrom
@@ -45,16 +38,6 @@ rules-front (r ∷ rs) rest =
 module _ {d : List ℕ} {skipped used : ℕ} {list : List ℕ} (f : Filled d skipped used list) where
   pub behind : drop skipped d ≡ list ++ f .rest
   behind = ap (drop skipped) (f .is ∙ append-assoc (f .front) list (f .rest)) ∙ drop-at (f .front) (list ++ f .rest) skipped (f .before)
-
-pub sets-seam : (p q w : List ℕ) → length w ≤ length q → sets (p ++ q) (length p) w ≡ p ++ (w ++ drop (length w) q)
-sets-seam p q [] l = refl
-sets-seam p [] (a ∷ w) l = absurd (omega arith)
-sets-seam p (b ∷ q) (a ∷ w) l =
-    let here : set (p ++ (b ∷ q)) (length p) a ≡ (p ++ (a ∷ [])) ++ q = set-append-seam p b q a ∙ sym (append-assoc p (a ∷ []) q) in
-    let place : suc (length p) ≡ length (p ++ (a ∷ [])) = sym (length-append p (a ∷ []) ∙ add-one (length p)) in
-    ap₂ (λ (x : List ℕ) (k : ℕ). sets x k w) here place
-    ∙ sets-seam (p ++ (a ∷ [])) q w (omega arith)
-    ∙ append-assoc p (a ∷ []) (w ++ drop (length w) q)
 
 pub fill-more : {d : List ℕ} {skipped used : ℕ} {list : List ℕ} → Filled d skipped used list → (w : List ℕ) → used + length w ≤ length d → Filled (sets d used w) skipped (used + length w) (list ++ w)
 fill-more {d} {skipped} {used} {list} f w l =
@@ -82,7 +65,7 @@ held-is {kind} {st} {g} {words} {bytes} h =
     let all : drop 4 words ≡ st .words ++ (flat ruleWords (st .program-rules) ++ rest) = behind (h .stored) ∙ append-assoc (st .words) (flat ruleWords (st .program-rules)) rest in
     let class-words : take c (drop 4 words) ≡ st .words = ap (take c) all ∙ take-at (st .words) (flat ruleWords (st .program-rules) ++ rest) c (h .class-words) in
     let names : decodeNames (g .atoms) bytes ≡ st .names =
-    ap₂ decodeNames (h .atoms-is) (sym (h .index .placed .stored)) ∙ names-front (st .names) (drop (length (encodeNames (st .names))) bytes) in
+    ap₂ decodeNames (h .atoms-is) (sym (h .index .placed .stored)) ∙ decode-front (st .names) (drop (length (encodeNames (st .names))) bytes) in
     let rules : rulesFrom (g .rules) (drop (4 + c) words) ≡ st .program-rules =
     ap₂ rulesFrom (h .rules-is) (sym (drop-drop c 4 words) ∙ ap (drop c) all ∙ drop-at (st .words) (flat ruleWords (st .program-rules) ++ rest) c (h .class-words))
     ∙ rules-front (st .program-rules) rest in

@@ -17,7 +17,7 @@ use Rattle.reader.specs.declared.gathered.Gathered.{Gathered}
 use Rattle.reader.specs.declared.gathered.Line.the-variants.{Next, Fault}
 use Rattle.reader.specs.declared.forms.Keyword.{Keyword}
 use Rattle.reader.specs.declared.forms.Keyword.the-variants.{Atoms, Min, Vary, Fix}
-use Rattle.reader.specs.declared.answers.Stage.{Stage}
+use Rattle.reader.specs.declared.stage.Stage.{Stage}
 use Rattle.reader.specs.Forms.{Word}
 use Rattle.reader.specs.Faults.{stageAfter, classesAfter, classWords}
 use Rattle.reader.specs.Shapes.{wordOf}

@@ -11,15 +11,15 @@ use lib.Seq.{sets, drop-append-seam}
 use Rattle.rules.specs.Lists.{All, some}
 use Rattle.names.specs.NameStore.{nameBytes, encodeNames, decodeNames, sameBytes}
 use Rattle.names.specs.NameIndex.{new?, nameHash, Indexed}
-use Rattle.names.proofs.NameStores.{not-seen}
+use Rattle.names.proofs.NameStores.{decode-front, not-seen}
 use Rattle.names.proofs.NameEntries.{entered}
 use Rattle.writer.specs.Emitted.{Emitted, InRange}
 use Rattle.reader.specs.Entries.{EntryRoom, EntrySays, EntryIs}
-use Rattle.reader.proofs.HeldState.{names-front, sets-seam}
+use Rattle.writer.proofs.Emitting.{sets-seam}
 
 -- the names of an index are those of its bytes
 pub decoded : {names : List (List ℕ)} {bytes starts heads links : List ℕ} → Indexed names bytes starts heads links → decodeNames (length names) bytes ≡ names
-decoded {names} {bytes} ix = ap (decodeNames (length names)) (sym (ix .placed .stored)) ∙ names-front names (drop (length (encodeNames names)) bytes)
+decoded {names} {bytes} ix = ap (decodeNames (length names)) (sym (ix .placed .stored)) ∙ decode-front names (drop (length (encodeNames names)) bytes)
 
 module _ {names : List (List ℕ)} {bytes starts heads links : List ℕ} (ix : Indexed names bytes starts heads links) {x : List ℕ} {atom at : ℕ} (room : EntryRoom names x bytes starts links atom at) where
   pub name-range : (length x < 256) × InRange at (nameBytes x)

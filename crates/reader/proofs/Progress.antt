@@ -20,8 +20,8 @@ use Rattle.names.specs.NameStore.{NamesForm}
 use Rattle.stores.specs.Program.{Form, RoleForm, roleOf, ListForm, NotForm, RuleForm}
 use Rattle.writer.specs.Words.{atomsWord, minWord, varyWord, fixWord}
 use Rattle.writer.specs.Text.{listLine, ruleLine, ruleText, declarations, textOf}
-use Rattle.reader.specs.declared.answers.Stage.{Stage}
-use Rattle.reader.specs.declared.answers.Stage.the-variants.{Declaring, Fixing, Ruling}
+use Rattle.reader.specs.declared.stage.Stage.{Stage}
+use Rattle.reader.specs.declared.stage.Stage.the-variants.{Declaring, Fixing, Ruling}
 use Rattle.reader.specs.Forms.{Word, atoms, min, vary, fix, declares, rules, broken, formOf, begins, tagOf}
 use Rattle.reader.specs.Forms.{Form as LineForm}
 use Rattle.reader.specs.Faults.{State, Step, next, fault, expects, ruling?, numberOf, declared, numbered, with-rule, filled, stepForm}

@@ -17,7 +17,7 @@ use Rattle.names.specs.NameStore.{NamesForm, sameBytes}
 use Rattle.stores.specs.Program.{Program, Form, RuleForm}
 use Rattle.writer.specs.Words.{minWord, varyWord, fixWord}
 use Rattle.writer.specs.Text.{openText, listLine, classLine, declarations, ruleText, textOf}
-use Rattle.reader.specs.declared.answers.Stage.the-variants.{Declaring, Ruling}
+use Rattle.reader.specs.declared.stage.Stage.the-variants.{Declaring, Ruling}
 use Rattle.reader.specs.Lines.{linesFrom, lines}
 use Rattle.reader.specs.Forms.{atoms, begins, tagOf}
 use Rattle.reader.specs.Faults.{State, ruling?}

@@ -24,8 +24,10 @@ use Rattle.reader.specs.Lines.{lines}
 use Rattle.reader.specs.Forms.{atoms, begins, tagOf}
 use Rattle.reader.specs.Said.{accepted, refused, start, readLines, said}
 use Rattle.reader.specs.Answers.{readAnswer, readRules, readNames}
-use Rattle.reader.specs.Gathered.{stateOf, scratchWords, scratchBytes, scratchAtoms, Held}
-use Rattle.reader.specs.Gathering.{startCounts, GatherSays, GatherIs, Delivered}
+use Rattle.reader.specs.Scratch.{scratchWords, scratchBytes, scratchAtoms}
+use Rattle.reader.specs.Gathered.{stateOf, Held}
+use Rattle.reader.specs.Delivered.{Delivered}
+use Rattle.reader.specs.Gathering.{startCounts, GatherSays, GatherIs}
 use Rattle.reader.proofs.NameBlocks.{empty-index}
 
 no-words : (kind : Kind) → 0 ≡ wordCount kind 0

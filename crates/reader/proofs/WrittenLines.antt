@@ -24,8 +24,8 @@ use Rattle.names.specs.NameStore.{NamesForm}
 use Rattle.stores.specs.Program.{Program, RoleForm, roleOf, Rising, ClassesForm, ListForm, NotForm, RuleForm}
 use Rattle.writer.specs.Words.{minWord}
 use Rattle.writer.specs.Text.{named, listLine, ruleLine, ruleText, declarations}
-use Rattle.reader.specs.declared.answers.Stage.{Stage}
-use Rattle.reader.specs.declared.answers.Stage.the-variants.{Declaring, Fixing, Ruling}
+use Rattle.reader.specs.declared.stage.Stage.{Stage}
+use Rattle.reader.specs.declared.stage.Stage.the-variants.{Declaring, Fixing, Ruling}
 use Rattle.reader.specs.Lines.{lines}
 use Rattle.reader.specs.Forms.{Word, atoms, min, vary, fix, isName, formOf}
 use Rattle.reader.specs.Faults.{State, next, expects, stageAfter, classesAfter, classWords, declared, numbered, with-rule, filled, stepForm}

@@ -11,7 +11,7 @@ use Rattle.reader.specs.declared.entries.Entered.{Entered}
 use Rattle.reader.specs.declared.entries.Entered.the-variants as Answer
 use Rattle.reader.specs.Items.{items}
 use Rattle.reader.specs.Faults.{twice}
-use Rattle.reader.specs.Gathered.{scratchBytes, scratchAtoms}
+use Rattle.reader.specs.Scratch.{scratchBytes, scratchAtoms}
 
 -- there is room for one name more
 pub record EntryRoom (names : List (List ℕ)) (x bytes starts links : List ℕ) (atom at : ℕ) : Type 0 where

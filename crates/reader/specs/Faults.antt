@@ -14,8 +14,8 @@ use Rattle.rules.specs.Rules.{Rule, rule, occurrences}
 use Rattle.rules.specs.Preferred.{varying, fixed}
 use Rattle.names.specs.Names.{allowed}
 use Rattle.names.specs.NameStore.{sameBytes}
-use Rattle.reader.specs.declared.answers.Stage.{Stage}
-use Rattle.reader.specs.declared.answers.Stage.the-variants.{Declaring, Fixing, Ruling}
+use Rattle.reader.specs.declared.stage.Stage.{Stage}
+use Rattle.reader.specs.declared.stage.Stage.the-variants.{Declaring, Fixing, Ruling}
 use Rattle.reader.specs.Forms.{Word, atoms, min, vary, fix, Form, declares, rules, broken}
 
 -- what the lines so far say

@@ -20,17 +20,8 @@ use Rattle.reader.specs.declared.gathered.Gathered.{Gathered}
 use Rattle.reader.specs.declared.gathered.Line.{Line}
 use Rattle.reader.specs.declared.gathered.Line.the-variants as Line
 use Rattle.reader.specs.Forms.{Form, Word}
+use Rattle.reader.specs.Scratch.{scratchWords, scratchBytes, scratchAtoms}
 use Rattle.reader.specs.Faults.{State, next, fault, ruling?, stageAfter, classesAfter, classWords, stepForm}
-
--- the lengths of the scratch stores and of their index
-abbrev pub scratchWords : ℕ
-scratchWords = 36604
-
-abbrev pub scratchBytes : ℕ
-scratchBytes = 20900
-
-abbrev pub scratchAtoms : ℕ
-scratchAtoms = 1100
 
 unfoldable pub stateOf : Kind → Gathered → List ℕ → List ℕ → State
 stateOf kind g words bytes = record {

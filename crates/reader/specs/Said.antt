@@ -9,7 +9,7 @@ use Rattle.kinds.specs.declared.limits.Kind.the-variants.{Plain, Preference}
 use Rattle.kinds.specs.declared.refusals.Refusal.{Refusal}
 use Rattle.kinds.specs.declared.refusals.Refusal.the-variants.{TextTooLong, Form as BrokenForm}
 use Rattle.stores.specs.Program.{Program}
-use Rattle.reader.specs.declared.answers.Stage.the-variants.{Declaring}
+use Rattle.reader.specs.declared.stage.Stage.the-variants.{Declaring}
 use Rattle.reader.specs.Lines.{lines}
 use Rattle.reader.specs.Forms.{atoms, begins, tagOf, formOf}
 use Rattle.reader.specs.Faults.{State, Step, next, fault, ruling?, stepForm}

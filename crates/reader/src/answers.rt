@@ -6,13 +6,3 @@ pub enum Read {
     Accepted { words: usize, bytes: usize },
     Refused { refusal: Refusal, line: usize },
 }
-
-// Which lines may come next.
-pub enum Stage {
-    // `min` or `vary` in a preference file, `atoms` in a plain program.
-    Declaring,
-    // `fix`
-    Fixing,
-    // `rule`
-    Ruling,
-}

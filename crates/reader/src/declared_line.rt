@@ -1,5 +1,5 @@
 // A line that declares atoms, against what the lines before have given.
-use crate::answers::Stage;
+use crate::stage::Stage;
 use crate::entries;
 use crate::entries::Entered;
 use crate::forms::Keyword;

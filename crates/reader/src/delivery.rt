@@ -10,7 +10,7 @@ ghost use Prim.Native.Nat.{_<_};
 ghost use Rattle.stores.specs.RuleStore.{kindWord};
 ghost use Rattle.writer.specs.Emitted.{Emitted, InRange};
 ghost use Rattle.reader.specs.Gathered.{stateOf, Held};
-ghost use Rattle.reader.specs.Gathering.{Delivered, headerWords};
+ghost use Rattle.reader.specs.Delivered.{Delivered, headerWords};
 
 fn kind_word(kind: Kind) -> u16
     ensures { λ r. ⌜ r ≡ kindWord kind ⌝ }

@@ -1,5 +1,5 @@
 // What the lines so far have given: counts, beside the scratch stores that they are gathered in.
-use crate::answers::Stage;
+use crate::stage::Stage;
 use kinds::refusals::Refusal;
 
 pub struct Gathered {
@@ -17,13 +17,4 @@ pub struct Gathered {
 pub enum Line {
     Next(Gathered),
     Fault(Refusal),
-}
-
-// The scratch stores, as long as the largest stores: a plain program's words, and its names of 18 bytes with their lengths.
-pub struct Scratch;
-
-impl Scratch {
-    pub const WORDS: usize = 36604;
-
-    pub const BYTES: usize = 20900;
 }

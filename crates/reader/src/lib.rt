@@ -11,7 +11,7 @@ pub mod rule_line;
 pub mod scan;
 
 use answers::Read;
-use gathered::Scratch;
+use crate::scratch::Scratch;
 use kinds::limits::Kind;
 use kinds::limits::Plain;
 use kinds::refusals::Refusal;

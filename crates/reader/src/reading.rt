@@ -1,5 +1,5 @@
 // The lines of a text, one after another, into the scratch stores.
-use crate::answers::Stage;
+use crate::stage::Stage;
 use crate::declared_line;
 use crate::forms;
 use crate::forms::Shape;

@@ -1,5 +1,5 @@
 // A rule's line against what the lines before have given.
-use crate::answers::Stage;
+use crate::stage::Stage;
 use crate::gathered::Gathered;
 use crate::gathered::Line;
 use crate::numbers;

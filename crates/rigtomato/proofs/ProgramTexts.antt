@@ -27,7 +27,7 @@ use Rattle.writer.specs.declared.Written.the-variants.{Text, Refused as NotWrit
 use Rattle.writer.specs.Answers.{over, fitted, writtenBytes}
 use Rattle.reader.specs.declared.answers.Read.{Read}
 use Rattle.reader.specs.declared.answers.Read.the-variants.{Accepted, Refused as NotRead}
-use Rattle.reader.specs.Gathered.{scratchWords, scratchBytes}
+use Rattle.reader.specs.Scratch.{scratchWords, scratchBytes}
 use Rattle.reader.specs.Faults.{State}
 use Rattle.reader.specs.Said.{Said, accepted, refused, said, programOf}
 use Rattle.reader.specs.Answers.{readAnswer, readRules, readNames, ruleWordsOf, nameBytesOf, answerOf}

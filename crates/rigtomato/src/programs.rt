@@ -5,14 +5,14 @@ use crate::printing::show_refused;
 use kinds::limits::Kind;
 use kinds::refusals::Refusal;
 use reader::answers::Read;
-use reader::gathered::Scratch;
+use reader::scratch::Scratch;
 use reader::read;
 use translation::translate;
 use writer::Written;
 ghost use Prim.Native.Nat.{_≤_};
 ghost use lib.ListN.{length};
 ghost use Rattle.kinds.specs.Limits.{streamLimit};
-ghost use Rattle.reader.specs.Gathered.{scratchWords, scratchBytes};
+ghost use Rattle.reader.specs.Scratch.{scratchWords, scratchBytes};
 ghost use Rattle.rigtomato.specs.Printed.{translatePrinted, statesPrinted, Shown};
 ghost use Rattle.rigtomato.specs.StoresPrinted.{storesTranslated};
 

@@ -6,7 +6,7 @@ use native.Mathlib.Omega.{arith}
 use mathlib.Core.Path.{_≡_, refl, sym, ap, ap₂, _∙_, subst}
 use mathlib.Core.List.{List, [], _∷_, _++_, append-assoc, append-nil}
 use lib.ListN.{length, getD, drop, set, length-append}
-use lib.Seq.{drop-cons, set-out, sets, length-sets}
+use lib.Seq.{drop-cons, set-append-seam, set-out, sets, length-sets}
 use Rattle.writer.specs.Emitted.{Emitted, InRange}
 
 -- what is written in two runs is written in one
@@ -15,6 +15,17 @@ sets-append d at [] v = ap (λ (k : ℕ). sets d k v) (add-zero at)
 sets-append d at (b ∷ u) v =
     let e : at + suc (length u) ≡ suc at + length u = omega arith in
     ap (λ (k : ℕ). sets (sets (set d at b) (suc at) u) k v) e ∙ sets-append (set d at b) (suc at) u v
+
+-- what is written where it has room
+pub sets-seam : (p q w : List ℕ) → length w ≤ length q → sets (p ++ q) (length p) w ≡ p ++ (w ++ drop (length w) q)
+sets-seam p q [] l = refl
+sets-seam p [] (a ∷ w) l = absurd (omega arith)
+sets-seam p (b ∷ q) (a ∷ w) l =
+    let here : set (p ++ (b ∷ q)) (length p) a ≡ (p ++ (a ∷ [])) ++ q = set-append-seam p b q a ∙ sym (append-assoc p (a ∷ []) q) in
+    let place : suc (length p) ≡ length (p ++ (a ∷ [])) = sym (length-append p (a ∷ []) ∙ add-one (length p)) in
+    ap₂ (λ (x : List ℕ) (k : ℕ). sets x k w) here place
+    ∙ sets-seam (p ++ (a ∷ [])) q w (omega arith)
+    ∙ append-assoc p (a ∷ []) (w ++ drop (length w) q)
 
 pub none : {d : List ℕ} {at : ℕ} → Emitted d at [] d at
 none {d} {at} = record { place = sym (add-zero at); bytes = refl }
