@@ -1,9 +1,2 @@
--- The laws of names, their store and its index.
+-- The laws of names.
 pub mod NameForms
-pub mod NameStores
-pub mod ByteLoops
-pub mod NamePlaces
-pub mod NameChains
-pub mod NameEntries
-pub mod NameChecks
-pub mod NameClauses

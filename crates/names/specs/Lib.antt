@@ -1,4 +1,2 @@
--- Which bytes are names, the name store, and its index.
+-- Which bytes are names.
 pub mod Names
-pub mod NameStore
-pub mod NameIndex

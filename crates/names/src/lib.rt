@@ -1,4 +1,2 @@
-// Names and the name store of a program (document 01, "The two kinds of file").
+// Which bytes are names (document 01, "The two kinds of file").
 pub mod forms;
-pub mod index;
-pub mod store;

@@ -16,7 +16,7 @@ use Rattle.rules.proofs.Booleans.{T-not-out, eq→eqb}
 use Rattle.rules.proofs.Lists.{all-imp, all-app, all-map, all-from, app-iff, every-from}
 use Rattle.stores.specs.Program.{Program, Form}
 use Rattle.names.specs.Names.{letter?, house?, classNumber?, nameClass, sized, dotted, generated, takes, allowed}
-use Rattle.names.specs.NameStore.{NamesForm}
+use Rattle.name_store.specs.NameStore.{NamesForm}
 use Rattle.names.specs.declared.forms.NameClass.{NameClass}
 use Rattle.names.specs.declared.forms.NameClass.the-variants.{House, Generated, TooLong, Wrong}
 use Rattle.pairing.specs.Atoms.{unfixedAtoms, minimisedAtoms, declared, decimal, nameOf}

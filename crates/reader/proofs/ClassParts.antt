@@ -18,7 +18,7 @@ use Rattle.stores.specs.Program.{Rising, RoleForm, roleOf}
 use Rattle.stores.specs.declared.roles.Role.{Role}
 use Rattle.stores.specs.declared.roles.Role.the-variants.{Minimised, Varying, Fixed, Unknown}
 use Rattle.stores.proofs.ClassWord.{minimised}
-use Rattle.writer.specs.Text.{named}
+use Rattle.text.specs.Text.{named}
 
 -- the entries whose class words pass a test
 abbrev pub chosen : {A : Type 0} → (ℕ → Bool) → List ℕ → List A → List A

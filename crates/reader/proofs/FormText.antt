@@ -12,12 +12,12 @@ use Rattle.rules.proofs.Booleans.{T-not-in, T-not-out, T-or}
 use Rattle.rules.proofs.Lists.{all-app, all-imp, every-all}
 use mathlib.Core.Logic.{inr, _↔_}
 use Rattle.names.specs.Names.{nameClass}
-use Rattle.names.specs.NameStore.{sameBytes}
-use Rattle.names.proofs.NameStores.{same-equal, same-self}
-use Rattle.writer.specs.Words.{space, open-bracket, close-bracket, line-end, atomsWord, minWord, varyWord, fixWord, ruleWord, headWord, bodyWord, notWord}
-use Rattle.writer.specs.Text.{item, openText, listLine, ruleLine}
-use Rattle.reader.specs.Items.{delimiter?, run, itemsFrom, items, span}
-use Rattle.reader.specs.Forms.{Word, atoms, min, vary, fix, Form, declares, rules, broken, isName, begins, Cut, cut, none, cutNames, cutList, onCut, tagOf, headTag, bodyTag, notTag, listEnd, ruleEnd, closed, declaredForm, ruleForm, formOf}
+use Rattle.name_store.specs.NameStore.{sameBytes}
+use Rattle.name_store.proofs.NameStores.{same-equal, same-self}
+use Rattle.text.specs.Words.{space, open-bracket, close-bracket, line-end, atomsWord, minWord, varyWord, fixWord, ruleWord, headWord, bodyWord, notWord}
+use Rattle.text.specs.Text.{item, openText, listLine, ruleLine}
+use Rattle.lines.specs.Items.{delimiter?, run, itemsFrom, items, span}
+use Rattle.lines.specs.Forms.{Word, atoms, min, vary, fix, Form, declares, rules, broken, isName, begins, Cut, cut, none, cutNames, cutList, onCut, tagOf, headTag, bodyTag, notTag, listEnd, ruleEnd, closed, declaredForm, ruleForm, formOf}
 use Rattle.reader.proofs.LineText.{WholeLine, NoEnd, end-line, before-line}
 use Rattle.reader.proofs.NameText.{IsName, NoDelimiter, name-bytes}
 

@@ -11,19 +11,19 @@ use lib.Seq.{drop-drop, length-take-le}
 use Rattle.kinds.specs.declared.limits.Kind.{Kind}
 use Rattle.kinds.specs.declared.refusals.Refusal.{Refusal}
 use Rattle.kinds.specs.declared.refusals.Refusal.the-variants.{Form as BrokenForm}
-use Rattle.reader.specs.declared.gathered.Gathered.{Gathered}
-use Rattle.reader.specs.declared.gathered.Line.{Line}
-use Rattle.reader.specs.declared.gathered.Line.the-variants.{Next, Fault}
+use Rattle.gathering.specs.declared.gathered.Gathered.{Gathered}
+use Rattle.gathering.specs.declared.gathered.Line.{Line}
+use Rattle.gathering.specs.declared.gathered.Line.the-variants.{Next, Fault}
 use Rattle.reader.specs.declared.reading.Gather.{Gather}
 use Rattle.reader.specs.declared.reading.Gather.the-variants.{Whole, Refused}
-use Rattle.reader.specs.Lines.{lineLength, linesFrom, lines}
-use Rattle.reader.specs.Forms.{formOf}
-use Rattle.reader.specs.Faults.{State, ruling?, stepForm}
-use Rattle.reader.specs.Said.{Said, accepted, refused, onStep, readLines, start}
-use Rattle.reader.specs.Gathered.{stateOf, Held, LineSays, LineIs}
+use Rattle.lines.specs.Lines.{lineLength, linesFrom, lines}
+use Rattle.lines.specs.Forms.{formOf}
+use Rattle.lines.specs.Faults.{State, ruling?, stepForm}
+use Rattle.delivery.specs.Said.{Said, accepted, refused, onStep, readLines, start}
+use Rattle.gathering.specs.Gathered.{stateOf, Held, LineSays, LineIs}
 use Rattle.reader.specs.Gathering.{startCounts, passedOn, GatherSays, GatherIs}
-use Rattle.reader.proofs.Scanning.{part-sized}
-use Rattle.reader.proofs.HeldState.{held-is}
+use Rattle.lines.proofs.Scanning.{part-sized}
+use Rattle.gathering.proofs.HeldState.{held-is}
 
 lines-skip : (k : ℕ) (s : List ℕ) → linesFrom k s ≡ lines (drop k s)
 unfolding lines linesFrom

@@ -16,9 +16,9 @@ use Rattle.rules.specs.Rules.{occurrences}
 use Rattle.rules.proofs.Booleans.{stable, T-not-in, T-not-out, T-and, T-and-l, T-and-r, T-or, T-or-out}
 use Rattle.rules.proofs.Lists.{all-imp}
 use Rattle.names.specs.Names.{allowed}
-use Rattle.names.specs.NameStore.{sameBytes}
-use Rattle.reader.specs.Forms.{Word}
-use Rattle.reader.specs.Faults.{State, Step, next, expects, ruling?, classesAfter, twice, refusedName, undeclared, anyOf, first, declared, declare, numbered, with-rule, filled, addRule}
+use Rattle.name_store.specs.NameStore.{sameBytes}
+use Rattle.lines.specs.Forms.{Word}
+use Rattle.lines.specs.Faults.{State, Step, next, expects, ruling?, classesAfter, twice, refusedName, undeclared, anyOf, first, declared, declare, numbered, with-rule, filled, addRule}
 use Rattle.reader.proofs.NumberedNames.{Declared, declared-law, some-none, twice-free, free-twice}
 
 -- one test after another

@@ -8,8 +8,8 @@ use lib.Dec.{T, eqb}
 use lib.ListN.{length, take, drop, take-append-drop}
 use lib.Seq.{drop-nil, take-append-seam, drop-append-seam}
 use Rattle.rules.specs.Lists.{All, flat}
-use Rattle.writer.specs.Words.{line-end}
-use Rattle.reader.specs.Lines.{lineLength, linesFrom, lines}
+use Rattle.text.specs.Words.{line-end}
+use Rattle.lines.specs.Lines.{lineLength, linesFrom, lines}
 
 abbrev pub joined : List (List ℕ) → List ℕ
 joined ls = flat (λ l. l) ls

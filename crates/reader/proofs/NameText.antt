@@ -14,8 +14,8 @@ use Rattle.rules.proofs.Lists.{all-imp, every-all}
 use Rattle.names.specs.declared.forms.NameClass.{NameClass}
 use Rattle.names.specs.declared.forms.NameClass.the-variants.{House, Generated, Wrong}
 use Rattle.names.specs.Names.{letter?, digit?, nameByte?, house?, classNumber?, sized, dotted, generated, nameClass}
-use Rattle.reader.specs.Items.{delimiter?}
-use Rattle.reader.specs.Forms.{isName}
+use Rattle.lines.specs.Items.{delimiter?}
+use Rattle.lines.specs.Forms.{isName}
 
 -- a name of some kind, but for its length
 abbrev pub IsName : List ℕ → Type 0

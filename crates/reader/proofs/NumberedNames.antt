@@ -11,10 +11,10 @@ use lib.Seq.{append-snoc}
 use Rattle.rules.specs.Lists.{All, Any, Distinct, some}
 use Rattle.rules.proofs.Booleans.{T-or, T-or-out}
 use Rattle.rules.proofs.Lists.{all-app, all-app-r, all-any, all-both, all-imp, all-map, some-any}
-use Rattle.names.specs.NameStore.{sameBytes}
-use Rattle.names.proofs.NameStores.{same-law}
-use Rattle.writer.specs.Text.{named}
-use Rattle.reader.specs.Faults.{twice, numberOf}
+use Rattle.name_store.specs.NameStore.{sameBytes}
+use Rattle.name_store.proofs.NameStores.{same-law}
+use Rattle.text.specs.Text.{named}
+use Rattle.lines.specs.Faults.{twice, numberOf}
 use Rattle.reader.proofs.FormText.{is-true}
 
 -- x is one of the names

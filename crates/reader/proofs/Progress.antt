@@ -16,16 +16,16 @@ use Rattle.rules.specs.Rules.{Rule, occurrences}
 use Rattle.rules.specs.Preferred.{varying, fixed}
 use Rattle.rules.proofs.Lists.{all-app, all-imp, all-from, all-map}
 use Rattle.names.specs.Names.{allowed}
-use Rattle.names.specs.NameStore.{NamesForm}
+use Rattle.name_store.specs.NameStore.{NamesForm}
 use Rattle.stores.specs.Program.{Form, RoleForm, roleOf, ListForm, NotForm, RuleForm}
-use Rattle.writer.specs.Words.{atomsWord, minWord, varyWord, fixWord}
-use Rattle.writer.specs.Text.{listLine, ruleLine, ruleText, declarations, textOf}
-use Rattle.reader.specs.declared.stage.Stage.{Stage}
-use Rattle.reader.specs.declared.stage.Stage.the-variants.{Declaring, Fixing, Ruling}
-use Rattle.reader.specs.Forms.{Word, atoms, min, vary, fix, declares, rules, broken, formOf, begins, tagOf}
-use Rattle.reader.specs.Forms.{Form as LineForm}
-use Rattle.reader.specs.Faults.{State, Step, next, fault, expects, ruling?, numberOf, declared, numbered, with-rule, filled, stepForm}
-use Rattle.reader.specs.Said.{accepted, refused, start, onStep, readLines, programOf}
+use Rattle.text.specs.Words.{atomsWord, minWord, varyWord, fixWord}
+use Rattle.text.specs.Text.{listLine, ruleLine, ruleText, declarations, textOf}
+use Rattle.lines.specs.declared.stage.Stage.{Stage}
+use Rattle.lines.specs.declared.stage.Stage.the-variants.{Declaring, Fixing, Ruling}
+use Rattle.lines.specs.Forms.{Word, atoms, min, vary, fix, declares, rules, broken, formOf, begins, tagOf}
+use Rattle.lines.specs.Forms.{Form as LineForm}
+use Rattle.lines.specs.Faults.{State, Step, next, fault, expects, ruling?, numberOf, declared, numbered, with-rule, filled, stepForm}
+use Rattle.delivery.specs.Said.{accepted, refused, start, onStep, readLines, programOf}
 use Rattle.reader.proofs.LineText.{joined}
 use Rattle.reader.proofs.FormText.{wordOf, LineOf, form-line}
 use Rattle.reader.proofs.NumberedNames.{Declared, number-below, names-of-numbers, numbers-differ, twice-free}

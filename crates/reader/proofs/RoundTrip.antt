@@ -13,15 +13,15 @@ use Rattle.kinds.specs.declared.limits.Kind.the-variants.{Plain, Preference}
 use Rattle.kinds.specs.declared.refusals.Refusal.the-variants.{TextTooLong, Form as BrokenForm}
 use Rattle.rules.specs.Lists.{All, flat, from}
 use Rattle.rules.specs.Preferred.{varying, fixed}
-use Rattle.names.specs.NameStore.{NamesForm, sameBytes}
+use Rattle.name_store.specs.NameStore.{NamesForm, sameBytes}
 use Rattle.stores.specs.Program.{Program, Form, RuleForm}
-use Rattle.writer.specs.Words.{minWord, varyWord, fixWord}
-use Rattle.writer.specs.Text.{openText, listLine, classLine, declarations, ruleText, textOf}
-use Rattle.reader.specs.declared.stage.Stage.the-variants.{Declaring, Ruling}
-use Rattle.reader.specs.Lines.{linesFrom, lines}
-use Rattle.reader.specs.Forms.{atoms, begins, tagOf}
-use Rattle.reader.specs.Faults.{State, ruling?}
-use Rattle.reader.specs.Said.{accepted, refused, start, readLines, said, programOf}
+use Rattle.text.specs.Words.{minWord, varyWord, fixWord}
+use Rattle.text.specs.Text.{openText, listLine, classLine, declarations, ruleText, textOf}
+use Rattle.lines.specs.declared.stage.Stage.the-variants.{Declaring, Ruling}
+use Rattle.lines.specs.Lines.{linesFrom, lines}
+use Rattle.lines.specs.Forms.{atoms, begins, tagOf}
+use Rattle.lines.specs.Faults.{State, ruling?}
+use Rattle.delivery.specs.Said.{accepted, refused, start, readLines, said, programOf}
 use Rattle.reader.proofs.LineText.{joined-lines}
 use Rattle.reader.proofs.FormText.{is-true}
 use Rattle.reader.proofs.Progress.{state, AllSaid, lines-said, start-said, text-said}

@@ -12,23 +12,23 @@ use Rattle.kinds.specs.declared.limits.Kind.{Kind}
 use Rattle.kinds.specs.declared.limits.Kind.the-variants.{Plain, Preference}
 use Rattle.kinds.specs.declared.refusals.Refusal.{Refusal}
 use Rattle.kinds.specs.declared.refusals.Refusal.the-variants.{TextTooLong}
-use Rattle.names.specs.NameStore.{encodeNames}
-use Rattle.names.specs.NameIndex.{buckets}
+use Rattle.name_store.specs.NameStore.{encodeNames}
+use Rattle.name_store.specs.NameIndex.{buckets}
 use Rattle.stores.specs.RuleStore.{wordCount, Below}
-use Rattle.reader.specs.declared.answers.Read.{Read}
-use Rattle.reader.specs.declared.answers.Read.the-variants.{Refused}
+use Rattle.delivery.specs.declared.answers.Read.{Read}
+use Rattle.delivery.specs.declared.answers.Read.the-variants.{Refused}
 use Rattle.reader.specs.declared.reading.Gather.{Gather}
 use Rattle.reader.specs.declared.reading.Gather.the-variants as Gather
-use Rattle.reader.specs.declared.gathered.Gathered.{Gathered}
-use Rattle.reader.specs.Lines.{lines}
-use Rattle.reader.specs.Forms.{atoms, begins, tagOf}
-use Rattle.reader.specs.Said.{accepted, refused, start, readLines, said}
-use Rattle.reader.specs.Answers.{readAnswer, readRules, readNames}
-use Rattle.reader.specs.Scratch.{scratchWords, scratchBytes, scratchAtoms}
-use Rattle.reader.specs.Gathered.{stateOf, Held}
-use Rattle.reader.specs.Delivered.{Delivered}
+use Rattle.gathering.specs.declared.gathered.Gathered.{Gathered}
+use Rattle.lines.specs.Lines.{lines}
+use Rattle.lines.specs.Forms.{atoms, begins, tagOf}
+use Rattle.delivery.specs.Said.{accepted, refused, start, readLines, said}
+use Rattle.delivery.specs.Answers.{readAnswer, readRules, readNames}
+use Rattle.numbering.specs.Scratch.{scratchWords, scratchBytes, scratchAtoms}
+use Rattle.gathering.specs.Gathered.{stateOf, Held}
+use Rattle.delivery.specs.Delivered.{Delivered}
 use Rattle.reader.specs.Gathering.{startCounts, GatherSays, GatherIs}
-use Rattle.reader.proofs.NameBlocks.{empty-index}
+use Rattle.numbering.proofs.NameBlocks.{empty-index}
 
 no-words : (kind : Kind) → 0 ≡ wordCount kind 0
 no-words Plain = refl

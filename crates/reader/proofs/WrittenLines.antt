@@ -20,16 +20,16 @@ use Rattle.rules.proofs.Lists.{all-imp, all-map}
 use Rattle.names.specs.declared.forms.NameClass.{NameClass}
 use Rattle.names.specs.declared.forms.NameClass.the-variants.{House, Generated, TooLong, Wrong}
 use Rattle.names.specs.Names.{nameClass, takes, allowed}
-use Rattle.names.specs.NameStore.{NamesForm}
+use Rattle.name_store.specs.NameStore.{NamesForm}
 use Rattle.stores.specs.Program.{Program, RoleForm, roleOf, Rising, ClassesForm, ListForm, NotForm, RuleForm}
-use Rattle.writer.specs.Words.{minWord}
-use Rattle.writer.specs.Text.{named, listLine, ruleLine, ruleText, declarations}
-use Rattle.reader.specs.declared.stage.Stage.{Stage}
-use Rattle.reader.specs.declared.stage.Stage.the-variants.{Declaring, Fixing, Ruling}
-use Rattle.reader.specs.Lines.{lines}
-use Rattle.reader.specs.Forms.{Word, atoms, min, vary, fix, isName, formOf}
-use Rattle.reader.specs.Faults.{State, next, expects, stageAfter, classesAfter, classWords, declared, numbered, with-rule, filled, stepForm}
-use Rattle.reader.specs.Said.{onStep, readLines}
+use Rattle.text.specs.Words.{minWord}
+use Rattle.text.specs.Text.{named, listLine, ruleLine, ruleText, declarations}
+use Rattle.lines.specs.declared.stage.Stage.{Stage}
+use Rattle.lines.specs.declared.stage.Stage.the-variants.{Declaring, Fixing, Ruling}
+use Rattle.lines.specs.Lines.{lines}
+use Rattle.lines.specs.Forms.{Word, atoms, min, vary, fix, isName, formOf}
+use Rattle.lines.specs.Faults.{State, next, expects, stageAfter, classesAfter, classWords, declared, numbered, with-rule, filled, stepForm}
+use Rattle.delivery.specs.Said.{onStep, readLines}
 use Rattle.reader.proofs.LineText.{WholeLine, lines-cons}
 use Rattle.reader.proofs.NameText.{IsName}
 use Rattle.reader.proofs.FormText.{wordOf, list-form, list-whole, rule-line-form, rule-whole}

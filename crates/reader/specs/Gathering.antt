@@ -3,14 +3,14 @@ use Prim.Native.Nat.{ℕ}
 use mathlib.Core.Path.{_≡_}
 use mathlib.Core.List.{List}
 use Rattle.kinds.specs.declared.limits.Kind.{Kind}
-use Rattle.reader.specs.declared.stage.Stage.the-variants.{Declaring}
-use Rattle.reader.specs.declared.gathered.Gathered.{Gathered}
-use Rattle.reader.specs.declared.gathered.Line.{Line}
-use Rattle.reader.specs.declared.gathered.Line.the-variants.{Next, Fault}
+use Rattle.lines.specs.declared.stage.Stage.the-variants.{Declaring}
+use Rattle.gathering.specs.declared.gathered.Gathered.{Gathered}
+use Rattle.gathering.specs.declared.gathered.Line.{Line}
+use Rattle.gathering.specs.declared.gathered.Line.the-variants.{Next, Fault}
 use Rattle.reader.specs.declared.reading.Gather.{Gather}
 use Rattle.reader.specs.declared.reading.Gather.the-variants.{Whole, Refused}
-use Rattle.reader.specs.Said.{Said, accepted, refused}
-use Rattle.reader.specs.Gathered.{stateOf, Held}
+use Rattle.delivery.specs.Said.{Said, accepted, refused}
+use Rattle.gathering.specs.Gathered.{stateOf, Held}
 
 -- before the first line; four words are kept for the header
 abbrev pub startCounts : Gathered

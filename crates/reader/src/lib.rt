@@ -1,25 +1,16 @@
 // Text to stores, of both kinds (document 01, "The two kinds of file" and "Who can be turned back").
-pub mod answers;
-pub mod declared_line;
-pub mod delivery;
-pub mod entries;
-pub mod forms;
-pub mod gathered;
-pub mod numbers;
 pub mod reading;
-pub mod rule_line;
-pub mod scan;
 
-use answers::Read;
-use crate::scratch::Scratch;
+use delivery::answers::Read;
 use kinds::limits::Kind;
 use kinds::limits::Plain;
 use kinds::refusals::Refusal;
-use names::index::BUCKETS;
+use name_store::index::BUCKETS;
+use numbering::scratch::Scratch;
 use reading::Gather;
 ghost use mathlib.Core.Path.{_≡_};
 ghost use lib.ListN.{length};
-ghost use Rattle.reader.specs.Answers.{readAnswer, readRules, readNames};
+ghost use Rattle.delivery.specs.Answers.{readAnswer, readRules, readNames};
 
 // Reads a text of either kind into the two stores.
 pub fn read(text: &[u8], rules: &mut [u16], names: &mut [u8]) -> Read
@@ -50,7 +41,7 @@ pub fn read(text: &[u8], rules: &mut [u16], names: &mut [u8]) -> Read
         &mut links,
         &mut marks,
     ) {
-        Gather::Whole(gathered) => delivery::deliver(
+        Gather::Whole(gathered) => delivery::delivery::deliver(
             kind,
             gathered,
             &mut words,

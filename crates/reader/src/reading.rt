@@ -1,23 +1,23 @@
 // The lines of a text, one after another, into the scratch stores.
-use crate::stage::Stage;
-use crate::declared_line;
-use crate::forms;
-use crate::forms::Shape;
-use crate::gathered::Gathered;
-use crate::gathered::Line;
-use crate::rule_line;
-use crate::scan;
+use gathering::declared_line;
+use gathering::gathered::Gathered;
+use gathering::gathered::Line;
+use gathering::rule_line;
 use kinds::limits::Kind;
 use kinds::refusals::Refusal;
+use lines::forms;
+use lines::forms::Shape;
+use lines::scan;
+use lines::stage::Stage;
 ghost use mathlib.Core.Path.{_≡_};
 ghost use mathlib.Core.Bool.{cond};
 ghost use Prim.Native.Nat.{_≤_};
 ghost use lib.ListN.{length};
 ghost use Rattle.kinds.specs.Limits.{textLimit};
-ghost use Rattle.reader.specs.Lines.{lines};
-ghost use Rattle.reader.specs.Forms.{atoms, begins, tagOf, formOf};
-ghost use Rattle.reader.specs.Said.{start, readLines};
-ghost use Rattle.reader.specs.Gathered.{stateOf, Held, LineIs};
+ghost use Rattle.lines.specs.Lines.{lines};
+ghost use Rattle.lines.specs.Forms.{atoms, begins, tagOf, formOf};
+ghost use Rattle.delivery.specs.Said.{start, readLines};
+ghost use Rattle.gathering.specs.Gathered.{stateOf, Held, LineIs};
 ghost use Rattle.reader.specs.Gathering.{startCounts, passedOn, GatherIs};
 
 // What the lines of a text give: the counts beside the filled scratch stores, or the earliest faulty line with its refusal.

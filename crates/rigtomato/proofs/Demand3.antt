@@ -15,20 +15,20 @@ use Rattle.rules.specs.Rules.{occurrences}
 use Rattle.rules.proofs.Booleans.{T-and-l, T-and-r}
 use Rattle.stores.specs.Program.{Program, Form}
 use Rattle.stores.specs.RuleStore.{encode, decode, ruleStore, isOf}
-use Rattle.names.specs.NameStore.{encodeNames, names?, NamesForm}
+use Rattle.name_store.specs.NameStore.{encodeNames, names?, NamesForm}
 use Rattle.stores.proofs.RuleStores.{decode-encode, kind-answered}
-use Rattle.names.proofs.NameStores.{decode-names, names-law}
+use Rattle.name_store.proofs.NameStores.{decode-names, names-law}
 use Rattle.writer.specs.declared.Written.{Written}
 use Rattle.writer.specs.declared.Written.the-variants.{Text, Refused as NotWritten}
-use Rattle.writer.specs.Text.{textOf}
+use Rattle.text.specs.Text.{textOf}
 use Rattle.writer.specs.Answers.{over, fitted}
-use Rattle.writer.proofs.TextLength.{text-fits}
-use Rattle.reader.specs.declared.answers.Read.{Read}
-use Rattle.reader.specs.declared.answers.Read.the-variants.{Accepted, Refused as NotRead}
-use Rattle.reader.specs.Faults.{State}
-use Rattle.reader.specs.Said.{Said, accepted, refused, said, programOf}
+use Rattle.text.proofs.TextLength.{text-fits}
+use Rattle.delivery.specs.declared.answers.Read.{Read}
+use Rattle.delivery.specs.declared.answers.Read.the-variants.{Accepted, Refused as NotRead}
+use Rattle.lines.specs.Faults.{State}
+use Rattle.delivery.specs.Said.{Said, accepted, refused, said, programOf}
 use Rattle.reader.proofs.RoundTrip.{accepted-form, write-read}
-use Rattle.reader.specs.Answers.{readAnswer, readRules, readNames, ruleWordsOf, nameBytesOf, answerOf}
+use Rattle.delivery.specs.Answers.{readAnswer, readRules, readNames, ruleWordsOf, nameBytesOf, answerOf}
 use Rattle.pairing.specs.Translated.{translated, translatedNames}
 use Rattle.pairing.proofs.Paired.{paired, only-one}
 use Rattle.pairing.proofs.Sums.{atoms-sum, rules-sum, occurrences-sum}

@@ -1,7 +1,4 @@
--- Demand 3, proved.
+-- Demand 3 and the marked cases, proved.
 pub mod Demand3
 pub mod Sheet
-pub mod PrintedLines
-pub mod ListedStates
-pub mod StoredStates
 pub mod ProgramTexts

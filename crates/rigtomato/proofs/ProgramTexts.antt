@@ -19,24 +19,24 @@ use Rattle.stores.specs.Program.{Program, Form}
 use Rattle.stores.specs.RuleStore.{encode, decode, ruleWords, ruleStore, isOf, wordCount}
 use Rattle.stores.specs.declared.rule_store.RuleStore.the-variants.{Of}
 use Rattle.names.specs.Names.{allowed}
-use Rattle.names.specs.NameStore.{nameBytes, encodeNames, names?, NamesForm}
+use Rattle.name_store.specs.NameStore.{nameBytes, encodeNames, names?, NamesForm}
 use Rattle.stores.proofs.RuleStores.{decode-encode, kind-answered, words-count}
-use Rattle.names.proofs.NameStores.{allowed-short, decode-names}
+use Rattle.name_store.proofs.NameStores.{allowed-short, decode-names}
 use Rattle.writer.specs.declared.Written.{Written}
 use Rattle.writer.specs.declared.Written.the-variants.{Text, Refused as NotWritten}
 use Rattle.writer.specs.Answers.{over, fitted, writtenBytes}
-use Rattle.reader.specs.declared.answers.Read.{Read}
-use Rattle.reader.specs.declared.answers.Read.the-variants.{Accepted, Refused as NotRead}
-use Rattle.reader.specs.Scratch.{scratchWords, scratchBytes}
-use Rattle.reader.specs.Faults.{State}
-use Rattle.reader.specs.Said.{Said, accepted, refused, said, programOf}
-use Rattle.reader.specs.Answers.{readAnswer, readRules, readNames, ruleWordsOf, nameBytesOf, answerOf}
+use Rattle.delivery.specs.declared.answers.Read.{Read}
+use Rattle.delivery.specs.declared.answers.Read.the-variants.{Accepted, Refused as NotRead}
+use Rattle.numbering.specs.Scratch.{scratchWords, scratchBytes}
+use Rattle.lines.specs.Faults.{State}
+use Rattle.delivery.specs.Said.{Said, accepted, refused, said, programOf}
+use Rattle.delivery.specs.Answers.{readAnswer, readRules, readNames, ruleWordsOf, nameBytesOf, answerOf}
 use Rattle.reader.proofs.RoundTrip.{accepted-form}
 use Rattle.translation.specs.Answers.{translationText, storesTranslation, translateAnswer, translateOutput}
-use Rattle.rigtomato.specs.Printed.{refusedText, wholeListing, sized, ofKind, onSaid, printed, translatePrinted, statesOf, statesPrinted}
-use Rattle.rigtomato.specs.StoresPrinted.{writtenPrinted, storesTranslated, storesStates}
+use Rattle.printing.specs.Printed.{refusedText, wholeListing, sized, ofKind, onSaid, printed, translatePrinted, statesOf, statesPrinted}
+use Rattle.printing.specs.StoresPrinted.{writtenPrinted, storesTranslated, storesStates}
 use Rattle.rigtomato.proofs.Demand3.{Filled, never, filled, reads-as, front, named, stores-text}
-use Rattle.rigtomato.proofs.PrintedLines.{refused-short}
+use Rattle.printing.proofs.PrintedLines.{refused-short}
 
 -- the longest stores
 

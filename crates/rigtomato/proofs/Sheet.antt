@@ -1,18 +1,18 @@
 -- The marked cases, by computation.
 use mathlib.Core.Path.{refl}
 use Rattle.names.specs.Names.{nameClass, house?, classNumber?, allowed}
-use Rattle.names.specs.NameStore.{sameBytes}
-use Rattle.writer.specs.Text.{listLine, openText}
-use Rattle.reader.specs.Lines.{lines, linesFrom, lineLength}
-use Rattle.reader.specs.Items.{items, itemsFrom, run, span}
-use Rattle.reader.specs.Forms.{cutNames, cutList, declaredForm, ruleForm, formOf}
-use Rattle.reader.specs.Faults.{twice, numberOf, declare, addRule}
-use Rattle.reader.specs.Said.{start, readLines, said}
+use Rattle.name_store.specs.NameStore.{sameBytes}
+use Rattle.text.specs.Text.{listLine, openText}
+use Rattle.lines.specs.Lines.{lines, linesFrom, lineLength}
+use Rattle.lines.specs.Items.{items, itemsFrom, run, span}
+use Rattle.lines.specs.Forms.{cutNames, cutList, declaredForm, ruleForm, formOf}
+use Rattle.lines.specs.Faults.{twice, numberOf, declare, addRule}
+use Rattle.delivery.specs.Said.{start, readLines, said}
 use Rattle.pairing.specs.Atoms.{declared}
 use Rattle.pairing.specs.Steps.{step1, step2, step3, step4, step5, step6, step7, step8, step9, step10, translation}
 use Rattle.pairing.specs.Translated.{translatedRules}
-use Rattle.verdicts.specs.Walk.{preferredWalk, candidates, search, capped, preferredNeeds, preferredVerdict, firstState, cappedNext, nextVerdict}
-use Rattle.rigtomato.specs.Printed.{digits, stateLine, totalLine, listing, wholeListing, printed, statesOf, statesPrinted}
+use Rattle.walks.specs.Walk.{preferredWalk, candidates, search, capped, preferredNeeds, preferredVerdict, firstState, cappedNext, nextVerdict}
+use Rattle.printing.specs.Printed.{digits, stateLine, totalLine, listing, wholeListing, printed, statesOf, statesPrinted}
 use Rattle.rigtomato.specs.Sheet.{fileA, oneClass, lampFirst, darkFixed, nothing, emptyRule, oneRule, listingA, Sheet}
 
 pub sheet : Sheet

@@ -12,10 +12,10 @@ use Rattle.rules.specs.Stable.{Stable}
 use Rattle.rules.specs.Preferred.{Preferred}
 use Rattle.writer.specs.declared.Written.the-variants.{Text}
 use Rattle.writer.specs.Answers.{over}
-use Rattle.reader.specs.declared.answers.Read.the-variants.{Accepted}
-use Rattle.reader.specs.Faults.{State}
-use Rattle.reader.specs.Said.{said, accepted, programOf}
-use Rattle.reader.specs.Answers.{readAnswer, readRules, readNames, ruleWordsOf, nameBytesOf}
+use Rattle.delivery.specs.declared.answers.Read.the-variants.{Accepted}
+use Rattle.lines.specs.Faults.{State}
+use Rattle.delivery.specs.Said.{said, accepted, programOf}
+use Rattle.delivery.specs.Answers.{readAnswer, readRules, readNames, ruleWordsOf, nameBytesOf}
 use Rattle.pairing.specs.Translated.{translated, translatedNames, numbers, atomsSum, rulesSum, occurrencesSum}
 use Rattle.translation.specs.Answers.{translationText, translateAnswer, translateOutput}
 

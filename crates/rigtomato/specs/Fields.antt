@@ -2,12 +2,12 @@
 use Rattle.kinds.specs.Refusals.{numberOf}
 use Rattle.writer.specs.declared.Written.{Written}
 use Rattle.writer.specs.declared.Written.the-variants.{Text, Refused as NotWritten}
-use Rattle.reader.specs.declared.answers.Read.{Read}
-use Rattle.reader.specs.declared.answers.Read.the-variants.{Accepted, Refused as NotRead}
-use Rattle.verdicts.specs.declared.answers.Verdict.{Verdict}
-use Rattle.verdicts.specs.declared.answers.Verdict.the-variants.{Yes, Broken, Beaten, Spent, Refused as NotJudged}
-use Rattle.verdicts.specs.declared.answers.NextState.{NextState}
-use Rattle.verdicts.specs.declared.answers.NextState.the-variants.{State, Nothing, Spent as NextSpent, Refused as NotSearched}
+use Rattle.delivery.specs.declared.answers.Read.{Read}
+use Rattle.delivery.specs.declared.answers.Read.the-variants.{Accepted, Refused as NotRead}
+use Rattle.walks.specs.declared.answers.Verdict.{Verdict}
+use Rattle.walks.specs.declared.answers.Verdict.the-variants.{Yes, Broken, Beaten, Spent, Refused as NotJudged}
+use Rattle.walks.specs.declared.answers.NextState.{NextState}
+use Rattle.walks.specs.declared.answers.NextState.the-variants.{State, Nothing, Spent as NextSpent, Refused as NotSearched}
 use Rattle.rigtomato.specs.declared.fields.ReadFields.{ReadFields}
 use Rattle.rigtomato.specs.declared.fields.WrittenFields.{WrittenFields}
 use Rattle.rigtomato.specs.declared.fields.VerdictFields.{VerdictFields}

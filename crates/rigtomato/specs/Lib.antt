@@ -1,6 +1,4 @@
--- Demand 3, and what the two programs print.
+-- Demand 3, the marked cases, and the fields of the C interface.
 pub mod Demand3
-pub mod Printed
-pub mod StoresPrinted
 pub mod Fields
 pub mod Sheet

@@ -7,12 +7,12 @@ use Rattle.kinds.specs.Limits.{budgetLimit}
 use Rattle.rules.specs.Lists.{filter, from, sum}
 use Rattle.rules.specs.Rules.{occurrences}
 use Rattle.rules.specs.Preferred.{preferred?}
-use Rattle.reader.specs.Said.{Said, accepted, refused, said, programOf}
-use Rattle.verdicts.specs.declared.answers.Verdict.{Verdict}
-use Rattle.verdicts.specs.declared.answers.Verdict.the-variants.{Yes, Broken, Beaten, Spent, Refused}
-use Rattle.verdicts.specs.Walk.{preferredVerdict}
+use Rattle.delivery.specs.Said.{Said, accepted, refused, said, programOf}
+use Rattle.walks.specs.declared.answers.Verdict.{Verdict}
+use Rattle.walks.specs.declared.answers.Verdict.the-variants.{Yes, Broken, Beaten, Spent, Refused}
+use Rattle.walks.specs.Walk.{preferredVerdict}
 use Rattle.pairing.specs.Translated.{translated}
-use Rattle.rigtomato.specs.Printed.{statesPrinted}
+use Rattle.printing.specs.Printed.{statesPrinted}
 
 -- file A
 unfoldable pub fileA : List ℕ

@@ -9,9 +9,9 @@ use crate::fields::written_fields;
 ghost use mathlib.Core.Path.{_≡_};
 ghost use lib.ListN.{length};
 ghost use Rattle.writer.specs.Answers.{writeAnswer, writeOutput};
-ghost use Rattle.reader.specs.Answers.{readAnswer, readRules, readNames};
+ghost use Rattle.delivery.specs.Answers.{readAnswer, readRules, readNames};
 ghost use Rattle.translation.specs.Answers.{translateAnswer, translateOutput};
-ghost use Rattle.verdicts.specs.Answers.{preferredAnswer, stableAnswer, nextAnswer};
+ghost use Rattle.walks.specs.Answers.{preferredAnswer, stableAnswer, nextAnswer};
 ghost use Rattle.rigtomato.specs.Fields.{readFields, writtenFields, verdictFields, nextFields};
 
 #[no_mangle]

@@ -1,8 +1,8 @@
 // The answers as fields of numbers, for C.
+use delivery::answers::Read;
 use kinds::refusals::Refusal;
-use reader::answers::Read;
-use verdicts::answers::NextState;
-use verdicts::answers::Verdict;
+use walks::answers::NextState;
+use walks::answers::Verdict;
 use writer::Written;
 ghost use mathlib.Core.Path.{_≡_};
 ghost use Rattle.rigtomato.specs.Fields.{readFields, writtenFields, verdictFields, nextFields};

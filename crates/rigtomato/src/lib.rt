@@ -1,20 +1,18 @@
 // The public entry points (document 01). None asks anything of its caller.
 pub mod capi;
 pub mod fields;
-mod listing;
-mod printing;
 mod programs;
 
 ghost use mathlib.Core.Path.{_≡_};
 ghost use lib.ListN.{length};
 ghost use Rattle.writer.specs.Answers.{over, writeAnswer, writeOutput};
-ghost use Rattle.reader.specs.Answers.{readAnswer, readRules, readNames};
+ghost use Rattle.delivery.specs.Answers.{readAnswer, readRules, readNames};
 ghost use Rattle.translation.specs.Answers.{translateAnswer, translateOutput};
-ghost use Rattle.verdicts.specs.Answers.{preferredAnswer, stableAnswer, nextAnswer};
-ghost use Rattle.rigtomato.specs.Printed.{translatePrinted, statesPrinted, shown};
+ghost use Rattle.walks.specs.Answers.{preferredAnswer, stableAnswer, nextAnswer};
+ghost use Rattle.printing.specs.Printed.{translatePrinted, statesPrinted, shown};
 
 // A text of either kind into its two stores.
-pub fn read(text: &[u8], rules: &mut [u16], names: &mut [u8]) -> reader::answers::Read
+pub fn read(text: &[u8], rules: &mut [u16], names: &mut [u8]) -> delivery::answers::Read
     ensures answer { λ r. ⌜ r ≡ readAnswer (now (text .entry)) (length (now (rules .entry))) (length (now (names .entry))) ⌝ }
     ensures rules { λ r. ⌜ now (rules .exit) ≡ readRules (now (text .entry)) (now (rules .entry)) (now (names .entry)) ⌝ }
     ensures names { λ r. ⌜ now (names .exit) ≡ readNames (now (text .entry)) (now (rules .entry)) (now (names .entry)) ⌝ }
@@ -39,24 +37,24 @@ pub fn translate(rules: &[u16], names: &[u8], out: &mut [u8]) -> writer::Written
 }
 
 // Whether a set of a preference store's atoms is preferred.
-pub fn preferred(rules: &[u16], set: u64, budget: u64) -> verdicts::answers::Verdict
+pub fn preferred(rules: &[u16], set: u64, budget: u64) -> walks::answers::Verdict
     ensures { λ r. ⌜ r ≡ preferredAnswer (now (rules .entry)) set budget ⌝ }
 {
     verdicts::preferred::preferred(rules, set, budget)
 }
 
 // Whether a set of a plain store's atoms is stable.
-pub fn stable(rules: &[u16], set: u64, budget: u64) -> verdicts::answers::Verdict
+pub fn stable(rules: &[u16], set: u64, budget: u64) -> walks::answers::Verdict
     ensures { λ r. ⌜ r ≡ stableAnswer (now (rules .entry)) set budget ⌝ }
 {
     verdicts::stable::stable(rules, set, budget)
 }
 
 // The least preferred set from a number on.
-pub fn next_state(rules: &[u16], start: u64, budget: u64) -> verdicts::answers::NextState
+pub fn next_state(rules: &[u16], start: u64, budget: u64) -> walks::answers::NextState
     ensures { λ r. ⌜ r ≡ nextAnswer (now (rules .entry)) start budget ⌝ }
 {
-    verdicts::next::next_state(rules, start, budget)
+    lister::next::next_state(rules, start, budget)
 }
 
 // What the translator prints on a text; nothing where the output has no room for it.

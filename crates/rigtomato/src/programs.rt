@@ -1,20 +1,20 @@
 // The two programs over slices: a text in, what is printed out (document 01, "Sheets of known states").
-use crate::listing::show_states;
-use crate::printing::show;
-use crate::printing::show_refused;
+use delivery::answers::Read;
 use kinds::limits::Kind;
 use kinds::refusals::Refusal;
-use reader::answers::Read;
-use reader::scratch::Scratch;
+use numbering::scratch::Scratch;
+use printing::listing::show_states;
+use printing::printing::show;
+use printing::printing::show_refused;
 use reader::read;
 use translation::translate;
 use writer::Written;
 ghost use Prim.Native.Nat.{_≤_};
 ghost use lib.ListN.{length};
 ghost use Rattle.kinds.specs.Limits.{streamLimit};
-ghost use Rattle.reader.specs.Scratch.{scratchWords, scratchBytes};
-ghost use Rattle.rigtomato.specs.Printed.{translatePrinted, statesPrinted, Shown};
-ghost use Rattle.rigtomato.specs.StoresPrinted.{storesTranslated};
+ghost use Rattle.numbering.specs.Scratch.{scratchWords, scratchBytes};
+ghost use Rattle.printing.specs.Printed.{translatePrinted, statesPrinted, Shown};
+ghost use Rattle.printing.specs.StoresPrinted.{storesTranslated};
 
 // What the translator prints on two stores.
 fn show_translation(rules: &[u16], names: &[u8], out: &mut [u8]) -> usize

@@ -12,22 +12,22 @@ use Rattle.kinds.specs.declared.limits.Kind.the-variants.{Plain, Preference}
 use Rattle.kinds.specs.declared.refusals.Refusal.the-variants.{RuleStore, NameStore}
 use Rattle.stores.specs.Program.{Program, Form}
 use Rattle.stores.specs.RuleStore.{StoreOf, encode, decode, ruleStore, isOf}
-use Rattle.names.specs.NameStore.{NamesForm, NamesOf, encodeNames, decodeNames, names?}
+use Rattle.name_store.specs.NameStore.{NamesForm, NamesOf, encodeNames, decodeNames, names?}
 use Rattle.stores.specs.declared.rule_store.RuleStore.the-variants.{Of, Refused as NoStore}
-use Rattle.names.proofs.NameStores.{decode-names, decoded-names}
+use Rattle.name_store.proofs.NameStores.{decode-names, decoded-names}
 use Rattle.stores.proofs.RuleStores.{decode-encode, of-kind}
 use Rattle.pairing.specs.Translated.{translated, translatedNames}
 use Rattle.pairing.proofs.PlainForm.{plain-form}
 use Rattle.pairing.proofs.PlainNames.{plain-names}
-use Rattle.writer.specs.Text.{textOf}
-use Rattle.writer.specs.Emitted.{Emitted}
+use Rattle.text.specs.Text.{textOf}
+use Rattle.text.specs.Emitted.{Emitted}
 use Rattle.writer.specs.Answers.{fitted, fittedOutput, storesText}
 use Rattle.writer.specs.declared.Written.{Written}
 use Rattle.writer.specs.declared.Written.the-variants.{Refused}
 use Rattle.translation.specs.Answers.{translationText, storesTranslation, translateAnswer, translateOutput}
-use Rattle.translation.specs.PreferenceStore.{PreferenceStore}
-use Rattle.translation.proofs.FileStore.{store-fits}
-use Rattle.translation.proofs.FileNames.{names-fit}
+use Rattle.translated.specs.PreferenceStore.{PreferenceStore}
+use Rattle.translated.proofs.FileStore.{store-fits}
+use Rattle.translated.proofs.FileNames.{names-fit}
 
 -- what stands at the front of a scratch that has room
 module _ {before w after : List ℕ} {next : ℕ} (e : Emitted before 0 w after next) (room : length w ≤ length before) where

@@ -7,10 +7,10 @@ use Rattle.kinds.specs.declared.limits.Kind.the-variants.{Preference}
 use Rattle.kinds.specs.declared.refusals.Refusal.the-variants.{RuleStore, NameStore}
 use Rattle.stores.specs.Program.{Program}
 use Rattle.stores.specs.RuleStore.{decode, ruleStore, isOf}
-use Rattle.names.specs.NameStore.{names?, decodeNames}
+use Rattle.name_store.specs.NameStore.{names?, decodeNames}
 use Rattle.writer.specs.declared.Written.{Written}
 use Rattle.writer.specs.declared.Written.the-variants.{Refused}
-use Rattle.writer.specs.Text.{textOf}
+use Rattle.text.specs.Text.{textOf}
 use Rattle.writer.specs.Answers.{over, fitted, writtenBytes}
 use Rattle.pairing.specs.Translated.{translated, translatedNames}
 

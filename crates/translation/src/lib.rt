@@ -1,21 +1,12 @@
 // The stores of a preference file to the text of its plain program (document 01, "The translation").
-mod class_steps;
-mod classes;
-mod offsets;
-mod rule_steps;
-mod steps;
-mod translated_names;
-mod translated_rules;
-mod words;
-
 use kinds::limits::Kind;
 use kinds::limits::Plain;
 use kinds::refusals::Refusal;
-use names::store::check_names;
+use name_store::store::check_names;
 use stores::rule_store::RuleStore;
 use stores::rule_store::check_rules;
-use translated_names::translate_names;
-use translated_rules::translate_rules;
+use translated::translated_names::translate_names;
+use translated::translated_rules::translate_rules;
 use writer::Written;
 use writer::write_checked;
 ghost use mathlib.Core.Path.{_≡_};
@@ -23,10 +14,10 @@ ghost use Prim.Native.Nat.{_≤_};
 ghost use lib.ListN.{length};
 ghost use Rattle.kinds.specs.declared.limits.Kind.the-variants.{Preference};
 ghost use Rattle.stores.specs.RuleStore.{decode};
-ghost use Rattle.names.specs.NameStore.{NamesOf, decodeNames};
+ghost use Rattle.name_store.specs.NameStore.{NamesOf, decodeNames};
 ghost use Rattle.writer.specs.Answers.{fitted, fittedOutput};
 ghost use Rattle.translation.specs.Answers.{storesTranslation, translateAnswer, translateOutput};
-ghost use Rattle.translation.specs.PreferenceStore.{PreferenceStore};
+ghost use Rattle.translated.specs.PreferenceStore.{PreferenceStore};
 
 // The largest stores of a plain program: four words, three a rule and one an occurrence; 18 bytes a name and its length.
 const WORDS: usize = 4 + 3 * Plain::RULES + Plain::OCCURRENCES;

@@ -14,19 +14,19 @@ use lib.ListN.{length, getD}
 use borrow.Author.Tests.{eq-eqb, ne-eqb}
 use Rattle.rules.specs.Sets.{has}
 use Rattle.rules.proofs.Booleans.{eq→eqb, T-of}
-use Rattle.verdicts.specs.Walk.{search, capped}
-use Rattle.verdicts.specs.Masks.{firstM, modelM, agreeM, sparesM, lackingM, withinM, beatsM, preferredWalkM, preferredM}
-use Rattle.verdicts.specs.declared.answers.Verdict.{Verdict}
-use Rattle.verdicts.specs.declared.answers.Verdict.the-variants.{Yes, Broken, Beaten, Spent}
+use Rattle.walks.specs.Walk.{search, capped}
+use Rattle.masks.specs.Masks.{firstM, modelM, agreeM, sparesM, lackingM, withinM, beatsM, preferredWalkM, preferredM}
+use Rattle.walks.specs.declared.answers.Verdict.{Verdict}
+use Rattle.walks.specs.declared.answers.Verdict.the-variants.{Yes, Broken, Beaten, Spent}
 use Rattle.rules.specs.Lists.{filter, from}
-use Rattle.verdicts.proofs.Bits.{bit, bit-lt}
-use Rattle.verdicts.proofs.MaskBits.{disjoint, agrees, part-of}
-use Rattle.verdicts.proofs.Filters.{upTo}
-use Rattle.verdicts.proofs.Searches.{Answered, walked-answered, search-walked}
+use Rattle.masks.proofs.Bits.{bit, bit-lt}
+use Rattle.masks.proofs.MaskBits.{disjoint, agrees, part-of}
+use Rattle.walks.proofs.Filters.{upTo}
+use Rattle.walks.proofs.Searches.{Answered, walked-answered, search-walked}
 use Rattle.verdicts.proofs.FreeAtoms.{freeOf, first-place, next-place, last-place, before-total}
 use Rattle.verdicts.specs.Subsets.{rank}
 use Rattle.verdicts.proofs.Steps.{walk-first, walk-found, walk-next, walk-last, walk-spent, capped-yes, capped-beaten}
-use Rattle.verdicts.proofs.Stepping.{lacks, lacks-bit, stands, stands-agrees, gap, gap-last, or-again, le-or, agrees-sum}
+use Rattle.masks.proofs.Stepping.{lacks, lacks-bit, stands, stands-agrees, gap, gap-last, or-again, le-or, agrees-sum}
 
 -- a set with an atom of the first class that the other lacks does not beat it
 

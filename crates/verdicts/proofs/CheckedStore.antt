@@ -22,16 +22,16 @@ use Rattle.rules.proofs.Preferred.{all-of-class}
 use Rattle.stores.specs.Program.{Program, ClassesForm, RuleForm, NotForm}
 use Rattle.stores.specs.RuleStore.{ruleWords, encode, StoreOf, wordCount, places, rulesFrom, decode}
 use Rattle.stores.proofs.RuleTests.{past-front}
-use Rattle.verdicts.specs.Walk.{search, capped, stableWalk, preferredNeeds, stableNeeds, preferredVerdict, stableVerdict, candidates, firstState, cappedNext, nextVerdict}
-use Rattle.verdicts.specs.Masks.{maskOf, careOf, wantOf, filled, classMasks, firstM, modelM, preferredM, stableWalkM, gatherCare, gatherWant}
-use Rattle.verdicts.specs.declared.answers.Verdict.{Verdict}
-use Rattle.verdicts.specs.declared.answers.Verdict.the-variants.{Broken}
-use Rattle.verdicts.specs.declared.answers.NextState.{NextState}
-use Rattle.verdicts.specs.Rows.{Row, Rows}
-use Rattle.verdicts.proofs.ClassMasks.{no-class, all-at}
-use Rattle.verdicts.proofs.RuleMasks.{first-mask, model-mask, same-nots}
+use Rattle.walks.specs.Walk.{search, capped, stableWalk, preferredNeeds, stableNeeds, preferredVerdict, stableVerdict, candidates, firstState, cappedNext, nextVerdict}
+use Rattle.masks.specs.Masks.{maskOf, careOf, wantOf, filled, classMasks, firstM, modelM, preferredM, stableWalkM, gatherCare, gatherWant}
+use Rattle.walks.specs.declared.answers.Verdict.{Verdict}
+use Rattle.walks.specs.declared.answers.Verdict.the-variants.{Broken}
+use Rattle.walks.specs.declared.answers.NextState.{NextState}
+use Rattle.masks.specs.Rows.{Row, Rows}
+use Rattle.masks.proofs.ClassMasks.{no-class, all-at}
+use Rattle.masks.proofs.RuleMasks.{first-mask, model-mask, same-nots}
 use Rattle.verdicts.proofs.VerdictMasks.{preferred-mask, stable-walk-mask, gather-walk}
-use Rattle.verdicts.proofs.RowLaws.{front}
+use Rattle.masks.proofs.RowLaws.{front}
 
 -- the mask of atoms below n is below 2^n
 mask-lt : (n : ℕ) (xs : List ℕ) → All (λ a. a < n) xs → maskOf xs < 2 ^ n

@@ -9,9 +9,9 @@ use lib.Count.{ones, ones-step}
 use lib.Dec.{eqb→eq}
 use Rattle.rules.proofs.Booleans.{eq→eqb}
 use Rattle.verdicts.specs.Subsets.{rank, NextSub}
-use Rattle.verdicts.proofs.MaskBits.{disjoint, inside}
-use Rattle.verdicts.proofs.MaskLoops.{shifted}
-use Rattle.verdicts.proofs.Stepping.{least, le-or, or-again}
+use Rattle.masks.proofs.MaskBits.{disjoint, inside}
+use Rattle.masks.proofs.MaskLoops.{shifted}
+use Rattle.masks.proofs.Stepping.{least, le-or, or-again}
 use Rattle.verdicts.proofs.Subsets.{nx, next-sub, rank-top, rank-none, rank-le}
 
 abbrev pub freeOf : ℕ → ℕ → ℕ

@@ -20,10 +20,10 @@ use Rattle.stores.specs.declared.rule_store.RuleStore.{RuleStore}
 use Rattle.stores.specs.declared.rule_store.RuleStore.the-variants.{Of, Refused as StoreRefused}
 use Rattle.stores.proofs.RuleStores.{of-kind}
 use Rattle.stores.specs.RuleStore.{isOf}
-use Rattle.verdicts.specs.Answers.{guarded}
+use Rattle.walks.specs.Answers.{guarded}
 use Rattle.verdicts.specs.declared.guard.Guard.{Guard}
 use Rattle.verdicts.specs.declared.guard.Guard.the-variants.{Passed, Refused}
-use Rattle.verdicts.proofs.MaskLoops.{shifted}
+use Rattle.masks.proofs.MaskLoops.{shifted}
 use Rattle.verdicts.proofs.CheckedStore.{has-header, atoms-word}
 
 pub not-of : (k : Kind) → false ≡ isOf k StoreRefused

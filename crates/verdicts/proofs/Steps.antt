@@ -7,10 +7,10 @@ use native.Mathlib.Numerals.{add-one}
 use native.Mathlib.Omega.{arith}
 use lib.Dec.{T}
 use Rattle.rules.specs.Lists.{filter, from}
-use Rattle.verdicts.specs.Walk.{search, capped}
-use Rattle.verdicts.specs.declared.answers.Verdict.the-variants.{Yes, Beaten, Spent}
-use Rattle.verdicts.proofs.Filters.{upTo, passed-over, none-left, taken}
-use Rattle.verdicts.proofs.Searches.{unitsOf, walked-answered, search-walked, capped-within, capped-over}
+use Rattle.walks.specs.Walk.{search, capped}
+use Rattle.walks.specs.declared.answers.Verdict.the-variants.{Yes, Beaten, Spent}
+use Rattle.walks.proofs.Filters.{upTo, passed-over, none-left, taken}
+use Rattle.walks.proofs.Searches.{unitsOf, walked-answered, search-walked, capped-within, capped-over}
 
 pub capped-yes : (c u : ℕ) → u ≤ c → capped c (Yes u) ≡ Yes u
 capped-yes c u h = capped-within c (Yes u) tt h

@@ -10,8 +10,8 @@ use lib.Pow.{shr-le}
 use lib.Bits.{bitAnd, bitXor, and-step, xor-shr, and-le-r}
 use lib.Count.{ones, ones-step, trailingZeros, under}
 use Rattle.verdicts.specs.Subsets.{digit, rank, NextSub}
-use Rattle.verdicts.proofs.Bits.{xor-odd}
-use Rattle.verdicts.proofs.Stepping.{below-two}
+use Rattle.masks.proofs.Bits.{xor-odd}
+use Rattle.masks.proofs.Stepping.{below-two}
 
 -- s with its atom a in and those below a out, where a is out
 abbrev raised : ℕ → ℕ → ℕ

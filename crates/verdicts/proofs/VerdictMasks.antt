@@ -16,13 +16,13 @@ use Rattle.rules.specs.Preferred.{fixed, ofClass, agree?, spares?, beats?}
 use Rattle.rules.proofs.Booleans.{bool-ext, T-of, T-and-r}
 use Rattle.rules.proofs.Lists.{all-filter, all-from}
 use Rattle.rules.proofs.Stable.{subset-law}
-use Rattle.verdicts.specs.Walk.{search, preferredWalk, stableWalk, preferredNeeds}
-use Rattle.verdicts.specs.Masks.{maskOf, careOf, wantOf, firstM, modelM, classMasks, beatsM, preferredWalkM, preferredM, subsetM, stableWalkM, gatherCare, gatherWant}
-use Rattle.verdicts.specs.declared.answers.Verdict.{Verdict}
-use Rattle.verdicts.specs.declared.answers.Verdict.the-variants.{Beaten, Broken}
-use Rattle.verdicts.proofs.MaskBits.{has-and, inside}
-use Rattle.verdicts.proofs.RuleMasks.{reduct-mask, first-mask, model-mask, empty-nots}
-use Rattle.verdicts.proofs.ClassMasks.{agree-mask, spares-first}
+use Rattle.walks.specs.Walk.{search, preferredWalk, stableWalk, preferredNeeds}
+use Rattle.masks.specs.Masks.{maskOf, careOf, wantOf, firstM, modelM, classMasks, beatsM, preferredWalkM, preferredM, subsetM, stableWalkM, gatherCare, gatherWant}
+use Rattle.walks.specs.declared.answers.Verdict.{Verdict}
+use Rattle.walks.specs.declared.answers.Verdict.the-variants.{Beaten, Broken}
+use Rattle.masks.proofs.MaskBits.{has-and, inside}
+use Rattle.masks.proofs.RuleMasks.{reduct-mask, first-mask, model-mask, empty-nots}
+use Rattle.masks.proofs.ClassMasks.{agree-mask, spares-first}
 
 -- a search reads its test at the sets of its walk alone
 search-same : (b c : ℕ → Bool) (l : List ℕ) (u : ℕ) → All (λ s. b s ≡ c s) l → search b l u ≡ search c l u

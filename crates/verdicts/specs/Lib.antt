@@ -1,6 +1,2 @@
--- The walks, their units and the answers (document 01, "Verdicts").
-pub mod Walk
-pub mod Answers
-pub mod Masks
+-- The next subset of a set.
 pub mod Subsets
-pub mod Rows

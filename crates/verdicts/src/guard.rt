@@ -1,15 +1,15 @@
 // The caller's faults (document 01, "Who can be turned back"): refusals 10, 11, 12, 13 in this order.
-use crate::masks::wide;
 use kinds::limits::Kind;
 use kinds::limits::Walk;
 use kinds::refusals::Refusal;
+use masks::masks::wide;
 use stores::rule_store::RuleStore;
 use stores::rule_store::check_rules;
 ghost use mathlib.Core.Path.{_≡_};
 ghost use Prim.Native.Nat.{_+_, _≤_};
 ghost use lib.Dec.{ltb};
 ghost use Rattle.stores.specs.RuleStore.{isOf};
-ghost use Rattle.verdicts.specs.Answers.{guarded};
+ghost use Rattle.walks.specs.Answers.{guarded};
 ghost use Rattle.verdicts.specs.declared.guard.Guard.the-variants.{Passed as GuardPassed, Refused as GuardRefused};
 
 pub enum Guard {

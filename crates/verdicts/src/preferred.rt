@@ -1,14 +1,14 @@
 // The preferred verdict: the walk over all sets that agree on the fixed atoms.
-use crate::answers::Verdict;
 use crate::guard::Guard;
 use crate::guard::check_call;
-use crate::masks::fill_classes;
-use crate::masks::fill_rules;
-use crate::masks::first_broken;
-use crate::masks::least;
-use crate::masks::wide;
 use kinds::limits::Kind;
 use kinds::limits::Preference;
+use masks::masks::fill_classes;
+use masks::masks::fill_rules;
+use masks::masks::first_broken;
+use masks::masks::least;
+use masks::masks::wide;
+use walks::answers::Verdict;
 ghost use mathlib.Core.Path.{_≡_};
 ghost use Prim.Native.Nat.{_+_, _<_, _≤_, _^_};
 ghost use lib.Count.{ones};
@@ -16,9 +16,9 @@ ghost use lib.ListN.{length};
 ghost use Rattle.kinds.specs.Limits.{walkAtoms};
 ghost use Rattle.kinds.specs.declared.limits.Kind.the-variants.{Preference as KindPreference};
 ghost use Rattle.stores.specs.RuleStore.{StoreOf, decode};
-ghost use Rattle.verdicts.specs.Walk.{capped, preferredVerdict};
-ghost use Rattle.verdicts.specs.Masks.{sparesM, lackingM, beatsM, preferredWalkM, preferredM};
-ghost use Rattle.verdicts.specs.Answers.{preferredAnswer};
+ghost use Rattle.walks.specs.Walk.{capped, preferredVerdict};
+ghost use Rattle.masks.specs.Masks.{sparesM, lackingM, beatsM, preferredWalkM, preferredM};
+ghost use Rattle.walks.specs.Answers.{preferredAnswer};
 
 // Whether at the first class on which the two differ `set` has a part of what `of` has.
 fn spares(classes: &[u64], set: u64, of: u64) -> bool

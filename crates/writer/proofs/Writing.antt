@@ -17,21 +17,21 @@ use Rattle.rules.specs.Lists.{All}
 use Rattle.rules.proofs.Lists.{all-imp}
 use Rattle.names.specs.Names.{allowed}
 use Rattle.stores.specs.RuleStore.{StoreOf, decode, ruleStore, store?}
-use Rattle.names.specs.NameStore.{encodeNames, NamesOf, decodeNames, names?}
-use Rattle.names.specs.NameIndex.{Placed}
+use Rattle.name_store.specs.NameStore.{encodeNames, NamesOf, decodeNames, names?}
+use Rattle.name_store.specs.NameIndex.{Placed}
 use Rattle.stores.specs.declared.rule_store.RuleStore.the-variants.{Of, Refused as NoStore}
-use Rattle.names.proofs.NameChains.{bool-true, bool-false}
-use Rattle.names.proofs.NameStores.{allowed-short, decoded-names}
+use Rattle.name_store.proofs.NameChains.{bool-true, bool-false}
+use Rattle.name_store.proofs.NameStores.{allowed-short, decoded-names}
 use Rattle.stores.proofs.RuleStores.{store-law, of-kind, refused}
 use Rattle.stores.proofs.StoreHeader.{atoms-small}
-use Rattle.writer.specs.Text.{textOf}
-use Rattle.writer.specs.Emitted.{Emitted}
-use Rattle.writer.specs.Items.{storedNames, StoredNames}
-use Rattle.writer.specs.Sources.{Sources, sourceText}
+use Rattle.text.specs.Text.{textOf}
+use Rattle.text.specs.Emitted.{Emitted}
+use Rattle.text.specs.Items.{storedNames, StoredNames}
+use Rattle.text.specs.Sources.{Sources, sourceText}
 use Rattle.writer.specs.Answers.{fitted, fittedOutput, storesText, writeAnswer, writeOutput}
 use Rattle.writer.specs.declared.Written.{Written}
 use Rattle.writer.specs.declared.Written.the-variants.{Text, Refused}
-use Rattle.writer.proofs.TextLength.{text-fits}
+use Rattle.text.proofs.TextLength.{text-fits}
 
 -- counted, then refused or written
 module _ {none none′ w : List ℕ} {size : ℕ} (e : Emitted none 0 w none′ size) where

@@ -1,9 +1,2 @@
--- The text of a program, and what the writer answers.
-pub mod Words
-pub mod Text
+-- What the writer answers.
 pub mod Answers
-pub mod Emitted
-pub mod ClassRuns
-pub mod Items
-pub mod StoredRules
-pub mod Sources

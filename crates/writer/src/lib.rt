@@ -1,25 +1,19 @@
 // Stores to text (document 01, "The two kinds of file").
-mod atoms;
-mod classes;
-pub mod emit;
-mod rule_lines;
-mod text;
-
-use atoms::place_names;
 use kinds::limits::Kind;
 use kinds::limits::Plain;
 use kinds::refusals::Refusal;
-use names::store::check_names;
+use name_store::store::check_names;
 use stores::rule_store::RuleStore;
 use stores::rule_store::check_rules;
-use text::emit_text;
+use text::atoms::place_names;
+use text::text::emit_text;
 ghost use mathlib.Core.Path.{_≡_};
 ghost use Prim.Native.Nat.{_≤_};
 ghost use lib.ListN.{length};
 ghost use Rattle.kinds.specs.Limits.{atomLimit};
 ghost use Rattle.stores.specs.RuleStore.{StoreOf, decode};
-ghost use Rattle.names.specs.NameStore.{NamesOf, decodeNames};
-ghost use Rattle.writer.specs.Sources.{Sources, sourceText};
+ghost use Rattle.name_store.specs.NameStore.{NamesOf, decodeNames};
+ghost use Rattle.text.specs.Sources.{Sources, sourceText};
 ghost use Rattle.writer.specs.Answers.{fitted, fittedOutput, storesText, writeAnswer, writeOutput};
 
 // What the writer and the translator answer: the bytes written, or the refusal.

@@ -1,7 +1,7 @@
 use Prim.Native.Nat.{ℕ, _≤_}
 use mathlib.Core.Path.{refl}
 use lib.ListN.{replicate, length-replicate}
-use Rattle.names.specs.NameIndex.{buckets}
+use Rattle.name_store.specs.NameIndex.{buckets}
 use Rattle.stores.proofs.StoreHeader.{unmarked}
 use Rattle.reader.proofs.WholeText.{start-held, too-long, lines-refused, lines-held, delivered}
 use native.Mathlib.Omega.{arith}

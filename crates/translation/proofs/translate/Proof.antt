@@ -1,5 +1,5 @@
 use Rattle.translation.proofs.Translating.{no-store, plain-store, store-here, no-names, names-here, answered}
-use Rattle.translation.proofs.FileStore.{few-atoms, long}
+use Rattle.translated.proofs.FileStore.{few-atoms, long}
 use Rattle.stores.specs.declared.rule_store.RuleStore.the-variants.{Of}
 use borrow.Author.Tests.{not-true, not-false}
 use mathlib.Core.Path.{sym, ap, _∙_}

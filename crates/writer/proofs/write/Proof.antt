@@ -1,5 +1,5 @@
 use Rattle.writer.proofs.Writing.{no-store, store-here, atoms-fit, no-names, both-stores, answered}
-use Rattle.writer.proofs.TextParts.{store-header}
+use Rattle.text.proofs.TextParts.{store-header}
 use borrow.Author.Tests.{not-true, not-false}
 use mathlib.Core.Path.{sym, _∙_}
 use native.Mathlib.Omega.{arith}

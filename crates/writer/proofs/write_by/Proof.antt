@@ -1,6 +1,6 @@
 use Rattle.writer.proofs.Writing.{few-atoms, front-inside, front-length, front-stored, table-inside, handed-length, handed-sources, handed-answer}
 use mathlib.Core.Path.{sym}
-use Rattle.writer.proofs.TextParts.{store-header}
+use Rattle.text.proofs.TextParts.{store-header}
 use native.Mathlib.Omega.{arith}
 use borrow.Author.Needs.{needs}
 use Rattle.writer.proofs.write_by.Statement.{statement}

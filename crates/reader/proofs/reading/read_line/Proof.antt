@@ -1,8 +1,8 @@
 use mathlib.Core.Path.{ap, subst}
-use Rattle.reader.specs.Forms.{formOf}
-use Rattle.reader.specs.Faults.{stepForm}
-use Rattle.reader.specs.Shapes.{ShapeIs}
-use Rattle.reader.specs.Gathered.{stateOf}
+use Rattle.lines.specs.Forms.{formOf}
+use Rattle.lines.specs.Faults.{stepForm}
+use Rattle.lines.specs.Shapes.{ShapeIs}
+use Rattle.gathering.specs.Gathered.{stateOf}
 use borrow.Author.Needs.{needs}
 use Rattle.reader.proofs.reading.read_line.Statement.{statement}
 use Rattle.reader.proofs.reading.read_line.Tie as tie

@@ -1,5 +1,5 @@
 use Rattle.rigtomato.proofs.ProgramTexts.{translation-refused, translation-fits, translation-is}
-use Rattle.rigtomato.proofs.PrintedLines.{shown-renamed}
+use Rattle.printing.proofs.PrintedLines.{shown-renamed}
 use mathlib.Core.Path.{refl}
 use native.Mathlib.Omega.{arith}
 use borrow.Author.Needs.{needs}

@@ -2,9 +2,9 @@ use lib.Dec.{ltb}
 use borrow.Author.Needs.{needs}
 use Rattle.kinds.specs.declared.limits.Kind.the-variants.{Preference}
 use Rattle.stores.specs.RuleStore.{decode}
-use Rattle.verdicts.specs.Walk.{preferredVerdict}
-use Rattle.verdicts.specs.Answers.{preferredAnswer}
-use Rattle.verdicts.specs.declared.answers.Verdict.the-variants.{Refused}
+use Rattle.walks.specs.Walk.{preferredVerdict}
+use Rattle.walks.specs.Answers.{preferredAnswer}
+use Rattle.walks.specs.declared.answers.Verdict.the-variants.{Refused}
 use Rattle.verdicts.proofs.Guarding.{call-passes, answer-told, refusal-told, below-top}
 use Rattle.verdicts.proofs.preferred.preferred.Statement.{statement}
 use Rattle.verdicts.proofs.preferred.preferred.Tie as tie

@@ -2,7 +2,7 @@ use mathlib.Core.Path.{_≡_, sym, _∙_}
 use Prim.Native.Nat.{_+_, _-_}
 use borrow.Author.Needs.{needs}
 use lib.Count.{ones}
-use Rattle.verdicts.specs.Masks.{lackingM}
+use Rattle.masks.specs.Masks.{lackingM}
 use Rattle.verdicts.proofs.FreeAtoms.{total-is}
 use Rattle.verdicts.proofs.AgreeingSets.{Position, walk-begins, walk-fits, walk-finds, walk-goes-on, walk-is-spent, walk-ends}
 use Rattle.verdicts.proofs.preferred.preferred_walk.Statement.{statement}

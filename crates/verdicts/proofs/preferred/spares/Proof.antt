@@ -2,8 +2,8 @@ use mathlib.Core.Path.{_≡_, refl}
 use Prim.Native.Nat.{_-_, _≤_}
 use borrow.Author.Needs.{needs}
 use lib.ListN.{length, drop}
-use Rattle.verdicts.specs.Masks.{sparesM}
-use Rattle.verdicts.proofs.MaskLoops.{spares-none, spares-found, spares-more}
+use Rattle.masks.specs.Masks.{sparesM}
+use Rattle.masks.proofs.MaskLoops.{spares-none, spares-found, spares-more}
 use Rattle.verdicts.proofs.preferred.spares.Statement.{statement}
 use Rattle.verdicts.proofs.preferred.spares.Tie as tie
 

@@ -1,5 +1,5 @@
 use native.Mathlib.Omega.{arith}
-use Rattle.verdicts.proofs.MaskLoops.{shl-pos}
+use Rattle.masks.proofs.MaskLoops.{shl-pos}
 use Rattle.verdicts.proofs.ProperSubsets.{ones-small, proper-is}
 use Rattle.verdicts.proofs.stable.proper_subsets.Statement.{statement}
 use Rattle.verdicts.proofs.stable.proper_subsets.Tie as tie

@@ -2,9 +2,9 @@ use lib.Dec.{ltb}
 use borrow.Author.Needs.{needs}
 use Rattle.kinds.specs.declared.limits.Kind.the-variants.{Plain}
 use Rattle.stores.specs.RuleStore.{decode}
-use Rattle.verdicts.specs.Walk.{stableVerdict}
-use Rattle.verdicts.specs.Answers.{stableAnswer}
-use Rattle.verdicts.specs.declared.answers.Verdict.the-variants.{Refused}
+use Rattle.walks.specs.Walk.{stableVerdict}
+use Rattle.walks.specs.Answers.{stableAnswer}
+use Rattle.walks.specs.declared.answers.Verdict.the-variants.{Refused}
 use Rattle.verdicts.proofs.Guarding.{call-passes, answer-told, refusal-told, below-top, set-inside}
 use Rattle.verdicts.proofs.stable.stable.Statement.{statement}
 use Rattle.verdicts.proofs.stable.stable.Tie as tie

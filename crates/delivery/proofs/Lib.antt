@@ -1,0 +1,2 @@
+-- The laws of the delivery.
+pub mod Delivering

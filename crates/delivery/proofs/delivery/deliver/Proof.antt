@@ -1,0 +1,59 @@
+use Rattle.gathering.proofs.HeldState.{held-small}
+use Rattle.delivery.proofs.Delivering.{header-small, words-part-length, words-range, bytes-part-length, bytes-range, rules-short, names-short, both-written}
+use native.Mathlib.Omega.{arith}
+use borrow.Author.Needs.{needs}
+use Rattle.delivery.proofs.delivery.deliver.Statement.{statement}
+use Rattle.delivery.proofs.delivery.deliver.Tie as tie
+
+returns : tie.Need-returns
+returns c = rules-short (c .before .before .before .before .before .before .before .before .before .pre) _ _ (c .if1 .taken)
+
+returns-2 : tie.Need-returns-2
+returns-2 c = names-short (c .before .before .before .before .before .before .before .before .before .before .pre) _ _ (c .before .if1 .left) (c .if2 .taken)
+
+put-header-requires : tie.Need-put-header-requires
+put-header-requires c κs = header-small (c .before .before .before .before .before .before .before .before .before .before .before .pre)
+
+slice-reshare-prefix-put-words : tie.Need-slice-reshare-prefix-put-words
+slice-reshare-prefix-put-words c = omega (arith, held-small (c .before .before .before .before .before .before .before .before .before .before .before .before .before .before .pre) .words, c .before .before .before .before .before .before .before .before .before .before .before .before .before .before .pre .words-room, c .before .before .put-header .kept .1 .1 .0)
+
+slice-aggregate-put-words : tie.Need-slice-aggregate-put-words
+slice-aggregate-put-words c = words-part-length (c .before .before .before .before .before .before .before .before .before .before .before .before .before .before .before .pre) (c .before .before .before .put-header .ensures)
+
+put-words-requires : tie.Need-put-words-requires
+put-words-requires c κs = words-range (c .before .before .before .before .before .before .before .before .before .before .before .before .before .before .before .before .pre) (c .before .before .before .before .put-header .ensures)
+
+slice-aggregate-emit : tie.Need-slice-aggregate-emit
+slice-aggregate-emit c = bytes-part-length (c .before .before .before .before .before .before .before .before .before .before .before .before .before .before .before .before .before .before .before .before .pre)
+
+emit-requires : tie.Need-emit-requires
+emit-requires c κs = bytes-range (c .before .before .before .before .before .before .before .before .before .before .before .before .before .before .before .before .before .before .before .before .before .pre)
+
+same-length : tie.Need-same-length
+same-length c = search needs
+
+same-length-2 : tie.Need-same-length-2
+same-length-2 c = search needs
+
+same-length-3 : tie.Need-same-length-3
+same-length-3 c = search needs
+
+returns-3 : tie.Need-returns-3
+returns-3 c = both-written (c .before .before .before .before .before .before .before .before .before .before .before .before .before .before .before .before .before .before .before .before .before .before .before .before .pre) _ _ (c .before .before .before .before .before .before .before .before .before .before .before .before .before .before .before .if1 .left) (c .before .before .before .before .before .before .before .before .before .before .before .before .before .before .if2 .left) (c .before .before .before .before .before .before .before .before .before .before .before .before .put-header .ensures) (c .before .before .before .before .before .before .before .put-words .ensures) (c .before .before .emit .ensures)
+
+pub deliver-spec : {M : Type 1} → statement M
+deliver-spec =
+    tie.close
+    (tie.spec
+    returns
+    returns-2
+    put-header-requires
+    slice-reshare-prefix-put-words
+    slice-aggregate-put-words
+    put-words-requires
+    slice-aggregate-emit
+    emit-requires
+    same-length
+    same-length-2
+    same-length-3
+    returns-3)

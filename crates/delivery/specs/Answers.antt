@@ -1,0 +1,43 @@
+-- The reader's answer and what it leaves in the two lent outputs; refusal 9 comes after 1 to 8.
+use Prim.Native.Nat.{ℕ}
+use mathlib.Core.Bool.{cond, _&&_}
+use mathlib.Core.List.{List, []}
+use lib.Dec.{leb}
+use lib.ListN.{length}
+use Rattle.kinds.specs.declared.refusals.Refusal.the-variants.{Output}
+use Rattle.stores.specs.RuleStore.{encode}
+use Rattle.name_store.specs.NameStore.{encodeNames}
+use Rattle.writer.specs.Answers.{over}
+use Rattle.delivery.specs.declared.answers.Read.{Read}
+use Rattle.delivery.specs.declared.answers.Read.the-variants.{Accepted, Refused}
+use Rattle.lines.specs.Faults.{State}
+use Rattle.delivery.specs.Said.{Said, accepted, refused, said, programOf}
+
+-- the two stores of the lines
+abbrev pub ruleWordsOf : State → List ℕ
+ruleWordsOf st = encode (programOf st)
+
+abbrev pub nameBytesOf : State → List ℕ
+nameBytesOf st = encodeNames (st .names)
+
+abbrev pub answerOf : Said → ℕ → ℕ → Read
+answerOf (accepted st) words bytes =
+    cond (leb (length (ruleWordsOf st)) words && leb (length (nameBytesOf st)) bytes)
+    (Accepted (length (ruleWordsOf st)) (length (nameBytesOf st)))
+    (Refused Output 0)
+answerOf (refused f k) words bytes = Refused f k
+
+-- what is written: both stores or nothing
+abbrev pub writtenIf : Read → (State → List ℕ) → Said → List ℕ
+writtenIf (Accepted w b) store (accepted st) = store st
+writtenIf (Accepted w b) store (refused f k) = []
+writtenIf (Refused f k) store s = []
+
+unfoldable pub readAnswer : List ℕ → ℕ → ℕ → Read
+readAnswer text words bytes = answerOf (said text) words bytes
+
+unfoldable pub readRules : List ℕ → List ℕ → List ℕ → List ℕ
+readRules text rules names = over (writtenIf (readAnswer text (length rules) (length names)) ruleWordsOf (said text)) rules
+
+unfoldable pub readNames : List ℕ → List ℕ → List ℕ → List ℕ
+readNames text rules names = over (writtenIf (readAnswer text (length rules) (length names)) nameBytesOf (said text)) names

@@ -1,0 +1,2 @@
+-- What the scratch stores say of the lines so far.
+pub mod Gathered

@@ -1,0 +1,155 @@
+// A rule's line against what the lines before have given.
+use crate::gathered::Gathered;
+use crate::gathered::Line;
+use kinds::limits::Kind;
+use kinds::refusals::Refusal;
+use lines::stage::Stage;
+use numbering::numbers;
+use numbering::numbers::Numbers;
+ghost use mathlib.Core.Path.{_≡_};
+ghost use Prim.Native.Nat.{_+_, _^_, _≤_, _<_};
+ghost use mathlib.Core.Bool.{_&&_};
+ghost use mathlib.Core.List.{[], _∷_};
+ghost use lib.Dec.{leb};
+ghost use lib.ListN.{length};
+ghost use Rattle.kinds.specs.Limits.{ruleLimit, occurrenceLimit, textLimit};
+ghost use Rattle.text.specs.Emitted.{Emitted};
+ghost use Rattle.lines.specs.Forms.{formOf};
+ghost use Rattle.lines.specs.Faults.{ruling?};
+ghost use Rattle.lines.specs.Shapes.{Ruled};
+ghost use Rattle.gathering.specs.Gathered.{stateOf, Held, LineIs, filledCount, Kept};
+
+pub fn is_ruling(stage: Stage) -> bool
+    ensures { λ r. ⌜ r ≡ ruling? stage ⌝ }
+{
+    match stage {
+        Stage::Declaring => false,
+        Stage::Fixing => false,
+        Stage::Ruling => true,
+    }
+}
+
+fn rule_fits(kind: Kind, rules: usize, occurrences: usize) -> bool
+    ensures { λ r. ⌜ r ≡ (leb rules (ruleLimit kind) && leb occurrences (occurrenceLimit kind)) ⌝ }
+{
+    if kind.rules() < rules {
+        return false;
+    }
+    occurrences <= kind.occurrences()
+}
+
+// A filled `not` list in a preference file.
+fn is_filled(kind: Kind, nots: usize) -> bool
+    ensures { λ r. ⌜ r ≡ filledCount kind nots ⌝ }
+{
+    match kind {
+        Kind::Plain => false,
+        Kind::Preference => 0 < nots,
+    }
+}
+
+fn put_counts(heads: usize, bodies: usize, nots: usize, words: &mut [u16], at: usize) -> usize
+    requires { ⌜ (heads < 65536) × (bodies < 65536) × (nots < 65536) × (at < 2 ^ 62) ⌝ }
+    ensures { λ r. ⌜ Emitted (now (words .entry)) at (heads ∷ bodies ∷ nots ∷ []) (now (words .exit)) r ⌝ }
+{
+    let second = numbers::push_word(heads as u16, words, at);
+    let third = numbers::push_word(bodies as u16, words, second);
+    numbers::push_word(nots as u16, words, third)
+}
+
+// A rule whose numbers stand written up to `end`, behind its three counts.
+fn keep_rule(
+    kind: Kind,
+    gathered: Gathered,
+    heads: usize,
+    bodies: usize,
+    nots: usize,
+    end: usize,
+    words: &mut [u16],
+) -> Line
+    requires { ⌜ (heads + bodies + nots < 2 ^ 62) × (gathered .rules < 2 ^ 62) × (gathered .occurrences < 2 ^ 62) × (gathered .words < 2 ^ 62) ⌝ }
+    ensures { λ r. ⌜ Kept kind gathered heads bodies nots end (now (words .entry)) (now (words .exit)) r ⌝ }
+{
+    let rules = gathered.rules + 1;
+    let occurrences = gathered.occurrences + (heads + bodies + nots);
+    let fits = rule_fits(kind, rules, occurrences);
+    if !fits {
+        return Line::Fault(Refusal::Limit);
+    }
+    if is_filled(kind, nots) {
+        return Line::Fault(Refusal::FilledNot);
+    }
+    let stage = gathered.stage;
+    let classes = gathered.classes;
+    let atoms = gathered.atoms;
+    let bytes = gathered.bytes;
+    let at = gathered.words;
+    put_counts(heads, bodies, nots, words, at);
+    Line::Next(Gathered {
+        stage,
+        classes,
+        atoms,
+        rules,
+        occurrences,
+        words: end,
+        bytes,
+    })
+}
+
+// A line of a rule's form, its lists at the places that the form gives.
+pub fn add_rule(
+    line: &[u8],
+    kind: Kind,
+    gathered: Gathered,
+    head: usize,
+    body: usize,
+    not: usize,
+    heads: usize,
+    bodies: usize,
+    nots: usize,
+    refused: bool,
+    words: &mut [u16],
+    bytes: &[u8],
+    starts: &[u16],
+    firsts: &[u16],
+    links: &[u16],
+    marks: &mut [u16],
+) -> Line
+    requires { ⌜ Ruled kind (now line) (formOf (now line)) head body not heads bodies nots refused ⌝ }
+    requires { ⌜ length (now line) ≤ textLimit ⌝ }
+    requires { ⌜ Held kind (stateOf kind gathered (now words) (now bytes)) gathered (now words) (now bytes) (now starts) (now firsts) (now links) (now marks) ⌝ }
+    ensures { λ r. ⌜ LineIs kind (stateOf kind gathered (now (words .entry)) (now (bytes .entry))) (formOf (now (line .entry))) (now (words .exit)) (now (bytes .entry)) (now (starts .entry)) (now (firsts .entry)) (now (links .entry)) (now (marks .exit)) r ⌝ }
+{
+    let stage = gathered.stage;
+    let ruling = is_ruling(stage);
+    if !ruling {
+        return Line::Fault(Refusal::Form);
+    }
+    if refused {
+        return Line::Fault(Refusal::Name);
+    }
+    let atoms = gathered.atoms;
+    let rules = gathered.rules;
+    let at = gathered.words + 3;
+    let stamp = (3 * rules + 1) as u16;
+    let Numbers::List { end, twice } = numbers::rule_numbers(
+        line,
+        head,
+        body,
+        not,
+        bytes,
+        &starts[..atoms],
+        firsts,
+        links,
+        marks,
+        stamp,
+        words,
+        at,
+    ) else {
+        return Line::Fault(Refusal::Undeclared);
+    };
+    if twice {
+        return Line::Fault(Refusal::TwiceInList);
+    }
+    keep_rule(kind, gathered, heads, bodies, nots, end, words)
+}

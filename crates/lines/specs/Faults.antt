@@ -1,0 +1,156 @@
+-- The faults of one line, the lowest number first (document 01, "Who can be turned back").
+use Prim.Native.Nat.{ℕ, suc, _+_}
+use mathlib.Core.Bool.{Bool, true, false, cond, not, _&&_, _||_}
+use mathlib.Core.List.{List, [], _∷_, _++_, map}
+use lib.Dec.{leb}
+use lib.ListN.{length, replicate}
+use Rattle.kinds.specs.Limits.{atomLimit, ruleLimit, occurrenceLimit, classLimit}
+use Rattle.kinds.specs.declared.limits.Kind.{Kind}
+use Rattle.kinds.specs.declared.limits.Kind.the-variants.{Plain, Preference}
+use Rattle.kinds.specs.declared.refusals.Refusal.{Refusal}
+use Rattle.kinds.specs.declared.refusals.Refusal.the-variants.{Form as BrokenForm, Name, DeclaredTwice, Undeclared, TwiceInList, Limit, FilledNot}
+use Rattle.rules.specs.Lists.{some, sum}
+use Rattle.rules.specs.Rules.{Rule, rule, occurrences}
+use Rattle.rules.specs.Preferred.{varying, fixed}
+use Rattle.names.specs.Names.{allowed}
+use Rattle.name_store.specs.NameStore.{sameBytes}
+use Rattle.lines.specs.declared.stage.Stage.{Stage}
+use Rattle.lines.specs.declared.stage.Stage.the-variants.{Declaring, Fixing, Ruling}
+use Rattle.lines.specs.Forms.{Word, atoms, min, vary, fix, Form, declares, rules, broken}
+
+-- what the lines so far say
+pub record State : Type 0 where
+  pub kind : Kind
+  pub stage : Stage
+  pub classes : ℕ
+  pub words : List ℕ
+  pub names : List (List ℕ)
+  pub program-rules : List (Rule ℕ)
+
+-- what a line gives: the state after it, or its lowest fault
+pub data Step : Type 0 where
+  next : State → Step
+  fault : Refusal → Step
+
+-- the order of the lines
+abbrev pub expects : Kind → Stage → Word → Bool
+expects Plain Declaring atoms = true
+expects Plain Declaring min = false
+expects Plain Declaring vary = false
+expects Plain Declaring fix = false
+expects Plain Fixing w = false
+expects Plain Ruling w = false
+expects Preference Declaring atoms = false
+expects Preference Declaring min = true
+expects Preference Declaring vary = true
+expects Preference Declaring fix = false
+expects Preference Fixing atoms = false
+expects Preference Fixing min = false
+expects Preference Fixing vary = false
+expects Preference Fixing fix = true
+expects Preference Ruling w = false
+
+abbrev pub ruling? : Stage → Bool
+ruling? Declaring = false
+ruling? Fixing = false
+ruling? Ruling = true
+
+abbrev pub stageAfter : Word → Stage
+stageAfter atoms = Ruling
+stageAfter min = Declaring
+stageAfter vary = Fixing
+stageAfter fix = Ruling
+
+-- the classes after a line
+abbrev pub classesAfter : Word → ℕ → ℕ
+classesAfter atoms k = k
+classesAfter min k = suc k
+classesAfter vary k = k
+classesAfter fix k = k
+
+-- the class words of a line's atoms
+abbrev pub classWords : Word → ℕ → ℕ → List ℕ
+classWords atoms k c = []
+classWords min k c = replicate c (suc k)
+classWords vary k c = replicate c varying
+classWords fix k c = replicate c fixed
+
+-- some name of the second list is in the first, or again in the second
+unfoldable pub twice : List (List ℕ) → List (List ℕ) → Bool
+twice old [] = false
+twice old (x ∷ xs) = some (sameBytes x) old || twice (old ++ (x ∷ [])) xs
+
+abbrev pub refusedName : Kind → List ℕ → Bool
+refusedName kind x = not (allowed kind x)
+
+abbrev pub undeclared : List (List ℕ) → List ℕ → Bool
+undeclared names x = not (some (sameBytes x) names)
+
+-- the number of a declared name: how many stand before it
+unfoldable pub numberOf : List (List ℕ) → List ℕ → ℕ
+numberOf [] x = 0
+numberOf (y ∷ ys) x = cond (sameBytes x y) 0 (suc (numberOf ys x))
+
+-- true in any of a rule's three lists
+abbrev pub anyOf : (List (List ℕ) → Bool) → List (List ℕ) → List (List ℕ) → List (List ℕ) → Bool
+anyOf p hs bs ns = p hs || (p bs || p ns)
+
+abbrev pub first : Bool → Refusal → Step → Step
+first true f s = fault f
+first false f s = s
+
+abbrev pub declared : State → Word → List (List ℕ) → State
+declared st w xs = record {
+  kind = st .kind;
+  stage = stageAfter w;
+  classes = classesAfter w (st .classes);
+  words = st .words ++ classWords w (st .classes) (length xs);
+  names = st .names ++ xs;
+  program-rules = st .program-rules;
+}
+
+-- a line that declares atoms: its order, then name lengths, then declared twice, then the counts
+unfoldable pub declare : State → Word → List (List ℕ) → Step
+declare st w xs =
+    first (not (expects (st .kind) (st .stage) w)) BrokenForm
+    (first (some (refusedName (st .kind)) xs) Name
+    (first (twice (st .names) xs) DeclaredTwice
+    (first (not (leb (length (st .names) + length xs) (atomLimit (st .kind)) && leb (classesAfter w (st .classes)) classLimit)) Limit
+    (next (declared st w xs)))))
+
+abbrev pub numbered : List (List ℕ) → List (List ℕ) → List (List ℕ) → List (List ℕ) → Rule ℕ
+numbered names hs bs ns = rule (map (numberOf names) hs) (map (numberOf names) bs) (map (numberOf names) ns)
+
+abbrev pub with-rule : State → Rule ℕ → State
+with-rule st r = record {
+  kind = st .kind;
+  stage = st .stage;
+  classes = st .classes;
+  words = st .words;
+  names = st .names;
+  program-rules = st .program-rules ++ (r ∷ []);
+}
+
+abbrev pub filled : Kind → List (List ℕ) → Bool
+filled Plain xs = false
+filled Preference [] = false
+filled Preference (x ∷ xs) = true
+
+-- a rule: its order, names, undeclared, twice in a list, the counts, a filled `not` list
+unfoldable pub addRule : State → List (List ℕ) → List (List ℕ) → List (List ℕ) → Step
+addRule st hs bs ns =
+    first (not (ruling? (st .stage))) BrokenForm
+    (first (anyOf (some (refusedName (st .kind))) hs bs ns) Name
+    (first (anyOf (some (undeclared (st .names))) hs bs ns) Undeclared
+    (first (anyOf (twice []) hs bs ns) TwiceInList
+    (first
+    (not
+    (leb (suc (length (st .program-rules))) (ruleLimit (st .kind))
+    && leb (sum occurrences (st .program-rules) + (length hs + length bs + length ns)) (occurrenceLimit (st .kind))))
+    Limit
+    (first (filled (st .kind) ns) FilledNot (next (with-rule st (numbered (st .names) hs bs ns))))))))
+
+abbrev pub stepForm : State → Form → Step
+stepForm st (declares w xs) = declare st w xs
+stepForm st (rules hs bs ns) = addRule st hs bs ns
+stepForm st broken = fault BrokenForm

@@ -1,0 +1,2 @@
+-- The laws of the next state.
+pub mod Candidates

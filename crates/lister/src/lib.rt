@@ -1,0 +1,2 @@
+// The next state (document 01, "Verdicts").
+pub mod next;

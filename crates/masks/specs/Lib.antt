@@ -1,0 +1,3 @@
+-- Rules and classes as masks.
+pub mod Masks
+pub mod Rows

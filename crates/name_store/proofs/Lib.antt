@@ -1,0 +1,8 @@
+-- The laws of the name store and of its index.
+pub mod NameStores
+pub mod ByteLoops
+pub mod NamePlaces
+pub mod NameChains
+pub mod NameEntries
+pub mod NameChecks
+pub mod NameClauses

@@ -1,0 +1,3 @@
+-- The name store and its index.
+pub mod NameStore
+pub mod NameIndex

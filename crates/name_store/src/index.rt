@@ -1,0 +1,130 @@
+// The index of a name store: an atom's name by its number, and its number by the name.
+ghost use mathlib.Core.Bool.{cond};
+ghost use mathlib.Core.Path.{_≡_};
+ghost use Prim.Native.Nat.{_+_, _≤_, _<_};
+ghost use mathlib.Core.List.{[]};
+ghost use lib.ListN.{length, getD, set};
+ghost use Rattle.name_store.specs.NameStore.{decodeNames, sameBytes};
+ghost use Rattle.name_store.specs.NameIndex.{found, new?, nameEnd, nameHash, buckets, Placed, Indexed};
+
+// The values of the hash.
+pub const BUCKETS: usize = 2048;
+
+pub enum Found {
+    At(usize),
+    Missing,
+}
+
+pub fn same_bytes(a: &[u8], b: &[u8]) -> bool
+    ensures { λ r. ⌜ r ≡ sameBytes (now (a .entry)) (now (b .entry)) ⌝ }
+{
+    if a.len() != b.len() {
+        return false;
+    }
+    let mut i: usize = 0;
+    while i < a.len() {
+        if a[i] != b[i] {
+            return false;
+        }
+        i += 1;
+    }
+    true
+}
+
+pub fn hash(name: &[u8]) -> usize
+    ensures { λ r. ⌜ r ≡ nameHash (now (name .entry)) ⌝ }
+{
+    let mut h: usize = 0;
+    let mut i: usize = 0;
+    while i < name.len() {
+        h = (h * 31 + name[i] as usize) % BUCKETS;
+        i += 1;
+    }
+    h
+}
+
+// The end of the name whose length byte stands at `at`.
+pub fn name_end(bytes: &[u8], at: usize) -> Found
+    ensures { λ r. ⌜ r ≡ nameEnd (now (bytes .entry)) at ⌝ }
+{
+    if bytes.len() <= at {
+        return Found::Missing;
+    }
+    let from = at + 1;
+    let size = bytes[at] as usize;
+    if bytes.len() - from < size {
+        return Found::Missing;
+    }
+    Found::At(from + size)
+}
+
+// The name of an atom; `starts` has a place for each atom.
+pub fn name_at<'a>(bytes: &'a [u8], starts: &[u16], atom: usize) -> &'a [u8]
+    requires { ⌜ Placed (decodeNames (length (now starts)) (now bytes)) (now bytes) (now starts) × (atom < length (now starts)) ⌝ }
+    ensures { λ r. ⌜ now r ≡ getD (decodeNames (length (now (starts .entry))) (now (bytes .entry))) atom [] ⌝ }
+{
+    let at = starts[atom] as usize;
+    let from = at + 1;
+    let to = from + bytes[at] as usize;
+    &bytes[from..to]
+}
+
+// The number of a name; `starts` has a place for each atom.
+pub fn find(bytes: &[u8], starts: &[u16], heads: &[u16], next: &[u16], name: &[u8]) -> Found
+    requires { ⌜ Indexed (decodeNames (length (now starts)) (now bytes)) (now bytes) (now starts) (now heads) (now next) ⌝ }
+    ensures { λ r. ⌜ r ≡ found (now (name .entry)) (decodeNames (length (now (starts .entry))) (now (bytes .entry))) ⌝ }
+{
+    let mut link = heads[hash(name)] as usize;
+    while 0 < link {
+        let atom = link - 1;
+        if same_bytes(name_at(bytes, starts, atom), name) {
+            return Found::At(atom);
+        }
+        link = next[atom] as usize;
+    }
+    Found::Missing
+}
+
+// Enters the name of an atom, whose length byte stands at `at`.
+pub fn enter(
+    name: &[u8],
+    starts: &mut [u16],
+    heads: &mut [u16],
+    next: &mut [u16],
+    atom: usize,
+    at: usize,
+)
+    requires { ⌜ (atom < length (now starts)) × (buckets ≤ length (now heads)) × (atom < length (now next)) × (atom + 1 < 65536) × (at < 65536) ⌝ }
+    ensures { λ r. ⌜ now (starts .exit) ≡ set (now (starts .entry)) atom at ⌝ }
+    ensures { λ r. ⌜ now (heads .exit) ≡ set (now (heads .entry)) (nameHash (now (name .entry))) (atom + 1) ⌝ }
+    ensures { λ r. ⌜ now (next .exit) ≡ set (now (next .entry)) atom (getD (now (heads .entry)) (nameHash (now (name .entry))) 0) ⌝ }
+{
+    let h = hash(name);
+    starts[atom] = at as u16;
+    next[atom] = heads[h];
+    heads[h] = (atom + 1) as u16;
+}
+
+// Enters the name of an atom, unless an atom before has it.
+pub fn enter_new(
+    bytes: &[u8],
+    name: &[u8],
+    starts: &mut [u16],
+    heads: &mut [u16],
+    next: &mut [u16],
+    atom: usize,
+    at: usize,
+) -> bool
+    requires { ⌜ Indexed (decodeNames atom (now bytes)) (now bytes) (now starts) (now heads) (now next) ⌝ }
+    requires { ⌜ (atom < length (now starts)) × (atom < length (now next)) × (atom + 1 < 65536) × (at < 65536) ⌝ }
+    ensures { λ r. ⌜ r ≡ new? (now (name .entry)) (decodeNames atom (now (bytes .entry))) ⌝ }
+    ensures { λ r. ⌜ now (starts .exit) ≡ cond r (set (now (starts .entry)) atom at) (now (starts .entry)) ⌝ }
+    ensures { λ r. ⌜ now (heads .exit) ≡ cond r (set (now (heads .entry)) (nameHash (now (name .entry))) (atom + 1)) (now (heads .entry)) ⌝ }
+    ensures { λ r. ⌜ now (next .exit) ≡ cond r (set (now (next .entry)) atom (getD (now (heads .entry)) (nameHash (now (name .entry))) 0)) (now (next .entry)) ⌝ }
+{
+    let Found::Missing = find(bytes, &starts[..atom], heads, next, name) else {
+        return false;
+    };
+    enter(name, starts, heads, next, atom, at);
+    true
+}

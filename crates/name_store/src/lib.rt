@@ -1,0 +1,3 @@
+// The name store of a program, and its index by hash (document 01, "The two kinds of file").
+pub mod index;
+pub mod store;

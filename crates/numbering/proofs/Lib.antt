@@ -1,0 +1,6 @@
+-- The laws of entering and finding names.
+pub mod NameNumbers
+pub mod RuleLists
+pub mod NewNames
+pub mod Entering
+pub mod NameBlocks

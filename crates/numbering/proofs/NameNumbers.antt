@@ -1,0 +1,250 @@
+-- Names of a list to numbers: what finding one says, and a turn of the walk.
+use Prim.Native.Nat.{ℕ, suc, _+_, _^_, _≤_, _<_, zero-le}
+use native.Mathlib.Nat.{zero-add}
+use native.Mathlib.Decide.{ℕ-discrete}
+use native.Mathlib.Omega.{arith}
+use mathlib.Core.Path.{_≡_, refl, sym, ap, ap₂, _∙_, subst}
+use mathlib.Core.List.{List, [], _∷_, _++_, map, append-assoc, append-nil}
+use mathlib.Core.Bool.{Bool, true, false, cond, _||_}
+use lib.Dec.{T, eqb, eqb→eq}
+use lib.ListN.{length, getD, drop, set, length-set, length-append, length-map}
+use lib.Seq.{getD-set-same, getD-set-other}
+use borrow.Author.Tests.{eq-eqb, ne-eqb}
+use Rattle.rules.specs.Lists.{All, some}
+use Rattle.rules.proofs.Booleans.{bool-ext, eq→eqb}
+use Rattle.rules.proofs.Lists.{all-app}
+use Rattle.name_store.specs.declared.index.Found.{Found}
+use Rattle.name_store.specs.declared.index.Found.the-variants as Found
+use Rattle.name_store.specs.NameStore.{sameBytes}
+use Rattle.name_store.specs.NameIndex.{foundFrom, found}
+use Rattle.stores.specs.RuleStore.{Below}
+use Rattle.name_store.proofs.NameStores.{same-law}
+use Rattle.text.specs.Emitted.{Emitted, InRange}
+use Rattle.text.proofs.Emitting.{none, then, renamed}
+use Rattle.lines.specs.declared.scan.Item.{Item}
+use Rattle.lines.specs.declared.scan.Item.the-variants.{At, Stop}
+use Rattle.lines.specs.Items.{items}
+use Rattle.lines.specs.Faults.{twice, undeclared, numberOf}
+use Rattle.lines.specs.Shapes.{itemOf}
+use Rattle.numbering.specs.Numbers.{Numbered}
+use Rattle.lines.proofs.Scanning.{items-end, item-fits, item, later, item-is}
+
+same-sym : (x y : List ℕ) → sameBytes x y ≡ sameBytes y x
+same-sym x y = bool-ext (sameBytes x y) (sameBytes y x) (λ h. same-law y x .1 (sym (same-law x y .0 h))) (λ h. same-law x y .1 (sym (same-law y x .0 h)))
+
+-- x is the name of atom j
+pub record Named (names : List (List ℕ)) (x : List ℕ) (j : ℕ) : Type 0 where
+  pub declared : some (sameBytes x) names ≡ true
+  pub number : numberOf names x ≡ j
+  pub below : j < length names
+
+named-from : (i : ℕ) (x : List ℕ) (names : List (List ℕ)) {j : ℕ} → foundFrom i x names ≡ Found.At j → (some (sameBytes x) names ≡ true) × (i + numberOf names x ≡ j) × (numberOf names x < length names)
+unfolding foundFrom numberOf
+named-from i x [] e = absurd (let z : _≡_ {A = ℕ} 0 1 = cc in omega arith)
+named-from i x (y ∷ ys) {j} e = go (sameBytes y x) (same-sym x y) e (λ (k : foundFrom (suc i) x ys ≡ Found.At j). named-from (suc i) x ys k)
+  where
+    go : (b : Bool) → sameBytes x y ≡ b → cond b (Found.At i) (foundFrom (suc i) x ys) ≡ Found.At j
+        → (foundFrom (suc i) x ys ≡ Found.At j → (some (sameBytes x) ys ≡ true) × (suc i + numberOf ys x ≡ j) × (numberOf ys x < length ys))
+        → ((sameBytes x y || some (sameBytes x) ys) ≡ true) × (i + cond (sameBytes x y) 0 (suc (numberOf ys x)) ≡ j) × (cond (sameBytes x y) 0 (suc (numberOf ys x)) < suc (length ys))
+    go true t e r = let s : i ≡ j = cc in rw t (refl, omega arith, omega arith)
+    go false t e r = let k = r e in rw t (k .0, omega (arith, k .1), omega (arith, k .2))
+
+pub named : (x : List ℕ) (names : List (List ℕ)) {r : Found} {j : ℕ} → r ≡ found x names → r ≡ Found.At j → Named names x j
+named x names e d = let k = named-from 0 x names (sym e ∙ d) in record { declared = k .0; number = sym (zero-add (numberOf names x)) ∙ k .1; below = omega (arith, k .1, k .2) }
+
+unnamed-from : (i : ℕ) (x : List ℕ) (names : List (List ℕ)) → foundFrom i x names ≡ Found.Missing → some (sameBytes x) names ≡ false
+unfolding foundFrom
+unnamed-from i x [] e = refl
+unnamed-from i x (y ∷ ys) e = go (sameBytes y x) (same-sym x y) e (unnamed-from (suc i) x ys)
+  where
+    go : (b : Bool) → sameBytes x y ≡ b → cond b (Found.At i) (foundFrom (suc i) x ys) ≡ Found.Missing → (foundFrom (suc i) x ys ≡ Found.Missing → some (sameBytes x) ys ≡ false) → (sameBytes x y || some (sameBytes x) ys) ≡ false
+    go true t e r = absurd (let z : _≡_ {A = ℕ} 0 1 = cc in omega arith)
+    go false t e r = rw t (r e)
+
+pub unnamed : (x : List ℕ) (names : List (List ℕ)) {r : Found} → r ≡ found x names → r ≡ Found.Missing → some (sameBytes x) names ≡ false
+unnamed x names e d = unnamed-from 0 x names (sym e ∙ d)
+
+-- declared names are equal exactly when their numbers are
+
+name-of : (names : List (List ℕ)) (x : List ℕ) → some (sameBytes x) names ≡ true → getD names (numberOf names x) [] ≡ x
+unfolding numberOf
+name-of [] x e = absurd (let z : _≡_ {A = ℕ} 0 1 = cc in omega arith)
+name-of (y ∷ ys) x e = go (sameBytes x y) refl e (name-of ys x)
+  where
+    go : (b : Bool) → sameBytes x y ≡ b → (b || some (sameBytes x) ys) ≡ true → (some (sameBytes x) ys ≡ true → getD ys (numberOf ys x) [] ≡ x) → getD (y ∷ ys) (cond b 0 (suc (numberOf ys x))) [] ≡ x
+    go true t e r = sym (same-law x y .0 (subst T (sym t) tt))
+    go false t e r = r e
+
+same-number : (names : List (List ℕ)) (x y : List ℕ) → some (sameBytes x) names ≡ true → some (sameBytes y) names ≡ true → sameBytes x y ≡ eqb (numberOf names x) (numberOf names y)
+same-number names x y p q =
+    bool-ext (sameBytes x y) (eqb (numberOf names x) (numberOf names y))
+    (λ h. eq→eqb (numberOf names x) (numberOf names y) (ap (numberOf names) (same-law x y .0 h)))
+    (λ h. same-law x y .1 (sym (name-of names x p) ∙ ap (λ (k : ℕ). getD names k []) (eqb→eq (numberOf names x) (numberOf names y) h) ∙ name-of names y q))
+
+abbrev Declared : List (List ℕ) → List (List ℕ) → Type 0
+Declared names xs = All (λ y. some (sameBytes y) names ≡ true) xs
+
+-- x stood before exactly when its number did
+stood : (names : List (List ℕ)) (x : List ℕ) → some (sameBytes x) names ≡ true → (seen : List (List ℕ)) → Declared names seen → some (sameBytes x) seen ≡ some (λ y. eqb (numberOf names x) (numberOf names y)) seen
+stood names x p [] d = refl
+stood names x p (y ∷ seen) d = ap₂ _||_ (same-number names x y p (d .0)) (stood names x p seen (d .1))
+
+all-declared : (names seen : List (List ℕ)) → Declared names seen → some (undeclared names) seen ≡ false
+all-declared names [] d = refl
+all-declared names (x ∷ seen) d = rw (d .0) (all-declared names seen (d .1))
+
+one-undeclared : (names seen : List (List ℕ)) (x : List ℕ) (xs : List (List ℕ)) → some (sameBytes x) names ≡ false → some (undeclared names) (seen ++ (x ∷ xs)) ≡ true
+one-undeclared names [] x xs e = rw e
+one-undeclared names (y ∷ seen) x xs e = rw (one-undeclared names seen x xs e) (or-true (undeclared names y))
+  where
+    or-true : (b : Bool) → (b || true) ≡ true
+    or-true true = refl
+    or-true false = refl
+
+-- marks
+
+pub set-below : (marks : List ℕ) (a stamp : ℕ) → a < length marks → Below (stamp + 1) marks → Below (stamp + 1) (set marks a stamp)
+set-below marks a stamp l h = record { mark = λ b. step b (ℕ-discrete b a) }
+  where
+    step : (b : ℕ) → Dec (b ≡ a) → getD (set marks a stamp) b 0 < stamp + 1
+    step b (yes e) = rw (e, getD-set-same marks a stamp 0 l) (omega arith)
+    step b (no e) = rw (getD-set-other marks a b stamp 0 e) (h .mark b)
+
+set-marks : (marks : List ℕ) (a stamp : ℕ) → a < length marks → (b : ℕ) → eqb (getD (set marks a stamp) b 0) stamp ≡ (eqb b a || eqb (getD marks b 0) stamp)
+set-marks marks a stamp l b = step (ℕ-discrete b a)
+  where
+    step : Dec (b ≡ a) → eqb (getD (set marks a stamp) b 0) stamp ≡ (eqb b a || eqb (getD marks b 0) stamp)
+    step (yes e) = let s : getD (set marks a stamp) b 0 ≡ stamp = ap (λ (j : ℕ). getD (set marks a stamp) j 0) e ∙ getD-set-same marks a stamp 0 l in simp (eq-eqb (getD (set marks a stamp) b 0) stamp s, eq-eqb b a e)
+    step (no e) = simp (getD-set-other marks a b stamp 0 e, ne-eqb b a e)
+
+some-last : {A : Type 0} (p : A → Bool) (xs : List A) (x : A) → some p (xs ++ (x ∷ [])) ≡ (p x || some p xs)
+some-last p [] x = refl
+some-last p (y ∷ xs) x = ap (λ (b : Bool). p y || b) (some-last p xs x) ∙ exchange (p y) (p x) (some p xs)
+  where
+    exchange : (a b c : Bool) → (a || (b || c)) ≡ (b || (a || c))
+    exchange true true c = refl
+    exchange true false c = refl
+    exchange false b c = refl
+
+map-last : {A B : Type 0} (f : A → B) (xs : List A) (x : A) → map f (xs ++ (x ∷ [])) ≡ map f xs ++ (f x ∷ [])
+map-last f [] x = refl
+map-last f (y ∷ xs) x = ap (λ l. f y ∷ l) (map-last f xs x)
+
+or-assoc : (a b c : Bool) → (a || (b || c)) ≡ ((a || b) || c)
+or-assoc true b c = refl
+or-assoc false b c = refl
+
+or-end : (a : Bool) → (a || false) ≡ a
+or-end true = refl
+or-end false = refl
+
+or-true : (a : Bool) → (a || true) ≡ true
+or-true true = refl
+or-true false = refl
+
+-- the names up to i are passed
+pub record Numbering (names : List (List ℕ)) (s : List ℕ) (from stamp : ℕ) (before : List ℕ) (at i end : ℕ) (flag : Bool) (marks now : List ℕ) : Type 0 where
+  pub seen : List (List ℕ)
+  pub inside : i ≤ length s
+  pub range : at + length s < 2 ^ 63
+  pub few : length seen ≤ i
+  pub known : Declared names seen
+  pub all : seen ++ items (drop i s) ≡ items (drop from s)
+  pub is-twice : (flag || twice seen (items (drop i s))) ≡ twice [] (items (drop from s))
+  pub marked : (a : ℕ) → eqb (getD marks a 0) stamp ≡ some (λ y. eqb a (numberOf names y)) seen
+  pub below : Below (stamp + 1) marks
+  pub room : length names ≤ length marks
+  pub written : Emitted before at (map (numberOf names) seen) now end
+
+pub numbering : (names : List (List ℕ)) (s : List ℕ) (from stamp : ℕ) (before : List ℕ) (at : ℕ) (marks : List ℕ) → from ≤ length s → length names ≤ length marks → at + length s < 2 ^ 63 → Below stamp marks → Numbering names s from stamp before at from at false marks before
+numbering names s from stamp before at marks i r h b =
+    record {
+      seen = [];
+      inside = i;
+      range = h;
+      few = zero-le;
+      known = tt;
+      all = refl;
+      is-twice = refl;
+      marked = λ a. ne-eqb (getD marks a 0) stamp (λ e. omega (arith, b .mark a));
+      below = record { mark = λ a. omega (arith, b .mark a) };
+      room = r;
+      written = none;
+    }
+
+module _ {names : List (List ℕ)} {s : List ℕ} {from stamp : ℕ} {before : List ℕ} {at i end : ℕ} {flag : Bool} {marks now : List ℕ} (h : Numbering names s from stamp before at i end flag marks now) {r : Item} (e : r ≡ itemOf (drop i s)) where
+  pub numbers-end : r ≡ Stop → Numbered names (items (drop from s)) stamp before at marks now end flag
+  unfolding twice
+  numbers-end d =
+      let out : items (drop i s) ≡ [] = items-end s i e d in
+      let whole : h .seen ≡ items (drop from s) = sym (append-nil (h .seen)) ∙ ap (λ l. h .seen ++ l) (sym out) ∙ h .all in
+      record {
+        declared = ap (some (undeclared names)) (sym whole) ∙ all-declared names (h .seen) (h .known);
+        is-twice = sym (or-end flag) ∙ ap (λ l. flag || twice (h .seen) l) (sym out) ∙ h .is-twice;
+        written = renamed (h .written) (ap (map (numberOf names)) whole);
+        below = h .below;
+      }
+
+  module _ {n : ℕ} (d : r ≡ At n) where
+    pub number-inside : i + 1 + n ≤ length s
+    number-inside = item-fits s i e d
+
+    abbrev x : List ℕ
+    x = item s i e d
+
+    abbrev xs : List (List ℕ)
+    xs = later s i e d
+
+    split : h .seen ++ (x ∷ xs) ≡ items (drop from s)
+    split = ap (λ l. h .seen ++ l) (sym (item-is s i e d)) ∙ h .all
+
+    module _ {q : Found} (f : q ≡ found x names) where
+      pub not-declared : q ≡ Found.Missing → some (undeclared names) (items (drop from s)) ≡ true
+      not-declared g = sym (ap (some (undeclared names)) split) ∙ one-undeclared names (h .seen) x xs (unnamed x names f g)
+
+      module _ {j : ℕ} (g : q ≡ Found.At j) where
+        pub known-name : Named names x j
+        known-name = named x names f g
+
+        pub atom-marked : j < length marks
+        atom-marked = omega (arith, known-name .below, h .room)
+
+        pub word-range : (w : ℕ) → InRange end (w ∷ [])
+        word-range w = record { below = omega (arith, h .range, h .written .place, length-map (h .seen) (numberOf names), h .few, number-inside) }
+
+        module _ {had : Bool} {marks′ : List ℕ} (m : had ≡ eqb (getD marks j 0) stamp) (t : marks′ ≡ set marks j stamp) {now′ : List ℕ} {end′ : ℕ} (w : Emitted now end (j ∷ []) now′ end′) where
+          before? : some (sameBytes x) (h .seen) ≡ had
+          before? =
+              stood names x (known-name .declared) (h .seen) (h .known)
+              ∙ ap (λ k. some (λ y. eqb k (numberOf names y)) (h .seen)) (known-name .number)
+              ∙ sym (h .marked j)
+              ∙ sym m
+
+          step : {flag′ : Bool} → flag′ ≡ (flag || had) → Numbering names s from stamp before at (i + 1 + n) end′ flag′ marks′ now′
+          unfolding twice
+          step {flag′} k =
+              record {
+                seen = h .seen ++ (x ∷ []);
+                inside = number-inside;
+                range = h .range;
+                few = omega (arith, length-append (h .seen) (x ∷ []), h .few);
+                known = all-app (λ y. some (sameBytes y) names ≡ true) (h .seen) (x ∷ []) (h .known) (known-name .declared, tt);
+                all = append-assoc (h .seen) (x ∷ []) xs ∙ split;
+                is-twice =
+                    ap (λ b. b || twice (h .seen ++ (x ∷ [])) xs) (k ∙ ap (λ b. flag || b) (sym before?))
+                    ∙ sym (or-assoc flag (some (sameBytes x) (h .seen)) (twice (h .seen ++ (x ∷ [])) xs))
+                    ∙ ap (λ l. flag || twice (h .seen) l) (sym (item-is s i e d))
+                    ∙ h .is-twice;
+                marked = λ a. ap (λ l. eqb (getD l a 0) stamp) t ∙ set-marks marks j stamp atom-marked a
+                    ∙ ap₂ (λ (k : ℕ) (b : Bool). eqb a k || b) (sym (known-name .number)) (h .marked a)
+                    ∙ sym (some-last (λ y. eqb a (numberOf names y)) (h .seen) x);
+                below = subst (Below (stamp + 1)) (sym t) (set-below marks j stamp atom-marked (h .below));
+                room = omega (arith, h .room, ap length t ∙ length-set marks j stamp);
+                written = renamed (then (h .written) w) (ap (λ k. map (numberOf names) (h .seen) ++ (k ∷ [])) (sym (known-name .number)) ∙ sym (map-last (numberOf names) (h .seen) x));
+              }
+
+          pub number-again : had ≡ true → {flag′ : Bool} → flag′ ≡ true → Numbering names s from stamp before at (i + 1 + n) end′ flag′ marks′ now′
+          number-again o p = step (p ∙ sym (ap (λ b. flag || b) o ∙ or-true flag))
+
+          pub number-new : had ≡ false → {flag′ : Bool} → flag′ ≡ flag → Numbering names s from stamp before at (i + 1 + n) end′ flag′ marks′ now′
+          number-new o p = step (p ∙ sym (ap (λ b. flag || b) o ∙ or-end flag))

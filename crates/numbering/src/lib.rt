@@ -1,0 +1,4 @@
+// Names entered into the index, and found in it by number.
+pub mod entries;
+pub mod numbers;
+pub mod scratch;

@@ -1,0 +1,4 @@
+-- The laws of printing.
+pub mod PrintedLines
+pub mod ListedStates
+pub mod StoredStates

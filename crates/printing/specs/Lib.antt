@@ -1,0 +1,3 @@
+-- What the two programs print.
+pub mod Printed
+pub mod StoresPrinted

@@ -1,0 +1,3 @@
+// What the two programs print (document 01, "Sheets of known states").
+pub mod listing;
+pub mod printing;

@@ -1,0 +1,5 @@
+-- The laws of the steps.
+pub mod Roles
+pub mod StepLaws
+pub mod RuleSteps
+pub mod ClassSteps

@@ -1,0 +1,5 @@
+-- What each step of the translation writes.
+pub mod Roles
+pub mod FileRules
+pub mod Offsets
+pub mod StepWords

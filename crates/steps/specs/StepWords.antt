@@ -1,0 +1,95 @@
+-- The words that each step adds to the translated rule store.
+use Prim.Native.Nat.{ℕ, _+_, _-_}
+use mathlib.Core.Bool.{not}
+use mathlib.Core.List.{List, [], _∷_, _++_}
+use lib.ListN.{length, getD}
+use Rattle.rules.specs.Lists.{keep, flat, from}
+use Rattle.rules.specs.Rules.{Rule}
+use Rattle.stores.specs.RuleStore.{ruleWords}
+use Rattle.steps.specs.declared.offsets.Offsets.{Offsets}
+use Rattle.steps.specs.Roles.{fixedAmong}
+use Rattle.pairing.specs.Loops.{fixedWord?, loop1, loop2, loop3, loop4, loop5, loop6, loop789, loop10}
+
+-- the words of each entry
+unfoldable pub each : {A : Type 0} → (A → List ℕ) → List A → List ℕ
+each g xs = flat g xs
+
+-- an atom itself
+unfoldable pub single : ℕ → List ℕ
+single a = a ∷ []
+
+-- an atom with its number raised
+unfoldable pub raised : ℕ → ℕ → List ℕ
+raised b a = (b + a) ∷ []
+
+-- S. of an atom that is not fixed
+unfoldable pub copyOf : List ℕ → ℕ → ℕ → List ℕ
+copyOf ws s a = keep (not (fixedWord? ws a)) (s + a) []
+
+-- an atom that is fixed
+unfoldable pub fixedOf : List ℕ → ℕ → List ℕ
+fixedOf ws a = keep (fixedWord? ws a) a []
+
+-- step 1, atom a
+unfoldable pub words1 : ℕ → ℕ → List ℕ
+words1 n a = flat ruleWords (loop1 n a)
+
+-- steps 2 and 3, rule r
+unfoldable pub words2 : ℕ → Rule ℕ → List ℕ
+words2 n r = ruleWords (loop2 n r)
+
+unfoldable pub words3 : List ℕ → ℕ → ℕ → Rule ℕ → List ℕ
+words3 ws s u r = ruleWords (loop3 ws s u r)
+
+-- step 3, a rule with these atoms in its head and body
+unfoldable pub lists3 : List ℕ → ℕ → ℕ → List ℕ → List ℕ → List ℕ
+lists3 ws s u heads bodies =
+    (length heads - fixedAmong ws heads + 1) ∷ length bodies ∷ fixedAmong ws heads
+    ∷ (each (copyOf ws s) heads ++ (u ∷ (each (copyOf ws s) bodies ++ (each (fixedOf ws) bodies ++ each (fixedOf ws) heads))))
+
+unfoldable pub words4 : ℕ → ℕ → List ℕ
+words4 e u = ruleWords (loop4 e u)
+
+-- step 5, class i
+unfoldable pub words5 : List ℕ → Offsets → ℕ → List ℕ
+words5 ws o i = ruleWords (loop5 ws (o .d) (o .e) (o .u) i)
+
+-- the same for class i whose atoms are those from `first` up to `end`
+unfoldable pub runWords5 : Offsets → ℕ → ℕ → ℕ → List ℕ
+runWords5 o i first end =
+    (end - first + 2) ∷ 1 ∷ 0
+    ∷ (each single (from (o .d + first) (o .d + end - (o .d + first))) ++ ((o .e + i) ∷ o .u ∷ (o .e + (i - 1)) ∷ []))
+
+-- step 6, atom a of class i
+unfoldable pub classWords6 : Offsets → ℕ → ℕ → List ℕ
+classWords6 o i a = flat ruleWords (loop6 (o .n) (o .s) (o .d) (o .e) (o .u) i a)
+
+-- step 6, atom a
+unfoldable pub words6 : List ℕ → Offsets → ℕ → List ℕ
+words6 ws o a = classWords6 o (getD ws a 0) a
+
+-- steps 7, 8 and 9, the atom with number b
+unfoldable pub words789 : ℕ → ℕ → List ℕ
+words789 u b = ruleWords (loop789 u b)
+
+unfoldable pub words10 : ℕ → ℕ → ℕ → List ℕ
+words10 e u k = flat ruleWords (loop10 e u k)
+
+-- steps 1 to 3, which go by the atoms and rules of the file
+abbrev pub fileWords : List ℕ → List (Rule ℕ) → Offsets → List ℕ
+fileWords ws rs o = each (words1 (o .n)) (from 0 (o .n - 0)) ++ (each (words2 (o .n)) rs ++ each (words3 ws (o .s) (o .u)) rs)
+
+-- steps 4 to 6, which go by its classes and minimised atoms
+abbrev pub classWords : List ℕ → ℕ → ℕ → Offsets → List ℕ
+classWords ws k m o = words4 (o .e) (o .u) ++ (each (words5 ws o) (from 1 (k + 1 - 1)) ++ each (words6 ws o) (from 0 (m - 0)))
+
+-- steps 7 to 10
+abbrev pub lastWords : ℕ → Offsets → List ℕ
+lastWords k o =
+    each (words789 (o .u)) (from (o .s) (o .d - o .s))
+    ++ (each (words789 (o .u)) (from (o .d) (o .e - o .d))
+    ++ (each (words789 (o .u)) (from (o .e) (o .u - o .e))
+    ++ words10 (o .e) (o .u) k))
+
+unfoldable pub stepWords : List ℕ → List (Rule ℕ) → ℕ → ℕ → Offsets → List ℕ
+stepWords ws rs k m o = fileWords ws rs o ++ (classWords ws k m o ++ lastWords k o)

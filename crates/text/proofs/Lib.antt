@@ -1,0 +1,9 @@
+-- The laws of texts and of writing them.
+pub mod Emitting
+pub mod PlaceTable
+pub mod AtomItems
+pub mod RuleItems
+pub mod ClassItems
+pub mod TextParts
+pub mod ClassWords
+pub mod TextLength

@@ -1,0 +1,8 @@
+-- The text of a program, and what writing it leaves.
+pub mod Words
+pub mod Text
+pub mod Emitted
+pub mod ClassRuns
+pub mod Items
+pub mod StoredRules
+pub mod Sources

@@ -1,0 +1,250 @@
+-- What the store of a preference program holds, place by place, and the store of its translation.
+use Prim.Native.Nat.{ℕ, suc, _+_, _-_, _*_, _≤_, _<_}
+use native.Mathlib.Omega.{arith}
+use mathlib.Core.Path.{_≡_, refl, sym, ap, _∙_, subst}
+use mathlib.Core.Bool.{not}
+use mathlib.Core.List.{List, [], _∷_, _++_}
+use lib.Dec.{T, leb→le}
+use lib.ListN.{length, getD, take, drop, length-append, length-drop}
+use lib.Seq.{take-all, drop-at, drop-drop}
+use Rattle.kinds.specs.Limits.{classLimit, occurrenceLimit}
+use Rattle.kinds.specs.declared.limits.Kind.{Kind}
+use Rattle.kinds.specs.declared.limits.Kind.the-variants.{Preference}
+use Rattle.rules.specs.Lists.{All, filter, flat, from, sum}
+use Rattle.rules.specs.Rules.{Rule, occurrences}
+use Rattle.rules.proofs.Lists.{all-filter, all-from, from-all}
+use Rattle.stores.specs.Program.{Program, Form, ClassesForm, Rising}
+use Rattle.stores.specs.RuleStore.{ruleWords, encode, decode, wordCount, rulesFrom}
+use Rattle.stores.proofs.RuleTests.{rule-front, past-front}
+use Rattle.pairing.specs.Atoms.{originals, classWord, fixed?, minimised?, minimisedAtoms, unfixedAtoms, fixedAtoms, declared}
+use Rattle.pairing.specs.Loops.{looped}
+use Rattle.pairing.specs.Translated.{translated, numbers}
+use Rattle.pairing.proofs.Fit.{Fit, Inside, fit-of}
+use Rattle.pairing.proofs.ListLaws.{length-from}
+use Rattle.pairing.proofs.SumLaws.{length-parts}
+use Rattle.pairing.proofs.Numbering.{count, minimised-first}
+use Rattle.pairing.proofs.Sums.{rules-sum}
+use Rattle.pairing.proofs.Looped.{looped-rules}
+use Rattle.pairing.proofs.PlainForm.{plain-form}
+use Rattle.text.specs.Emitted.{InRange}
+use Rattle.text.proofs.Emitting.{Ahead}
+use Rattle.steps.specs.declared.offsets.Offsets.{Offsets}
+use Rattle.steps.specs.FileRules.{FileRules}
+use Rattle.steps.specs.Offsets.{offsetsOf, Small, FileFits, ClassesFit}
+use Rattle.translated.specs.PreferenceStore.{PreferenceStore}
+use Rattle.steps.specs.Roles.{Low, FirstMinimised, minimisedCount, unfixedCount}
+use Rattle.steps.specs.StepWords.{stepWords}
+use Rattle.translated.proofs.StoreWords.{all-steps, rules-length}
+
+file-rules : (n : ℕ) (rs : List (Rule ℕ)) → All (Inside n) rs → sum occurrences rs ≤ occurrenceLimit Preference → FileRules n (length rs) (flat ruleWords rs)
+file-rules n [] h l = tt
+file-rules n (r ∷ rs) h l =
+    let t : List ℕ = flat ruleWords rs in (
+      record {
+        inside = omega (arith, length-append (r .head ++ (r .body ++ r .nots)) t, length-append (r .head) (r .body ++ r .nots), length-append (r .body) (r .nots));
+        few = omega arith;
+        heads = subst (λ (q : Rule ℕ). All (λ a. a < n) (q .head)) (sym (rule-front r t)) (h .0 .head);
+        bodies = subst (λ (q : Rule ℕ). All (λ a. a < n) (q .body)) (sym (rule-front r t)) (h .0 .body);
+      },
+      subst (FileRules n (length rs)) (sym (past-front r t)) (file-rules n rs (h .1) (omega arith)),
+    )
+
+-- the class words and the words of the rules, as the code takes them
+abbrev pub classPart : List ℕ → List ℕ
+classPart ws = take (4 + getD ws 1 0 - 4) (drop 4 ws)
+
+abbrev pub rulePart : List ℕ → List ℕ
+rulePart ws = take (length ws - (4 + getD ws 1 0)) (drop (4 + getD ws 1 0) ws)
+
+module _ {ws : List ℕ} (h : PreferenceStore ws) where
+  abbrev p : Program
+  p = decode ws
+
+  fit : Fit p
+  fit = fit-of p (h .kind) (h .store .form)
+
+  pub atoms-at : p .atoms ≡ getD ws 1 0
+  unfolding decode
+  atoms-at = refl
+
+  pub classes-at : p .classes ≡ getD ws 2 0
+  unfolding decode
+  classes-at = refl
+
+  count-at : length (p .rules) ≡ getD ws 3 0
+  unfolding encode
+  count-at = ap (λ (l : List ℕ). getD l 3 0) (h .store .words)
+
+  size : length ws ≡ 4 + (length (p .words) + length (flat ruleWords (p .rules)))
+  unfolding encode
+  size = sym (ap length (h .store .words)) ∙ omega (arith, length-append (p .words) (flat ruleWords (p .rules)))
+
+  pub few-atoms : getD ws 1 0 ≤ 256
+  few-atoms = omega (arith, atoms-at, fit .atoms-fit)
+
+  pub few-classes : getD ws 2 0 ≤ 16
+  few-classes = omega (arith, classes-at, fit .classes)
+
+  pub few-rules : getD ws 3 0 ≤ 1024
+  few-rules = omega (arith, count-at, fit .rules-fit)
+
+  pub long : 4 + getD ws 1 0 ≤ length ws
+  long = omega (arith, atoms-at, size, fit .count)
+
+  words-at : p .words ≡ classPart ws
+  unfolding decode
+  words-at =
+      let e : getD ws 1 0 ≡ 4 + getD ws 1 0 - 4 = omega arith in
+      ap (λ (k : Kind). take (wordCount k (getD ws 1 0)) (drop 4 ws)) (h .kind) ∙ ap (λ (c : ℕ). take c (drop 4 ws)) e
+
+  rules-at : p .rules ≡ rulesFrom (getD ws 3 0) (rulePart ws)
+  unfolding decode
+  rules-at =
+      ap (λ (k : Kind). rulesFrom (getD ws 3 0) (drop (4 + wordCount k (getD ws 1 0)) ws)) (h .kind)
+      ∙ ap (rulesFrom (getD ws 3 0)) (sym (take-all (length ws - (4 + getD ws 1 0)) (drop (4 + getD ws 1 0) ws) (omega (arith, length-drop (4 + getD ws 1 0) ws))))
+
+  rule-words-at : flat ruleWords (p .rules) ≡ rulePart ws
+  unfolding encode
+  rule-words-at =
+      let n : length (p .words) ≡ getD ws 1 0 = fit .count ∙ atoms-at in
+      sym (drop-at (p .words) (flat ruleWords (p .rules)) (getD ws 1 0) n)
+      ∙ drop-four (getD ws 1 0) (h .store .words)
+      ∙ sym (take-all (length ws - (4 + getD ws 1 0)) (drop (4 + getD ws 1 0) ws) (omega (arith, length-drop (4 + getD ws 1 0) ws)))
+    where
+      drop-four : {a b c d : ℕ} {l : List ℕ} (n : ℕ) → a ∷ b ∷ c ∷ d ∷ l ≡ ws → drop n l ≡ drop (4 + n) ws
+      drop-four {a} {b} {c} {d} {l} n e = drop-drop n 4 (a ∷ b ∷ c ∷ d ∷ l) ∙ ap (λ (x : List ℕ). drop (4 + n) x) e
+
+  pub class-count : length (classPart ws) ≡ getD ws 1 0
+  class-count = sym (ap length words-at) ∙ fit .count ∙ atoms-at
+
+  pub few-words : length (classPart ws) ≤ 256
+  few-words = omega (arith, class-count, few-atoms)
+
+  low-words : Low (p .words)
+  low-words = record { word = λ a l. fit .low a (omega (arith, fit .count)) }
+
+  pub low : Low (classPart ws)
+  low = subst Low words-at low-words
+
+  pub minimised-count : minimisedCount (classPart ws) ≡ length (minimisedAtoms p)
+  unfolding minimisedCount
+  minimised-count = ap minimisedCount (sym words-at) ∙ ap (λ (c : ℕ). length (filter (minimised? p) (from 0 c))) (fit .count)
+
+  pub unfixed-count : unfixedCount (classPart ws) ≡ length (unfixedAtoms p)
+  unfolding unfixedCount
+  unfixed-count = ap unfixedCount (sym words-at) ∙ ap (λ (c : ℕ). length (filter (λ a. not (fixed? p a)) (from 0 c))) (fit .count)
+
+  pub few-minimised : length (minimisedAtoms p) ≤ p .atoms
+  few-minimised = omega (arith, length-parts (minimised? p) (originals p), length-from 0 (p .atoms))
+
+  pub few-unfixed : length (fixedAtoms p) + length (unfixedAtoms p) ≡ p .atoms
+  few-unfixed = length-parts (fixed? p) (originals p) ∙ length-from 0 (p .atoms)
+
+  minimised-all : All (λ a. T (minimised? p a)) (from 0 (length (minimisedAtoms p)))
+  minimised-all = subst (All (λ a. T (minimised? p a))) (minimised-first p fit) (all-filter (λ a. T (minimised? p a)) (minimised? p) (originals p) (all-from (λ a. T (minimised? p a) → T (minimised? p a)) 0 (p .atoms) (λ a l u t. t)))
+
+  first-words : FirstMinimised (length (minimisedAtoms p)) (p .words)
+  first-words = record {
+    inside = omega (arith, few-minimised, fit .count);
+    low = low-words;
+    class = λ a l. leb→le (classWord p a) classLimit (from-all (λ b. T (minimised? p b)) 0 (length (minimisedAtoms p)) minimised-all a (omega arith) (omega arith));
+  }
+
+  rising : Rising 0 (p .words)
+  rising = subst (λ (k : Kind). ClassesForm k (p .atoms) (p .classes) (p .words)) (h .kind) (h .store .form .classes-form) .3
+
+  module _ {m q : ℕ} (m-is : m ≡ minimisedCount (classPart ws)) (q-is : q ≡ unfixedCount (classPart ws)) where
+    pub few-m : m ≤ 256
+    few-m = omega (arith, m-is, minimised-count, few-minimised, fit .atoms-fit)
+
+    pub few-q : q ≤ 256
+    few-q = omega (arith, q-is, unfixed-count, few-unfixed, fit .atoms-fit)
+
+    module _ {o : Offsets} (o-is : o ≡ offsetsOf (getD ws 1 0) (getD ws 2 0) m q) where
+      pub small : Small o
+      small = subst Small (sym o-is) (record {
+        n-fits = few-atoms;
+        s-fits = omega (arith, few-atoms);
+        d-fits = omega (arith, few-atoms, few-q);
+        e-fits = omega (arith, few-atoms, few-q, few-m);
+        u-fits = omega (arith, few-atoms, few-q, few-m, few-classes);
+      })
+
+      n-is : getD ws 1 0 ≡ o .n
+      n-is = ap (λ (x : Offsets). x .n) (sym o-is)
+
+      pub file-fits : FileFits (classPart ws) (rulePart ws) (getD ws 3 0) o
+      file-fits = record {
+        small = small;
+        atoms = class-count ∙ n-is;
+        rules =
+            subst (λ (n : ℕ). FileRules n (getD ws 3 0) (rulePart ws)) (atoms-at ∙ n-is)
+            (subst (λ (r : ℕ). FileRules (p .atoms) r (rulePart ws)) count-at
+            (subst (FileRules (p .atoms) (length (p .rules))) rule-words-at (file-rules (p .atoms) (p .rules) (fit .rules) (fit .occurrences-fit))));
+      }
+
+      pub classes-fit : ClassesFit (classPart ws) (getD ws 2 0) m o
+      classes-fit = record {
+        small = small;
+        atoms = class-count ∙ n-is;
+        classes = few-classes;
+        rising = subst (Rising 0) words-at rising;
+        first = subst (λ (c : ℕ). FirstMinimised c (classPart ws)) (sym (m-is ∙ minimised-count)) (subst (FirstMinimised (length (minimisedAtoms p))) words-at first-words);
+      }
+
+      -- the store of the translation: its header, and the words of all steps
+
+      abbrev offsets : Offsets
+      offsets =
+          record {
+            n = p .atoms;
+            s = 2 * p .atoms;
+            d = 2 * p .atoms + length (unfixedAtoms p);
+            e = 2 * p .atoms + length (unfixedAtoms p) + length (minimisedAtoms p);
+            u = 2 * p .atoms + length (unfixedAtoms p) + length (minimisedAtoms p) + suc (p .classes);
+          }
+
+      offsets-are : offsets ≡ o
+      offsets-are =
+          let qs : length (unfixedAtoms p) ≡ q = sym (q-is ∙ unfixed-count) in
+          let ms : length (minimisedAtoms p) ≡ m = sym (m-is ∙ minimised-count) in
+          let last : 2 * p .atoms + length (unfixedAtoms p) + length (minimisedAtoms p) + suc (p .classes) ≡ 2 * p .atoms + length (unfixedAtoms p) + length (minimisedAtoms p) + (p .classes + 1) = omega arith in
+          (λ i. record {
+            n = p .atoms;
+            s = 2 * p .atoms;
+            d = 2 * p .atoms + length (unfixedAtoms p);
+            e = 2 * p .atoms + length (unfixedAtoms p) + length (minimisedAtoms p);
+            u = last i;
+          })
+          ∙ (λ i. offsetsOf (atoms-at i) (classes-at i) (ms i) (qs i))
+          ∙ sym o-is
+
+      steps-are : flat ruleWords (translated p .rules) ≡ stepWords (classPart ws) (rulesFrom (getD ws 3 0) (rulePart ws)) (getD ws 2 0) m o
+      unfolding looped
+      steps-are =
+          ap (flat ruleWords) (looped-rules p (h .kind) (h .store .form))
+          ∙ all-steps (p .words) (p .rules) (p .classes) (length (minimisedAtoms p)) (length (unfixedAtoms p)) offsets refl refl refl
+          ∙ (λ i. stepWords (words-at i) (rules-at i) (classes-at i) (sym (m-is ∙ minimised-count) i) (offsets-are i))
+
+      atoms-are : length (declared p) ≡ o .u + 1
+      atoms-are =
+          let u-is : o .u ≡ 2 * getD ws 1 0 + q + m + (getD ws 2 0 + 1) = ap (λ (x : Offsets). x .u) o-is in
+          omega (arith, count p, u-is, atoms-at, classes-at, q-is, unfixed-count, m-is, minimised-count)
+
+      rules-are : length (translated p .rules) ≡ 2 * getD ws 1 0 + q + 2 * getD ws 3 0 + 5 * m + 2 * getD ws 2 0 + 4
+      unfolding numbers
+      rules-are = omega (arith, rules-sum p (h .kind) (h .store .form), few-unfixed, atoms-at, classes-at, count-at, q-is, unfixed-count, m-is, minimised-count)
+
+      pub header-ahead : Ahead (encode (translated p)) (0 ∷ (o .u + 1) ∷ 0 ∷ (2 * getD ws 1 0 + q + 2 * getD ws 3 0 + 5 * m + 2 * getD ws 2 0 + 4) ∷ []) (stepWords (classPart ws) (rulesFrom (getD ws 3 0) (rulePart ws)) (getD ws 2 0) m o)
+      unfolding encode
+      header-ahead = record { is = λ i. 0 ∷ atoms-are i ∷ 0 ∷ rules-are i ∷ steps-are i }
+
+  -- the store fits the scratch of the translator
+  pub store-fits : length (encode (translated p)) ≤ 36604
+  unfolding encode
+  store-fits =
+      let f : Form (translated p) = plain-form p (h .kind) (h .store .form) in
+      omega (arith, rules-length (translated p .rules), f .rules-fit, f .occurrences-fit)
+
+  pub store-range : InRange 0 (encode (translated p))
+  store-range = record { below = omega (arith, store-fits) }

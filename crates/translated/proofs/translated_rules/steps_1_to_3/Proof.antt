@@ -1,0 +1,29 @@
+use Rattle.steps.proofs.RuleSteps.{in-front}
+use Rattle.text.proofs.AtomItems.{last-run}
+use Rattle.text.proofs.Emitting.{start, turn, finish, range-begin, range-here}
+use mathlib.Core.Path.{refl, sym, subst}
+use Prim.Native.Nat.{ℕ}
+use native.Mathlib.Omega.{arith}
+use Rattle.steps.specs.FileRules.{FileRules}
+use borrow.Author.Needs.{needs}
+use Rattle.translated.proofs.translated_rules.steps_1_to_3.Statement.{statement}
+use Rattle.translated.proofs.translated_rules.steps_1_to_3.Tie as tie
+
+step1-requires : tie.Need-step1-requires
+step1-requires c κs = (c .before .before .before .before .pre .0 .small .n-fits, range-begin (c .before .before .before .before .pre .1) (in-front _ _))
+
+step2-requires : tie.Need-step2-requires
+step2-requires c κs = (c .before .before .before .before .before .before .before .before .pre .0 .small .n-fits, c .before .before .before .before .before .before .before .before .pre .0 .rules, range-here (turn (start (c .before .before .before .before .before .before .before .before .pre .1)) (in-front _ _) (c .before .before .before .step1 .ensures)) (in-front _ _))
+
+step3-requires : tie.Need-step3-requires
+step3-requires c κs = (omega (arith, c .before .before .before .before .before .before .before .before .before .before .before .before .pre .0 .atoms, c .before .before .before .before .before .before .before .before .before .before .before .before .pre .0 .small .n-fits), subst (λ (k : ℕ). FileRules k (c .before .before .before .before .before .before .before .before .before .before .before .before .args .count) (c .before .before .before .before .before .before .before .before .before .before .before .before .args .rules .now)) (sym (c .before .before .before .before .before .before .before .before .before .before .before .before .pre .0 .atoms)) (c .before .before .before .before .before .before .before .before .before .before .before .before .pre .0 .rules), c .before .before .before .before .before .before .before .before .before .before .before .before .pre .0 .small .s-fits, range-here (turn (turn (start (c .before .before .before .before .before .before .before .before .before .before .before .before .pre .1)) (in-front _ _) (c .before .before .before .before .before .before .before .step1 .ensures)) (in-front _ _) (c .before .before .before .step2 .ensures)) (last-run _))
+
+same-length : tie.Need-same-length
+same-length c = search needs
+
+returns : tie.Need-returns
+returns c = finish (turn (turn (turn (start (c .before .before .before .before .before .before .before .before .before .before .before .before .before .before .before .pre .1)) (in-front _ _) (c .before .before .before .before .before .before .before .before .before .before .step1 .ensures)) (in-front _ _) (c .before .before .before .before .before .before .step2 .ensures)) (last-run _) (c .before .before .step3 .ensures)) refl
+
+pub steps-1-to-3-spec : {M : Type 1} → statement M
+steps-1-to-3-spec =
+    tie.close (tie.spec step1-requires step2-requires step3-requires same-length returns)

@@ -1,0 +1,3 @@
+-- The stores of a translation.
+pub mod PreferenceStore
+pub mod NameBytes

@@ -1,0 +1,3 @@
+-- The walks, their units and the answers (document 01, "Verdicts").
+pub mod Walk
+pub mod Answers
