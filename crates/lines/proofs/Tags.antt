@@ -4,26 +4,16 @@ use native.Mathlib.Numerals.{add-one}
 use native.Mathlib.Nat.{add-zero}
 use native.Mathlib.Omega.{arith}
 use native.Mathlib.Decide.{decLe}
-use mathlib.Core.Path.{_≡_, refl, sym, ap, ap₂, _∙_}
-use mathlib.Core.List.{List, [], _∷_}
+use mathlib.Core.Path.{_≡_, sym, ap, ap₂, _∙_}
+use mathlib.Core.List.{List}
 use mathlib.Core.Bool.{Bool, true, false, _&&_}
 use lib.Dec.{eqb}
 use lib.ListN.{length, getD, take, drop, length-drop, length-take, drop-of-length-le}
 use lib.Seq.{drop-cons, take-all}
 use borrow.Author.Tests.{eq-eqb, ne-eqb}
 use Rattle.name_store.specs.NameStore.{sameBytes}
+use Rattle.name_store.proofs.ByteLoops.{other-length}
 use Rattle.lines.specs.Forms.{begins}
-
-other-length : (a b : List ℕ) → (length a ≡ length b → ⊥) → false ≡ sameBytes a b
-unfolding sameBytes
-other-length [] [] h = absurd (h refl)
-other-length [] (y ∷ b) h = refl
-other-length (x ∷ a) [] h = refl
-other-length (x ∷ a) (y ∷ b) h = go (eqb x y) (other-length a b (λ e. h (ap suc e)))
-  where
-    go : (t : Bool) → false ≡ sameBytes a b → false ≡ t && sameBytes a b
-    go true e = e
-    go false e = refl
 
 -- i bytes of the tag are passed
 pub record Matching (s : List ℕ) (at : ℕ) (tag : List ℕ) (i : ℕ) : Type 0 where

@@ -1,15 +1,13 @@
 -- Names of a list to numbers: what finding one says, and a turn of the walk.
 use Prim.Native.Nat.{ℕ, suc, _+_, _^_, _≤_, _<_, zero-le}
 use native.Mathlib.Nat.{zero-add}
-use native.Mathlib.Decide.{ℕ-discrete}
 use native.Mathlib.Omega.{arith}
 use mathlib.Core.Path.{_≡_, refl, sym, ap, ap₂, _∙_, subst}
 use mathlib.Core.List.{List, [], _∷_, _++_, map, append-assoc, append-nil}
 use mathlib.Core.Bool.{Bool, true, false, cond, _||_}
 use lib.Dec.{T, eqb, eqb→eq}
 use lib.ListN.{length, getD, drop, set, length-set, length-append, length-map}
-use lib.Seq.{getD-set-same, getD-set-other}
-use borrow.Author.Tests.{eq-eqb, ne-eqb}
+use borrow.Author.Tests.{ne-eqb}
 use Rattle.rules.specs.Lists.{All, some}
 use Rattle.rules.proofs.Booleans.{bool-ext, eq→eqb}
 use Rattle.rules.proofs.Lists.{all-app}
@@ -21,6 +19,7 @@ use Rattle.stores.specs.RuleStore.{Below}
 use Rattle.name_store.proofs.NameStores.{same-law}
 use Rattle.text.specs.Emitted.{Emitted, InRange}
 use Rattle.text.proofs.Emitting.{none, then, renamed}
+use Rattle.stores.proofs.Marks.{set-below, set-marks}
 use Rattle.lines.specs.declared.scan.Item.{Item}
 use Rattle.lines.specs.declared.scan.Item.the-variants.{At, Stop}
 use Rattle.lines.specs.Items.{items}
@@ -102,20 +101,6 @@ one-undeclared names (y ∷ seen) x xs e = rw (one-undeclared names seen x xs e)
     or-true false = refl
 
 -- marks
-
-pub set-below : (marks : List ℕ) (a stamp : ℕ) → a < length marks → Below (stamp + 1) marks → Below (stamp + 1) (set marks a stamp)
-set-below marks a stamp l h = record { mark = λ b. step b (ℕ-discrete b a) }
-  where
-    step : (b : ℕ) → Dec (b ≡ a) → getD (set marks a stamp) b 0 < stamp + 1
-    step b (yes e) = rw (e, getD-set-same marks a stamp 0 l) (omega arith)
-    step b (no e) = rw (getD-set-other marks a b stamp 0 e) (h .mark b)
-
-set-marks : (marks : List ℕ) (a stamp : ℕ) → a < length marks → (b : ℕ) → eqb (getD (set marks a stamp) b 0) stamp ≡ (eqb b a || eqb (getD marks b 0) stamp)
-set-marks marks a stamp l b = step (ℕ-discrete b a)
-  where
-    step : Dec (b ≡ a) → eqb (getD (set marks a stamp) b 0) stamp ≡ (eqb b a || eqb (getD marks b 0) stamp)
-    step (yes e) = let s : getD (set marks a stamp) b 0 ≡ stamp = ap (λ (j : ℕ). getD (set marks a stamp) j 0) e ∙ getD-set-same marks a stamp 0 l in simp (eq-eqb (getD (set marks a stamp) b 0) stamp s, eq-eqb b a e)
-    step (no e) = simp (getD-set-other marks a b stamp 0 e, ne-eqb b a e)
 
 some-last : {A : Type 0} (p : A → Bool) (xs : List A) (x : A) → some p (xs ++ (x ∷ [])) ≡ (p x || some p xs)
 some-last p [] x = refl

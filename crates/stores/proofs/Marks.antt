@@ -17,14 +17,14 @@ use Rattle.stores.specs.RuleStore.{Below, list?, lists?}
 pub below-more : {s t : ℕ} {marks : List ℕ} → Below s marks → s ≤ t → Below t marks
 below-more b h = record { mark = λ a. omega (arith, b .mark a) }
 
-set-below : (marks : List ℕ) (a stamp : ℕ) → a < length marks → Below (stamp + 1) marks → Below (stamp + 1) (set marks a stamp)
+pub set-below : (marks : List ℕ) (a stamp : ℕ) → a < length marks → Below (stamp + 1) marks → Below (stamp + 1) (set marks a stamp)
 set-below marks a stamp l h = record { mark = λ b. step b (ℕ-discrete b a) }
   where
     step : (b : ℕ) → Dec (b ≡ a) → getD (set marks a stamp) b 0 < stamp + 1
     step b (yes e) = rw (e, getD-set-same marks a stamp 0 l) (omega arith)
     step b (no e) = rw (getD-set-other marks a b stamp 0 e) (h .mark b)
 
-set-marks : (marks : List ℕ) (a stamp : ℕ) → a < length marks → (b : ℕ) → eqb (getD (set marks a stamp) b 0) stamp ≡ (eqb b a || eqb (getD marks b 0) stamp)
+pub set-marks : (marks : List ℕ) (a stamp : ℕ) → a < length marks → (b : ℕ) → eqb (getD (set marks a stamp) b 0) stamp ≡ (eqb b a || eqb (getD marks b 0) stamp)
 set-marks marks a stamp l b = step (ℕ-discrete b a)
   where
     step : Dec (b ≡ a) → eqb (getD (set marks a stamp) b 0) stamp ≡ (eqb b a || eqb (getD marks b 0) stamp)
