@@ -1,3 +1,4 @@
 -- The definitions that the contracts of `kinds` cite.
 pub mod Limits
 pub mod Refusals
+pub mod Words

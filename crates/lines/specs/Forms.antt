@@ -8,7 +8,7 @@ use Rattle.names.specs.declared.forms.NameClass.{NameClass}
 use Rattle.names.specs.declared.forms.NameClass.the-variants.{House, Generated, TooLong, Wrong}
 use Rattle.names.specs.Names.{nameClass}
 use Rattle.name_store.specs.NameStore.{sameBytes}
-use Rattle.text.specs.Words.{space, open-bracket, close-bracket, line-end, atomsWord, minWord, varyWord, fixWord, ruleWord, headWord, bodyWord, notWord}
+use Rattle.kinds.specs.Words.{space, open-bracket, close-bracket, line-end, atomsWord, minWord, varyWord, fixWord, ruleWord, headWord, bodyWord, notWord}
 use Rattle.lines.specs.Items.{items, span}
 
 -- the word of a line that declares atoms

@@ -5,7 +5,7 @@ use mathlib.Core.List.{List, [], _∷_}
 use lib.Dec.{eqb}
 use lib.ListN.{length, take}
 use Rattle.rules.specs.Lists.{sum}
-use Rattle.text.specs.Words.{space, open-bracket, close-bracket, line-end}
+use Rattle.kinds.specs.Words.{space, open-bracket, close-bracket, line-end}
 
 -- a byte that ends a name
 abbrev pub delimiter? : ℕ → Bool

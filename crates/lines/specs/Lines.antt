@@ -4,7 +4,7 @@ use mathlib.Core.Bool.{cond}
 use mathlib.Core.List.{List, [], _∷_}
 use lib.Dec.{eqb}
 use lib.ListN.{take}
-use Rattle.text.specs.Words.{line-end}
+use Rattle.kinds.specs.Words.{line-end}
 
 -- the length of the first line, its end included
 unfoldable pub lineLength : List ℕ → ℕ

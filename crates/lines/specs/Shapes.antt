@@ -11,7 +11,7 @@ use Rattle.rules.specs.Lists.{every, some}
 use Rattle.names.specs.declared.forms.NameClass.{NameClass}
 use Rattle.names.specs.declared.forms.NameClass.the-variants.{House, Generated, TooLong, Wrong}
 use Rattle.names.specs.Names.{nameClass}
-use Rattle.text.specs.Words.{space}
+use Rattle.kinds.specs.Words.{space}
 use Rattle.lines.specs.declared.scan.Item.{Item}
 use Rattle.lines.specs.declared.scan.Item.the-variants.{At, Stop}
 use Rattle.lines.specs.declared.forms.NameFit.{NameFit}

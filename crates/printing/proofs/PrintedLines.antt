@@ -14,7 +14,7 @@ use Rattle.kinds.specs.declared.refusals.Refusal.{Refusal}
 use Rattle.kinds.specs.Refusals.{numberOf}
 use Rattle.rules.specs.Lists.{keep, filter, flat, from}
 use Rattle.rules.specs.Sets.{has}
-use Rattle.text.specs.Words.{space}
+use Rattle.kinds.specs.Words.{space}
 use Rattle.text.specs.Text.{openText, listLine, item, named}
 use Rattle.text.specs.Emitted.{Emitted, InRange}
 use Rattle.text.proofs.Emitting.{Ahead}

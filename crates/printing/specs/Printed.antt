@@ -14,7 +14,7 @@ use Rattle.kinds.specs.declared.refusals.Refusal.the-variants.{TextTooLong, Out
 use Rattle.rules.specs.Lists.{filter, flat, from}
 use Rattle.rules.specs.Sets.{has}
 use Rattle.stores.specs.Program.{Program}
-use Rattle.text.specs.Words.{space, close-bracket, line-end}
+use Rattle.kinds.specs.Words.{space, close-bracket, line-end}
 use Rattle.text.specs.Text.{item, listLine, named}
 use Rattle.writer.specs.Answers.{over}
 use Rattle.delivery.specs.Said.{Said, accepted, refused, said, programOf}

@@ -14,7 +14,7 @@ use mathlib.Core.Logic.{inr, _↔_}
 use Rattle.names.specs.Names.{nameClass}
 use Rattle.name_store.specs.NameStore.{sameBytes}
 use Rattle.name_store.proofs.NameStores.{same-equal, same-self}
-use Rattle.text.specs.Words.{space, open-bracket, close-bracket, line-end, atomsWord, minWord, varyWord, fixWord, ruleWord, headWord, bodyWord, notWord}
+use Rattle.kinds.specs.Words.{space, open-bracket, close-bracket, line-end, atomsWord, minWord, varyWord, fixWord, ruleWord, headWord, bodyWord, notWord}
 use Rattle.text.specs.Text.{item, openText, listLine, ruleLine}
 use Rattle.lines.specs.Items.{delimiter?, run, itemsFrom, items, span}
 use Rattle.lines.specs.Forms.{Word, atoms, min, vary, fix, Form, declares, rules, broken, isName, begins, Cut, cut, none, cutNames, cutList, onCut, tagOf, headTag, bodyTag, notTag, listEnd, ruleEnd, closed, declaredForm, ruleForm, formOf}

@@ -8,7 +8,7 @@ use lib.Dec.{T, eqb}
 use lib.ListN.{length, take, drop, take-append-drop}
 use lib.Seq.{drop-nil, take-append-seam, drop-append-seam}
 use Rattle.rules.specs.Lists.{All, flat}
-use Rattle.text.specs.Words.{line-end}
+use Rattle.kinds.specs.Words.{line-end}
 use Rattle.lines.specs.Lines.{lineLength, linesFrom, lines}
 
 abbrev pub joined : List (List ℕ) → List ℕ

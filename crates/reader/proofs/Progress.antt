@@ -18,7 +18,7 @@ use Rattle.rules.proofs.Lists.{all-app, all-imp, all-from, all-map}
 use Rattle.names.specs.Names.{allowed}
 use Rattle.name_store.specs.NameStore.{NamesForm}
 use Rattle.stores.specs.Program.{Form, RoleForm, roleOf, ListForm, NotForm, RuleForm}
-use Rattle.text.specs.Words.{atomsWord, minWord, varyWord, fixWord}
+use Rattle.kinds.specs.Words.{atomsWord, minWord, varyWord, fixWord}
 use Rattle.text.specs.Text.{listLine, ruleLine, ruleText, declarations, textOf}
 use Rattle.lines.specs.declared.stage.Stage.{Stage}
 use Rattle.lines.specs.declared.stage.Stage.the-variants.{Declaring, Fixing, Ruling}

@@ -15,7 +15,7 @@ use Rattle.rules.specs.Lists.{All, flat, from}
 use Rattle.rules.specs.Preferred.{varying, fixed}
 use Rattle.name_store.specs.NameStore.{NamesForm, sameBytes}
 use Rattle.stores.specs.Program.{Program, Form, RuleForm}
-use Rattle.text.specs.Words.{minWord, varyWord, fixWord}
+use Rattle.kinds.specs.Words.{minWord, varyWord, fixWord}
 use Rattle.text.specs.Text.{openText, listLine, classLine, declarations, ruleText, textOf}
 use Rattle.lines.specs.declared.stage.Stage.the-variants.{Declaring, Ruling}
 use Rattle.lines.specs.Lines.{linesFrom, lines}

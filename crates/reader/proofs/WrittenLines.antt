@@ -22,7 +22,7 @@ use Rattle.names.specs.declared.forms.NameClass.the-variants.{House, Generated,
 use Rattle.names.specs.Names.{nameClass, takes, allowed}
 use Rattle.name_store.specs.NameStore.{NamesForm}
 use Rattle.stores.specs.Program.{Program, RoleForm, roleOf, Rising, ClassesForm, ListForm, NotForm, RuleForm}
-use Rattle.text.specs.Words.{minWord}
+use Rattle.kinds.specs.Words.{minWord}
 use Rattle.text.specs.Text.{named, listLine, ruleLine, ruleText, declarations}
 use Rattle.lines.specs.declared.stage.Stage.{Stage}
 use Rattle.lines.specs.declared.stage.Stage.the-variants.{Declaring, Fixing, Ruling}

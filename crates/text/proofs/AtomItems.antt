@@ -7,7 +7,7 @@ use mathlib.Core.List.{List, [], _∷_, _++_, append-nil}
 use lib.ListN.{length, getD, drop, drop-of-length-le}
 use lib.Seq.{drop-cons}
 use Rattle.rules.specs.Lists.{All, from}
-use Rattle.text.specs.Words.{close-bracket, line-end}
+use Rattle.kinds.specs.Words.{close-bracket, line-end}
 use Rattle.text.specs.Items.{atomItem, atomItems, atomLine}
 use Rattle.text.proofs.Emitting.{Ahead}
 

@@ -14,7 +14,7 @@ use Rattle.rules.specs.Lists.{from}
 use Rattle.rules.specs.Preferred.{varying, fixed, ofClass}
 use Rattle.stores.specs.Program.{RoleForm, roleOf}
 use Rattle.stores.specs.declared.roles.Role.the-variants.{Minimised, Varying, Fixed, Unknown}
-use Rattle.text.specs.Words.{open-bracket, close-bracket, line-end, minWord, varyWord, fixWord}
+use Rattle.kinds.specs.Words.{open-bracket, close-bracket, line-end, minWord, varyWord, fixWord}
 use Rattle.text.specs.Text.{openText, listLine, named}
 use Rattle.text.specs.ClassRuns.{ClassWordsOf, upTo}
 use Rattle.text.specs.Emitted.{Emitted, InRange}

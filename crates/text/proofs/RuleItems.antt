@@ -9,7 +9,7 @@ use lib.Seq.{take-all, drop-drop}
 use Rattle.rules.specs.Lists.{All}
 use Rattle.rules.specs.Rules.{Rule}
 use Rattle.stores.specs.RuleStore.{heads, bodies, nots, places, ruleAt, rulesFrom}
-use Rattle.text.specs.Words.{space, open-bracket, close-bracket, line-end, ruleWord, headWord, bodyWord, notWord}
+use Rattle.kinds.specs.Words.{space, open-bracket, close-bracket, line-end, ruleWord, headWord, bodyWord, notWord}
 use Rattle.text.specs.Text.{openText, ruleLine, ruleText}
 use Rattle.text.specs.Items.{atomItems, atomPart, ruleItem, ruleItems}
 use Rattle.text.specs.StoredRules.{StoredRule, StoredRules}

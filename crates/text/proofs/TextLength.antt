@@ -18,7 +18,7 @@ use Rattle.stores.specs.Program.{Program, ClassesForm, Form}
 use Rattle.names.specs.Names.{allowed}
 use Rattle.name_store.specs.NameStore.{NamesForm}
 use Rattle.name_store.proofs.NameStores.{allowed-short}
-use Rattle.text.specs.Words.{minWord, varyWord, fixWord}
+use Rattle.kinds.specs.Words.{minWord, varyWord, fixWord}
 use Rattle.text.specs.Text.{item, openText, listLine, ruleLine, named, classLine, declarations, ruleText, textOf}
 
 -- names of at most 18 bytes

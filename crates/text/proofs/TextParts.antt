@@ -19,7 +19,7 @@ use Rattle.stores.specs.RuleStore.{encode, StoreOf, decode, kindOf, wordCount, 
 use Rattle.stores.proofs.RuleTests.{rule-law}
 use Rattle.stores.proofs.RuleStores.{store-law}
 use Rattle.name_store.proofs.NamePlaces.{length-decode}
-use Rattle.text.specs.Words.{open-bracket, atomsWord}
+use Rattle.kinds.specs.Words.{open-bracket, atomsWord}
 use Rattle.text.specs.Text.{openText, listLine, named, declarations, textOf}
 use Rattle.text.specs.ClassRuns.{ClassWordsOf}
 use Rattle.text.specs.Items.{storedNames, atomItems, atomLine, ruleItems, classItem, minItems, classItems}

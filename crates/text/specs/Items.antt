@@ -7,7 +7,7 @@ use Rattle.rules.specs.Lists.{flat, from}
 use Rattle.rules.specs.Rules.{Rule}
 use Rattle.rules.specs.Preferred.{varying, fixed, ofClass}
 use Rattle.name_store.specs.NameStore.{encodeNames, decodeNames}
-use Rattle.text.specs.Words.{close-bracket, line-end, minWord, varyWord, fixWord}
+use Rattle.kinds.specs.Words.{close-bracket, line-end, minWord, varyWord, fixWord}
 use Rattle.text.specs.Text.{item, listLine, named, ruleText}
 
 -- the names of a store that `starts` has a place for

@@ -1,5 +1,4 @@
 -- The text of a program, and what writing it leaves.
-pub mod Words
 pub mod Text
 pub mod Emitted
 pub mod ClassRuns

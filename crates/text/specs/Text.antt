@@ -8,7 +8,7 @@ use Rattle.rules.specs.Lists.{flat, from}
 use Rattle.rules.specs.Rules.{Rule}
 use Rattle.rules.specs.Preferred.{varying, fixed, ofClass}
 use Rattle.stores.specs.Program.{Program}
-use Rattle.text.specs.Words.{space, open-bracket, close-bracket, line-end, atomsWord, minWord, varyWord, fixWord, ruleWord, headWord, bodyWord, notWord}
+use Rattle.kinds.specs.Words.{space, open-bracket, close-bracket, line-end, atomsWord, minWord, varyWord, fixWord, ruleWord, headWord, bodyWord, notWord}
 
 -- a name after its space
 abbrev pub item : List ℕ → List ℕ

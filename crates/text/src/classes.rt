@@ -8,7 +8,7 @@ ghost use Rattle.rules.specs.Lists.{from};
 ghost use Rattle.name_store.specs.NameIndex.{Placed};
 ghost use Rattle.text.specs.ClassRuns.{ClassWordsOf, upTo};
 ghost use Rattle.text.specs.Emitted.{Emitted, InRange};
-ghost use Rattle.text.specs.Words.{open-bracket, minWord};
+ghost use Rattle.kinds.specs.Words.{open-bracket, minWord};
 ghost use Rattle.text.specs.Items.{storedNames, atomLine, minItems, classItems};
 
 // The first atom from `first` on whose class word is above `word`.
