@@ -17,6 +17,7 @@ pub mod CheckedStore
 pub mod Guarding
 pub mod FreeAtoms
 pub mod AgreeingSets
+pub mod SubsetSteps
 pub mod ProperSubsets
 pub mod Listing
 pub mod Candidates

@@ -14,11 +14,12 @@ use borrow.Author.Tests.{eq-eqb, ne-eqb}
 use Rattle.rules.proofs.Booleans.{eq→eqb}
 use Rattle.verdicts.specs.Walk.{search, capped}
 use Rattle.verdicts.specs.Masks.{firstM, modelM, subsetM, stableWalkM}
-use Rattle.verdicts.specs.Subsets.{rank, NextSub}
+use Rattle.verdicts.specs.Subsets.{rank, NextSub, StepTable}
 use Rattle.verdicts.specs.declared.answers.Verdict.the-variants.{Yes, Beaten, Spent}
 use Rattle.verdicts.proofs.Filters.{upTo}
 use Rattle.verdicts.proofs.Steps.{walk-first, walk-none, walk-found, walk-next, walk-spent, capped-yes, capped-beaten}
 use Rattle.verdicts.proofs.Subsets.{rank-top, rank-none, rank-lt}
+use Rattle.verdicts.proofs.SubsetSteps.{StepRead, step-read}
 use Rattle.verdicts.proofs.MaskLoops.{shifted}
 
 pub ones-small : (m : ℕ) → m < 2 ^ 60 → ones m ≤ 60
@@ -69,8 +70,8 @@ module _ (cs ws : List ℕ) (m budget : ℕ) where
       not-last : units < proper
       not-last = let b = st .bound in omega arith
 
-      pub still-proper : s ≡ m → ⊥
-      still-proper = is-proper not-last
+      pub subsets-step : (steps : List ℕ) → StepTable m steps → StepRead m s (units + 1) steps
+      subsets-step steps t = step-read m s (units + 1) steps t (st .fits) (st .inside) (is-proper not-last) (ap (λ (u : ℕ). u + 1) (st .place))
 
       pub subsets-found : (r : ℕ) → r ≡ firstM s cs ws → r ≡ length cs → Beaten s (units + 1) ≡ capped budget (stableWalkM cs ws m)
       unfolding modelM

@@ -9,16 +9,16 @@ use crate::masks::least;
 use crate::masks::wide;
 use kinds::limits::Kind;
 use kinds::limits::Plain;
+use kinds::limits::Walk;
 ghost use mathlib.Core.Path.{_≡_};
 ghost use Prim.Native.Nat.{_<_, _≤_, _^_};
-ghost use lib.Bits.{bitAnd};
 ghost use lib.ListN.{length};
 ghost use Rattle.kinds.specs.Limits.{walkAtoms};
 ghost use Rattle.kinds.specs.declared.limits.Kind.the-variants.{Plain as KindPlain};
 ghost use Rattle.stores.specs.RuleStore.{StoreOf, decode};
 ghost use Rattle.verdicts.specs.Walk.{capped, stableVerdict};
 ghost use Rattle.verdicts.specs.Masks.{stableWalkM};
-ghost use Rattle.verdicts.specs.Subsets.{rank, NextSub};
+ghost use Rattle.verdicts.specs.Subsets.{rank, StepTable};
 ghost use Rattle.verdicts.specs.Answers.{stableAnswer};
 
 // How many proper subsets a set has.
@@ -29,20 +29,29 @@ fn proper_subsets(set: u64) -> u64
     (1u64 << u64::count_ones(set)) - 1
 }
 
-// The next subset of `set` after its proper subset s, by rising number: the lowest atom that is out goes in, those below go out.
-fn next_subset(set: u64, s: u64) -> u64
+// Fills what the walk adds at each step: where the j lowest atoms of `set` are in and the next is out, that one goes in and they go out.
+fn fill_steps(set: u64, steps: &mut [u64])
     requires { ⌜ set < 2 ^ 60 ⌝ }
-    requires { ⌜ bitAnd s set ≡ s ⌝ }
-    requires { ⌜ (s ≡ set → ⊥) ⌝ }
-    ensures { λ r. ⌜ NextSub set s r ⌝ }
+    requires { ⌜ length (now steps) ≡ walkAtoms ⌝ }
+    ensures { λ _. ⌜ StepTable set (now (steps .exit)) ⌝ }
 {
-    let a = u64::trailing_zeros(set ^ s);
-    ((s >> a) + 1) << a
+    let mut left = set;
+    let mut below: u64 = 0;
+    let mut j = 0;
+    while left != 0 {
+        let atom = 1u64 << u64::trailing_zeros(left);
+        steps[j] = atom - below;
+        below += atom;
+        left -= atom;
+        j += 1;
+    }
 }
 
-fn stable_walk(care: &[u64], want: &[u64], set: u64, budget: u64) -> Verdict
+// Tries the proper subsets of `set` by rising number.
+fn walk_subsets(care: &[u64], want: &[u64], set: u64, steps: &[u64], budget: u64) -> Verdict
     requires { ⌜ length (now want) ≡ length (now care) ⌝ }
     requires { ⌜ set < 2 ^ 60 ⌝ }
+    requires { ⌜ StepTable set (now steps) ⌝ }
     ensures { λ r. ⌜ r ≡ capped budget (stableWalkM (now (care .entry)) (now (want .entry)) set) ⌝ }
 {
     let proper = proper_subsets(set);
@@ -57,12 +66,23 @@ fn stable_walk(care: &[u64], want: &[u64], set: u64, budget: u64) -> Verdict
                 units: units,
             };
         }
-        s = next_subset(set, s);
+        let j = u64::trailing_zeros(units) as usize;
+        s += steps[j];
     }
     if units < proper {
         return Verdict::Spent { units: budget };
     }
     Verdict::Yes { units: units }
+}
+
+fn stable_walk(care: &[u64], want: &[u64], set: u64, budget: u64) -> Verdict
+    requires { ⌜ length (now want) ≡ length (now care) ⌝ }
+    requires { ⌜ set < 2 ^ 60 ⌝ }
+    ensures { λ r. ⌜ r ≡ capped budget (stableWalkM (now (care .entry)) (now (want .entry)) set) ⌝ }
+{
+    let mut steps = [0u64; Walk::ATOMS];
+    fill_steps(set, &mut steps);
+    walk_subsets(care, want, set, &steps, budget)
 }
 
 // The stable verdict over the words of a checked plain store.
