@@ -6,7 +6,7 @@ use native.Mathlib.Nat.{mod-lt, zero-lt-suc, pow-suc}
 use native.Mathlib.Numerals.{one-add}
 use native.Mathlib.Omega.{arith}
 use lib.Arith.{lt-one}
-use lib.Pow.{pow-mono, pow-pos}
+use lib.Pow.{pow-mono}
 use lib.Bits.{bitAnd, and-step, and-le-r}
 use lib.Count.{ones, ones-step, ones-le, trailingZeros, under}
 use Rattle.verdicts.specs.Subsets.{digit, rank, NextSub, stepDigit, stepOf}

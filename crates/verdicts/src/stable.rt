@@ -12,12 +12,13 @@ use kinds::limits::Plain;
 use kinds::limits::Walk;
 ghost use mathlib.Core.Path.{_≡_};
 ghost use Prim.Native.Nat.{_<_, _≤_, _^_};
+ghost use lib.Dec.{eqb};
 ghost use lib.ListN.{length};
 ghost use Rattle.kinds.specs.Limits.{walkAtoms};
 ghost use Rattle.kinds.specs.declared.limits.Kind.the-variants.{Plain as KindPlain};
 ghost use Rattle.stores.specs.RuleStore.{StoreOf, decode};
 ghost use Rattle.verdicts.specs.Walk.{capped, stableVerdict};
-ghost use Rattle.verdicts.specs.Masks.{stableWalkM};
+ghost use Rattle.verdicts.specs.Masks.{modelM, stableWalkM};
 ghost use Rattle.verdicts.specs.Subsets.{rank, StepTable};
 ghost use Rattle.verdicts.specs.Answers.{stableAnswer};
 
@@ -29,7 +30,7 @@ fn proper_subsets(set: u64) -> u64
     (1u64 << u64::count_ones(set)) - 1
 }
 
-// Fills what the walk adds at each step: where the j lowest atoms of `set` are in and the next is out, that one goes in and they go out.
+// Fills what leads to the next subset where the j lowest atoms of `set` are in and the next is out: that one goes in and they go out.
 fn fill_steps(set: u64, steps: &mut [u64])
     requires { ⌜ set < 2 ^ 60 ⌝ }
     requires { ⌜ length (now steps) ≡ walkAtoms ⌝ }
@@ -47,7 +48,21 @@ fn fill_steps(set: u64, steps: &mut [u64])
     }
 }
 
-// Tries the proper subsets of `set` by rising number.
+// The number of a rule that is broken at `set`, or the number of rules.
+// Rule `first` is looked at first: the rule that one subset breaks, the next mostly breaks too.
+fn some_broken(care: &[u64], want: &[u64], set: u64, first: usize) -> usize
+    requires { ⌜ length (now want) ≡ length (now care) ⌝ }
+    ensures { λ r. ⌜ eqb r (length (now (care .entry))) ≡ modelM (now (care .entry)) (now (want .entry)) set ⌝ }
+{
+    if first < care.len() {
+        if set & care[first] == want[first] {
+            return first;
+        }
+    }
+    first_broken(care, want, set)
+}
+
+// Tries the proper subsets of `set` by rising number; the trailing zeros of a subset's place tell its step.
 fn walk_subsets(care: &[u64], want: &[u64], set: u64, steps: &[u64], budget: u64) -> Verdict
     requires { ⌜ length (now want) ≡ length (now care) ⌝ }
     requires { ⌜ set < 2 ^ 60 ⌝ }
@@ -58,9 +73,11 @@ fn walk_subsets(care: &[u64], want: &[u64], set: u64, steps: &[u64], budget: u64
     let last = least(proper, budget);
     let mut s: u64 = 0;
     let mut units: u64 = 0;
+    let mut broken = 0;
     while units < last {
         units += 1;
-        if first_broken(care, want, s) == care.len() {
+        broken = some_broken(care, want, s, broken);
+        if broken == care.len() {
             return Verdict::Beaten {
                 set: s,
                 units: units,

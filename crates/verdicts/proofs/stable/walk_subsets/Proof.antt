@@ -7,10 +7,10 @@ use Rattle.verdicts.proofs.stable.walk_subsets.Statement.{statement}
 use Rattle.verdicts.proofs.stable.walk_subsets.Tie as tie
 
 abbrev Inv-loop : tie.InvT-loop
-Inv-loop care want set steps budget proper last s₀ units₀ s units = Subsetting care want set budget proper last s units
+Inv-loop care want set steps budget proper last s₀ units₀ broken₀ s units broken = Subsetting care want set budget proper last s units
 
 abbrev μ-loop : tie.MeasureT-loop
-μ-loop care want set steps budget proper last s₀ units₀ s units = last - units
+μ-loop care want set steps budget proper last s₀ units₀ broken₀ s units broken = last - units
 
 proper-subsets-requires : tie.Need-proper-subsets-requires Inv-loop μ-loop
 proper-subsets-requires c κs = search needs
@@ -24,14 +24,14 @@ loop-holds c = subsets-begin _ _ _ _ _ _ (c .before .before .before .before .bef
 add-units : tie.Need-add-units Inv-loop μ-loop
 add-units c = search needs
 
-first-broken-requires : tie.Need-first-broken-requires Inv-loop μ-loop
-first-broken-requires c κs = search needs
+some-broken-requires : tie.Need-some-broken-requires Inv-loop μ-loop
+some-broken-requires c κs = search needs
 
 returns : tie.Need-returns Inv-loop μ-loop
-returns c = subsets-found _ _ _ _ _ _ _ _ (c .before .before .before .loop .inv) (c .before .before .loop-test .taken) _ (c .before .first-broken .ensures) (c .if1 .taken)
+returns c = subsets-found _ _ _ _ _ _ _ _ (c .before .before .before .loop .inv) (c .before .before .loop-test .taken) _ (c .before .some-broken .ensures) (c .if1 .taken)
 
 -- the step that is read
-step : (c : tie.After-first-broken Inv-loop μ-loop) → StepRead (c .before .before .before .before .before .before .before .before .args .set) (c .before .before .loop .s) (c .before .before .loop .units + 1) (c .before .before .before .before .before .before .before .before .args .steps .now)
+step : (c : tie.After-some-broken Inv-loop μ-loop) → StepRead (c .before .before .before .before .before .before .before .before .args .set) (c .before .before .loop .s) (c .before .before .loop .units + 1) (c .before .before .before .before .before .before .before .before .args .steps .now)
 step c = subsets-step _ _ _ _ _ _ _ _ (c .before .before .loop .inv) (c .before .loop-test .taken) _ (c .before .before .before .before .before .before .before .before .pre .1 .1)
 
 cast-j : tie.Need-cast-j Inv-loop μ-loop
@@ -50,7 +50,7 @@ loop-less : tie.Need-loop-less Inv-loop μ-loop
 loop-less c = search needs
 
 loop-again : tie.Need-loop-again Inv-loop μ-loop
-loop-again c = subsets-go-on _ _ _ _ _ _ _ _ (c .before .before .before .before .loop .inv) (c .before .before .before .loop-test .taken) _ (c .before .before .first-broken .ensures) (c .before .if1 .left) _ (step (c .before .before) .next)
+loop-again c = subsets-go-on _ _ _ _ _ _ _ _ (c .before .before .before .before .loop .inv) (c .before .before .before .loop-test .taken) _ (c .before .before .some-broken .ensures) (c .before .if1 .left) _ (step (c .before .before) .next)
 
 returns-2 : tie.Need-returns-2 Inv-loop μ-loop
 returns-2 c = subsets-spent _ _ _ _ _ _ _ _ (c .before .before .loop .inv) (c .before .loop-test .left) (c .if2 .taken)
@@ -68,7 +68,7 @@ walk-subsets-spec =
     least-requires
     loop-holds
     add-units
-    first-broken-requires
+    some-broken-requires
     returns
     cast-j
     mul-s
