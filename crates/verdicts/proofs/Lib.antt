@@ -6,4 +6,5 @@ pub mod CheckedStore
 pub mod Guarding
 pub mod FreeAtoms
 pub mod AgreeingSets
+pub mod SubsetSteps
 pub mod ProperSubsets

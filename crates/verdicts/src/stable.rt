@@ -3,23 +3,18 @@ use crate::guard::Guard;
 use crate::guard::check_call;
 use kinds::limits::Kind;
 use kinds::limits::Plain;
-use masks::masks::fill_rules;
-use masks::masks::first_broken;
-use masks::masks::gather;
-use masks::masks::least;
-use masks::masks::wide;
-use walks::answers::Verdict;
+use kinds::limits::Walk;
 ghost use mathlib.Core.Path.{_≡_};
 ghost use Prim.Native.Nat.{_<_, _≤_, _^_};
-ghost use lib.Bits.{bitAnd};
+ghost use lib.Dec.{eqb};
 ghost use lib.ListN.{length};
 ghost use Rattle.kinds.specs.Limits.{walkAtoms};
 ghost use Rattle.kinds.specs.declared.limits.Kind.the-variants.{Plain as KindPlain};
 ghost use Rattle.stores.specs.RuleStore.{StoreOf, decode};
-ghost use Rattle.walks.specs.Walk.{capped, stableVerdict};
-ghost use Rattle.masks.specs.Masks.{stableWalkM};
-ghost use Rattle.verdicts.specs.Subsets.{rank, NextSub};
-ghost use Rattle.walks.specs.Answers.{stableAnswer};
+ghost use Rattle.verdicts.specs.Walk.{capped, stableVerdict};
+ghost use Rattle.verdicts.specs.Masks.{modelM, stableWalkM};
+ghost use Rattle.verdicts.specs.Subsets.{rank, StepTable};
+ghost use Rattle.verdicts.specs.Answers.{stableAnswer};
 
 // How many proper subsets a set has.
 fn proper_subsets(set: u64) -> u64
@@ -29,15 +24,66 @@ fn proper_subsets(set: u64) -> u64
     (1u64 << u64::count_ones(set)) - 1
 }
 
-// The next subset of `set` after its proper subset s, by rising number: the lowest atom that is out goes in, those below go out.
-fn next_subset(set: u64, s: u64) -> u64
+// Fills what leads to the next subset where the j lowest atoms of `set` are in and the next is out: that one goes in and they go out.
+fn fill_steps(set: u64, steps: &mut [u64])
     requires { ⌜ set < 2 ^ 60 ⌝ }
-    requires { ⌜ bitAnd s set ≡ s ⌝ }
-    requires { ⌜ (s ≡ set → ⊥) ⌝ }
-    ensures { λ r. ⌜ NextSub set s r ⌝ }
+    requires { ⌜ length (now steps) ≡ walkAtoms ⌝ }
+    ensures { λ _. ⌜ StepTable set (now (steps .exit)) ⌝ }
 {
-    let a = u64::trailing_zeros(set ^ s);
-    ((s >> a) + 1) << a
+    let mut left = set;
+    let mut below: u64 = 0;
+    let mut j = 0;
+    while left != 0 {
+        let atom = 1u64 << u64::trailing_zeros(left);
+        steps[j] = atom - below;
+        below += atom;
+        left -= atom;
+        j += 1;
+    }
+}
+
+// The number of a rule that is broken at `set`, or the number of rules.
+// Rule `first` is looked at first: the rule that one subset breaks, the next mostly breaks too.
+fn some_broken(care: &[u64], want: &[u64], set: u64, first: usize) -> usize
+    requires { ⌜ length (now want) ≡ length (now care) ⌝ }
+    ensures { λ r. ⌜ eqb r (length (now (care .entry))) ≡ modelM (now (care .entry)) (now (want .entry)) set ⌝ }
+{
+    if first < care.len() {
+        if set & care[first] == want[first] {
+            return first;
+        }
+    }
+    first_broken(care, want, set)
+}
+
+// Tries the proper subsets of `set` by rising number; the trailing zeros of a subset's place tell its step.
+fn walk_subsets(care: &[u64], want: &[u64], set: u64, steps: &[u64], budget: u64) -> Verdict
+    requires { ⌜ length (now want) ≡ length (now care) ⌝ }
+    requires { ⌜ set < 2 ^ 60 ⌝ }
+    requires { ⌜ StepTable set (now steps) ⌝ }
+    ensures { λ r. ⌜ r ≡ capped budget (stableWalkM (now (care .entry)) (now (want .entry)) set) ⌝ }
+{
+    let proper = proper_subsets(set);
+    let last = least(proper, budget);
+    let mut s: u64 = 0;
+    let mut units: u64 = 0;
+    let mut broken = 0;
+    while units < last {
+        units += 1;
+        broken = some_broken(care, want, s, broken);
+        if broken == care.len() {
+            return Verdict::Beaten {
+                set: s,
+                units: units,
+            };
+        }
+        let j = u64::trailing_zeros(units) as usize;
+        s += steps[j];
+    }
+    if units < proper {
+        return Verdict::Spent { units: budget };
+    }
+    Verdict::Yes { units: units }
 }
 
 fn stable_walk(care: &[u64], want: &[u64], set: u64, budget: u64) -> Verdict
@@ -45,24 +91,9 @@ fn stable_walk(care: &[u64], want: &[u64], set: u64, budget: u64) -> Verdict
     requires { ⌜ set < 2 ^ 60 ⌝ }
     ensures { λ r. ⌜ r ≡ capped budget (stableWalkM (now (care .entry)) (now (want .entry)) set) ⌝ }
 {
-    let proper = proper_subsets(set);
-    let last = least(proper, budget);
-    let mut s: u64 = 0;
-    let mut units: u64 = 0;
-    while units < last {
-        units += 1;
-        if first_broken(care, want, s) == care.len() {
-            return Verdict::Beaten {
-                set: s,
-                units: units,
-            };
-        }
-        s = next_subset(set, s);
-    }
-    if units < proper {
-        return Verdict::Spent { units: budget };
-    }
-    Verdict::Yes { units: units }
+    let mut steps = [0u64; Walk::ATOMS];
+    fill_steps(set, &mut steps);
+    walk_subsets(care, want, set, &steps, budget)
 }
 
 // The stable verdict over the words of a checked plain store.
