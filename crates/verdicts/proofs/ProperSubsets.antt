@@ -14,15 +14,15 @@ use lib.ListN.{length, getD}
 use borrow.Author.Tests.{eq-eqb, ne-eqb}
 use Rattle.rules.specs.Rules.{countIf}
 use Rattle.rules.proofs.Booleans.{eq→eqb}
-use Rattle.verdicts.specs.Walk.{search, capped}
-use Rattle.verdicts.specs.Masks.{firstM, modelM, subsetM, stableWalkM}
+use Rattle.walks.specs.Walk.{search, capped}
+use Rattle.masks.specs.Masks.{firstM, modelM, subsetM, stableWalkM}
 use Rattle.verdicts.specs.Subsets.{rank, NextSub, StepTable}
-use Rattle.verdicts.specs.declared.answers.Verdict.the-variants.{Yes, Beaten, Spent}
-use Rattle.verdicts.proofs.Filters.{upTo}
+use Rattle.walks.specs.declared.answers.Verdict.the-variants.{Yes, Beaten, Spent}
+use Rattle.walks.proofs.Filters.{upTo}
 use Rattle.verdicts.proofs.Steps.{walk-first, walk-none, walk-found, walk-next, walk-spent, capped-yes, capped-beaten}
 use Rattle.verdicts.proofs.Subsets.{rank-top, rank-none, rank-lt}
 use Rattle.verdicts.proofs.SubsetSteps.{StepRead, step-read}
-use Rattle.verdicts.proofs.MaskLoops.{shifted}
+use Rattle.masks.proofs.MaskLoops.{shifted}
 
 pub ones-small : (m : ℕ) → m < 2 ^ 60 → ones m ≤ 60
 ones-small m h = ones-le 60 m h

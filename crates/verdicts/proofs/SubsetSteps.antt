@@ -10,7 +10,7 @@ use lib.Count.{ones, trailingZeros, ones-le}
 use lib.ListN.{length, getD, set, length-set}
 use lib.Seq.{getD-set-same, getD-set-other}
 use Rattle.verdicts.specs.Subsets.{rank, NextSub, stepOf, StepTable}
-use Rattle.verdicts.proofs.MaskLoops.{shifted}
+use Rattle.masks.proofs.MaskLoops.{shifted}
 use Rattle.verdicts.proofs.Subsets.{Lowest, lowest, zeros-lt, step-pos, next-sub, rank-lt, rank-top}
 
 -- the lowest atom of a set, as the shift of a u64 computes it

@@ -10,7 +10,7 @@ use lib.Pow.{pow-mono}
 use lib.Bits.{bitAnd, and-step, and-le-r}
 use lib.Count.{ones, ones-step, ones-le, trailingZeros, under}
 use Rattle.verdicts.specs.Subsets.{digit, rank, NextSub, stepDigit, stepOf}
-use Rattle.verdicts.proofs.Stepping.{below-two}
+use Rattle.masks.proofs.Stepping.{below-two}
 
 parity : (x : ℕ) → (x % 2 ≡ 0) ⊎ (x % 2 ≡ 1)
 parity x = below-two (x % 2) (mod-lt x (zero-lt-suc 1))

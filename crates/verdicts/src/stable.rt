@@ -4,6 +4,12 @@ use crate::guard::check_call;
 use kinds::limits::Kind;
 use kinds::limits::Plain;
 use kinds::limits::Walk;
+use masks::masks::fill_rules;
+use masks::masks::first_broken;
+use masks::masks::gather;
+use masks::masks::least;
+use masks::masks::wide;
+use walks::answers::Verdict;
 ghost use mathlib.Core.Path.{_≡_};
 ghost use Prim.Native.Nat.{_<_, _≤_, _^_};
 ghost use lib.Dec.{eqb};
@@ -11,10 +17,10 @@ ghost use lib.ListN.{length};
 ghost use Rattle.kinds.specs.Limits.{walkAtoms};
 ghost use Rattle.kinds.specs.declared.limits.Kind.the-variants.{Plain as KindPlain};
 ghost use Rattle.stores.specs.RuleStore.{StoreOf, decode};
-ghost use Rattle.verdicts.specs.Walk.{capped, stableVerdict};
-ghost use Rattle.verdicts.specs.Masks.{modelM, stableWalkM};
+ghost use Rattle.walks.specs.Walk.{capped, stableVerdict};
+ghost use Rattle.masks.specs.Masks.{modelM, stableWalkM};
 ghost use Rattle.verdicts.specs.Subsets.{rank, StepTable};
-ghost use Rattle.verdicts.specs.Answers.{stableAnswer};
+ghost use Rattle.walks.specs.Answers.{stableAnswer};
 
 // How many proper subsets a set has.
 fn proper_subsets(set: u64) -> u64
