@@ -1,4 +1,5 @@
 -- The laws of texts and of writing them.
+pub mod Copying
 pub mod Emitting
 pub mod PlaceTable
 pub mod AtomItems
