@@ -6,7 +6,7 @@ use native.Mathlib.Omega.{arith}
 use mathlib.Core.Path.{_≡_, refl, sym, ap, ap₂, _∙_}
 use mathlib.Core.List.{List, [], _∷_, _++_, append-nil}
 use lib.ListN.{length, getD, set, take, drop, drop-of-length-le, length-append, length-drop, length-set, take-append-drop}
-use lib.Seq.{drop-cons, take-suc, take-all, set-at, append-snoc, length-take-le, take-append-le, take-take, sets, sets-eq}
+use lib.Seq.{drop-cons, take-suc, take-all, set-at, append-snoc, length-take-le, take-append-le, take-take, sets, length-sets, lt-length-sets, sets-eq}
 use borrow.Rule.Slice.PartMut.{midOf, postOf, putMid}
 
 -- the first i elements of s over those of d
@@ -49,7 +49,7 @@ module _ {s d now : List ℕ} {i : ℕ} (h : Copying s d now i) where
   pub finish : length s ≤ i → now ≡ s
   finish l = h .so ∙ over-all s d i (h .as-long) l
 
--- the first elements, one by one
+-- the first k elements, stored one by one
 abbrev elements : ℕ → ℕ → List ℕ → List ℕ
 elements zero i s = []
 elements (suc k) i s = getD s i 0 ∷ elements k (suc i) s
@@ -57,6 +57,12 @@ elements (suc k) i s = getD s i 0 ∷ elements k (suc i) s
 elements-taken : (k i : ℕ) (s : List ℕ) → i + k ≤ length s → elements k i s ≡ take k (drop i s)
 elements-taken zero i s l = refl
 elements-taken (suc k) i s l = ap (λ (r : List ℕ). getD s i 0 ∷ r) (elements-taken k (suc i) s (omega arith)) ∙ sym (ap (take (suc k)) (drop-cons s i 0 (omega arith)))
+
+pub stored-below : (k : ℕ) (s d : List ℕ) → k < length d → k < length (sets d 0 (elements k 0 s))
+stored-below k s d = lt-length-sets d 0 (elements k 0 s)
+
+pub stored-length : (k : ℕ) (s d : List ℕ) → length (sets d 0 (elements k 0 s)) ≡ length d
+stored-length k s d = length-sets d 0 (elements k 0 s)
 
 pub first-stored : (k : ℕ) (s d : List ℕ) → k ≤ length s → k ≤ length d → sets d 0 (elements k 0 s) ≡ over s d k
 first-stored k s d l m =

@@ -1,5 +1,4 @@
-use Rattle.writer.proofs.Copying.{first-stored}
-use lib.ListN.{length-set}
+use Rattle.writer.proofs.Copying.{stored-below, stored-length, first-stored}
 use borrow.Author.Needs.{needs}
 use Rattle.writer.proofs.emit.copy_eight.Statement.{statement}
 use Rattle.writer.proofs.emit.copy_eight.Tie as tie
@@ -32,28 +31,28 @@ slice-write-part : tie.Need-slice-write-part
 slice-write-part c = search needs
 
 slice-write-part-2 : tie.Need-slice-write-part-2
-slice-write-part-2 c = simp length-set (search needs)
+slice-write-part-2 c = stored-below 1 (c .before .before .before .before .before .before .before .before .args .bytes .now) (c .before .before .before .before .before .before .before .before .args .part .now) (search needs)
 
 slice-write-part-3 : tie.Need-slice-write-part-3
-slice-write-part-3 c = simp length-set (search needs)
+slice-write-part-3 c = stored-below 2 (c .before .before .before .before .before .before .before .before .args .bytes .now) (c .before .before .before .before .before .before .before .before .args .part .now) (search needs)
 
 slice-write-part-4 : tie.Need-slice-write-part-4
-slice-write-part-4 c = simp length-set (search needs)
+slice-write-part-4 c = stored-below 3 (c .before .before .before .before .before .before .before .before .args .bytes .now) (c .before .before .before .before .before .before .before .before .args .part .now) (search needs)
 
 slice-write-part-5 : tie.Need-slice-write-part-5
-slice-write-part-5 c = simp length-set (search needs)
+slice-write-part-5 c = stored-below 4 (c .before .before .before .before .before .before .before .before .args .bytes .now) (c .before .before .before .before .before .before .before .before .args .part .now) (search needs)
 
 slice-write-part-6 : tie.Need-slice-write-part-6
-slice-write-part-6 c = simp length-set (search needs)
+slice-write-part-6 c = stored-below 5 (c .before .before .before .before .before .before .before .before .args .bytes .now) (c .before .before .before .before .before .before .before .before .args .part .now) (search needs)
 
 slice-write-part-7 : tie.Need-slice-write-part-7
-slice-write-part-7 c = simp length-set (search needs)
+slice-write-part-7 c = stored-below 6 (c .before .before .before .before .before .before .before .before .args .bytes .now) (c .before .before .before .before .before .before .before .before .args .part .now) (search needs)
 
 slice-write-part-8 : tie.Need-slice-write-part-8
-slice-write-part-8 c = simp length-set (search needs)
+slice-write-part-8 c = stored-below 7 (c .before .before .before .before .before .before .before .before .args .bytes .now) (c .before .before .before .before .before .before .before .before .args .part .now) (search needs)
 
 same-length : tie.Need-same-length
-same-length c = simp length-set
+same-length c = stored-length 8 (c .before .before .before .before .before .before .before .before .args .bytes .now) (c .before .before .before .before .before .before .before .before .args .part .now)
 
 returns : tie.Need-returns
 returns c = first-stored 8 (c .before .before .before .before .before .before .before .before .args .bytes .now) (c .before .before .before .before .before .before .before .before .args .part .now) (c .before .before .before .before .before .before .before .before .pre .0) (c .before .before .before .before .before .before .before .before .pre .1)
