@@ -1,13 +1,14 @@
 -- How runs of written bytes go together.
-use Prim.Native.Nat.{ℕ, suc, _+_, _<_, _≤_}
+use Prim.Native.Nat.{ℕ, suc, _+_, _-_, _<_, _≤_}
 use native.Mathlib.Numerals.{add-one}
 use native.Mathlib.Nat.{add-zero}
 use native.Mathlib.Omega.{arith}
 use mathlib.Core.Path.{_≡_, refl, sym, ap, ap₂, _∙_, subst}
 use mathlib.Core.List.{List, [], _∷_, _++_, append-assoc, append-nil}
-use lib.ListN.{length, getD, drop, set, length-append}
-use lib.Seq.{drop-cons, set-append-seam, set-out, sets, length-sets}
-use Rattle.text.specs.Emitted.{Emitted, InRange}
+use lib.ListN.{length, getD, take, drop, set, length-append}
+use lib.Seq.{drop-cons, drop-drop, set-out, sets, sets-eq, length-sets}
+use borrow.Rule.Slice.PartMut.{putMid}
+use Rattle.writer.specs.Emitted.{Emitted, InRange}
 
 -- what is written in two runs is written in one
 sets-append : (d : List ℕ) (at : ℕ) (u v : List ℕ) → sets (sets d at u) (at + length u) v ≡ sets d at (u ++ v)
@@ -43,12 +44,32 @@ renamed {d} {d′} {u} {v} {at} {at′} p e = subst (λ (w : List ℕ). Emitted 
 pub same-length : {d d′ u : List ℕ} {at at′ : ℕ} → Emitted d at u d′ at′ → length d′ ≡ length d
 same-length {d} {d′} {u} {at} p = ap length (p .bytes) ∙ length-sets d at u
 
+-- without room: nothing is written
+sets-out : (d : List ℕ) (at : ℕ) (w : List ℕ) → length d ≤ at → sets d at w ≡ d
+sets-out d at [] h = refl
+sets-out d at (b ∷ w) h = ap (λ (l : List ℕ). sets l (suc at) w) (set-out d at b h) ∙ sets-out d (suc at) w (omega arith)
+
+pub counted : {d w : List ℕ} {at : ℕ} → length d ≤ at → Emitted d at w d (at + length w)
+counted {d} {w} {at} h = record { place = refl; bytes = sym (sets-out d at w h) }
+
+-- with room: a part of the output is w
+pub copied : {d w part : List ℕ} {at : ℕ} → at + length w ≤ length d → part ≡ w → Emitted d at w (putMid at (at + length w - at) d part) (at + length w)
+copied {d} {w} {part} {at} h e =
+    let end : at + (at + length w - at) ≡ at + length w = omega arith in
+    record {
+      place = refl;
+      bytes =
+          ap (λ (r : List ℕ). putMid at (at + length w - at) d r) e
+          ∙ ap (λ (r : List ℕ). take at d ++ (w ++ r)) (drop-drop (at + length w - at) at d ∙ ap (λ (k : ℕ). drop k d) end)
+          ∙ sym (sets-eq w d at h ∙ append-assoc (take at d) w (drop (at + length w) d));
+    }
+
 -- one byte, with room for it and without
 pub pushed : (d : List ℕ) (at b : ℕ) → Emitted d at (b ∷ []) (set d at b) (at + 1)
 pushed d at b = record { place = refl; bytes = refl }
 
 pub passed : (d : List ℕ) (at b : ℕ) → length d ≤ at → Emitted d at (b ∷ []) d (at + 1)
-passed d at b h = record { place = refl; bytes = sym (set-out d at b h) }
+passed d at b h = counted h
 
 pub range-renamed : {u v : List ℕ} {at : ℕ} → InRange at u → u ≡ v → InRange at v
 range-renamed {u} {v} {at} h e = subst (InRange at) e h

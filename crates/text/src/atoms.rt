@@ -1,5 +1,6 @@
 // Atoms by their names.
 use crate::emit::emit;
+use crate::emit::emit_name;
 use crate::emit::push;
 use name_store::index::name_at;
 ghost use Prim.Native.Nat.{_-_, _≤_, _<_};
@@ -29,7 +30,7 @@ fn emit_atom(atom: usize, names: &[u8], starts: &[u16], out: &mut [u8], at: usiz
     ensures { λ r. ⌜ Emitted (now (out .entry)) at (atomItem (storedNames (now (names .entry)) (now (starts .entry))) atom) (now (out .exit)) r ⌝ }
 {
     let next = push(b' ', out, at);
-    emit(name_at(names, starts, atom), out, next)
+    emit_name(name_at(names, starts, atom), out, next)
 }
 
 // The atoms of a list.

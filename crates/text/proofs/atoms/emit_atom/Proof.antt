@@ -11,15 +11,15 @@ push-requires c κs = range-begin (c .before .before .before .before .pre .2) (a
 name-at-requires : tie.Need-name-at-requires
 name-at-requires c κs = search needs
 
-emit-requires : tie.Need-emit-requires
-emit-requires c κs = range-renamed (range-here (turn (start (c .before .before .before .before .before .before .before .before .before .pre .2)) (atom-space _ _) (c .before .before .before .before .push .ensures)) (last-run _)) (sym (c .before .name-at .ensures))
+emit-name-requires : tie.Need-emit-name-requires
+emit-name-requires c κs = range-renamed (range-here (turn (start (c .before .before .before .before .before .before .before .before .before .pre .2)) (atom-space _ _) (c .before .before .before .before .push .ensures)) (last-run _)) (sym (c .before .name-at .ensures))
 
 same-length : tie.Need-same-length
 same-length c = search needs
 
 returns : tie.Need-returns
-returns c = finish (turn (turn (start (c .before .before .before .before .before .before .before .before .before .before .before .before .pre .2)) (atom-space _ _) (c .before .before .before .before .before .before .before .push .ensures)) (last-run _) (renamed (c .before .before .emit .ensures) (c .before .before .before .before .name-at .ensures))) refl
+returns c = finish (turn (turn (start (c .before .before .before .before .before .before .before .before .before .before .before .before .pre .2)) (atom-space _ _) (c .before .before .before .before .before .before .before .push .ensures)) (last-run _) (renamed (c .before .before .emit-name .ensures) (c .before .before .before .before .name-at .ensures))) refl
 
 pub emit-atom-spec : {M : Type 1} → statement M
 emit-atom-spec =
-    tie.close (tie.spec push-requires name-at-requires emit-requires same-length returns)
+    tie.close (tie.spec push-requires name-at-requires emit-name-requires same-length returns)
