@@ -1,4 +1,5 @@
 -- The laws of names, their store and its index.
+pub mod NameBits
 pub mod NameForms
 pub mod NameStores
 pub mod ByteLoops
