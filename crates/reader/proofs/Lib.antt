@@ -1,8 +1,10 @@
 pub mod Examples
 pub mod Scanning
+pub mod LineBlocks
 pub mod Tags
 pub mod NameLists
 pub mod LineShapes
+pub mod HashedNames
 pub mod NameNumbers
 pub mod RuleLists
 pub mod KeptRules

@@ -6,6 +6,7 @@ pub mod Faults
 pub mod Said
 pub mod Answers
 pub mod Shapes
+pub mod HashedItems
 pub mod Numbers
 pub mod Gathered
 pub mod Entries
