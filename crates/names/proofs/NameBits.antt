@@ -2,9 +2,9 @@
 use Prim.Native.Nat.{ℕ, zero, suc, _+_, _^_, _/_, _%_, _≤_, _<_}
 use native.Mathlib.Decide.{ℕ-discrete}
 use native.Mathlib.Omega.{arith}
-use mathlib.Core.Path.{_≡_, refl, sym, ap, subst}
+use mathlib.Core.Path.{_≡_, refl, sym, subst}
 use mathlib.Core.Bool.{Bool, true, false, _&&_}
-use lib.Dec.{T, leb, eqb}
+use lib.Dec.{T, eqb}
 use borrow.Author.Tests.{lt-leb, le-leb, ne-eqb}
 use Rattle.names.specs.Names.{nameByte?}
 
@@ -38,13 +38,20 @@ at p i (suc n) t k l h = go (p i) refl t (ℕ-discrete k i) (λ t m. at p (suc i
     go true e t (no d) r = r t (omega arith)
     go false e t d r = absurd t
 
-pub low : (b : ℕ) → b < 64 → {half : ℕ} → half ≡ 287948901175001088 → bit half b ≡ nameByte? b
-unfolding same every-from
-low b l e = rw e (same-is (bit 287948901175001088 b) (nameByte? b) (at (λ k. same (bit 287948901175001088 k) (nameByte? k)) 0 64 tt b (omega arith) (omega arith)))
+abbrev digits : ℕ
+digits = 287948901175001088
 
-pub high : (b : ℕ) → 64 ≤ b → b < 128 → {half : ℕ} → half ≡ 576460745860972544 → bit half b ≡ nameByte? b
+-- `_` too
+abbrev letters : ℕ
+letters = 576460745860972544
+
+pub low : (b : ℕ) → b < 64 → {half : ℕ} → half ≡ digits → bit half b ≡ nameByte? b
 unfolding same every-from
-high b m l e = rw e (same-is (bit 576460745860972544 b) (nameByte? b) (at (λ k. same (bit 576460745860972544 k) (nameByte? k)) 64 64 tt b m (omega arith)))
+low b l e = rw e (same-is (bit digits b) (nameByte? b) (at (λ k. same (bit digits k) (nameByte? k)) 0 64 tt b (omega arith) (omega arith)))
+
+pub high : (b : ℕ) → 64 ≤ b → b < 128 → {half : ℕ} → half ≡ letters → bit half b ≡ nameByte? b
+unfolding same every-from
+high b m l e = rw e (same-is (bit letters b) (nameByte? b) (at (λ k. same (bit letters k) (nameByte? k)) 64 64 tt b m (omega arith)))
 
 pub beyond : (b : ℕ) → 128 ≤ b → false ≡ nameByte? b
 beyond b l = simp (le-leb 97 b (omega arith), le-leb 48 b (omega arith), lt-leb b 122 (omega arith), lt-leb b 57 (omega arith), ne-eqb b 95 (λ e. omega arith))

@@ -8,7 +8,7 @@ ghost use Rattle.names.specs.NameStore.{decodeNames, sameBytes};
 ghost use Rattle.names.specs.NameIndex.{found, new?, nameEnd, nameHash, buckets, Placed, Indexed};
 
 // The values of the hash.
-pub const BUCKETS: usize = 2048;
+pub const BUCKETS: usize = 4096;
 
 pub enum Found {
     At(usize),

@@ -5,7 +5,7 @@ use native.Mathlib.Nat.{add-sub-cancel-left}
 use native.Mathlib.Omega.{arith}
 use mathlib.Core.Path.{_≡_, refl, sym, ap, _∙_}
 use mathlib.Core.List.{List, [], _∷_}
-use mathlib.Core.Bool.{Bool, true, false, cond, _||_}
+use mathlib.Core.Bool.{Bool, true, false, cond, _||_, or-false}
 use lib.Dec.{eqb}
 use lib.ListN.{length, getD, take, drop, length-drop, drop-of-length-le}
 use lib.Seq.{drop-cons, drop-drop}
@@ -25,13 +25,9 @@ pub record Ends (xs : List ℕ) (i : ℕ) (flag : Bool) : Type 0 where
 pub ends : (xs : List ℕ) → Ends xs 0 false
 ends xs = record { inside = zero-le; left = refl }
 
-or-end : (a : Bool) → (a || false) ≡ a
-or-end true = refl
-or-end false = refl
-
 module _ {xs : List ℕ} {i : ℕ} {flag : Bool} (w : Ends xs i flag) where
   pub ends-passed : length xs ≤ i → flag ≡ some end? xs
-  ends-passed l = sym (or-end flag) ∙ ap (λ t. flag || some end? t) (sym (drop-of-length-le xs l)) ∙ w .left
+  ends-passed l = sym (or-false flag) ∙ ap (λ t. flag || some end? t) (sym (drop-of-length-le xs l)) ∙ w .left
 
   module _ (lt : i < length xs) where
     split : some end? (drop i xs) ≡ (end? (getD xs i 0) || some end? (drop (i + 1) xs))
@@ -65,7 +61,7 @@ block-passed s i l e d =
     passed 16 (drop i s) (omega (arith, length-drop i s)) (ap (some end?) (sym p) ∙ sym e ∙ d)
     ∙ ap (λ t. 16 + lineLength t) (drop-drop 16 i s)
 
-line-le : (t : List ℕ) → lineLength t ≤ length t
+pub line-le : (t : List ℕ) → lineLength t ≤ length t
 unfolding lineLength
 line-le [] = zero-le
 line-le (b ∷ t) = go (end? b) (line-le t)

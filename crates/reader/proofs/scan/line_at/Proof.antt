@@ -1,7 +1,7 @@
 use Prim.Native.Nat.{_≤_, _-_, _+_}
 use native.Mathlib.Omega.{arith}
 use mathlib.Core.Path.{_≡_}
-use lib.ListN.{length, drop, length-drop}
+use lib.ListN.{length, drop}
 use borrow.Author.Needs.{needs}
 use Rattle.reader.specs.Lines.{lineLength}
 use Rattle.reader.proofs.LineBlocks.{block-passed, line-fits}
