@@ -1,12 +1,15 @@
 // Where lines and items stand in the bytes.
 ghost use mathlib.Core.Path.{_≡_};
 ghost use Prim.Native.Nat.{_≤_};
+ghost use lib.Dec.{eqb};
 ghost use lib.ListN.{length, drop};
-ghost use Rattle.name_store.specs.NameStore.{sameBytes};
-ghost use Rattle.lines.specs.Lines.{lineLength};
-ghost use Rattle.lines.specs.Items.{delimiter?, run};
-ghost use Rattle.lines.specs.Forms.{begins};
-ghost use Rattle.lines.specs.Shapes.{itemOf};
+ghost use Rattle.rules.specs.Lists.{some};
+ghost use Rattle.names.specs.NameStore.{sameBytes};
+ghost use Rattle.writer.specs.Words.{line-end};
+ghost use Rattle.reader.specs.Lines.{lineLength};
+ghost use Rattle.reader.specs.Items.{delimiter?, run};
+ghost use Rattle.reader.specs.Forms.{begins};
+ghost use Rattle.reader.specs.Shapes.{itemOf};
 
 // A space and the length of the name after it, or anything else.
 pub enum Item {
@@ -20,8 +23,22 @@ pub fn is_delimiter(b: u8) -> bool
     b == b' ' || (b == b'(' || (b == b')' || b == b'\n'))
 }
 
-// The length of the line at `at`, its end included.
-pub fn line_at(s: &[u8], at: usize) -> usize
+// Whether a line ends in these bytes. No byte ends the walk, so that many are compared at once.
+fn has_line_end(bytes: &[u8]) -> bool
+    ensures { λ r. ⌜ r ≡ some (λ b. eqb b line-end) (now (bytes .entry)) ⌝ }
+{
+    let mut found = false;
+    let mut i: usize = 0;
+    while i < bytes.len() {
+        if bytes[i] == b'\n' {
+            found = true;
+        }
+        i += 1;
+    }
+    found
+}
+
+fn line_by_bytes(s: &[u8], at: usize) -> usize
     requires { ⌜ at ≤ length (now s) ⌝ }
     ensures { λ r. ⌜ r ≡ lineLength (drop at (now (s .entry))) ⌝ }
 {
@@ -33,6 +50,22 @@ pub fn line_at(s: &[u8], at: usize) -> usize
         i += 1;
     }
     i - at
+}
+
+// The length of the line at `at`, its end included.
+pub fn line_at(s: &[u8], at: usize) -> usize
+    requires { ⌜ at ≤ length (now s) ⌝ }
+    ensures { λ r. ⌜ r ≡ lineLength (drop at (now (s .entry))) ⌝ }
+{
+    let mut i = at;
+    while 16 <= s.len() - i {
+        let to = i + 16;
+        if has_line_end(&s[i..to]) {
+            return i - at + line_by_bytes(s, i);
+        }
+        i = to;
+    }
+    i - at + line_by_bytes(s, i)
 }
 
 // How many bytes stand from `at` on before a delimiter.

@@ -64,10 +64,10 @@ module _ {x : List ℕ} {i h : ℕ} (r : Hashing x i h) where
   unfolding hashFrom
   hash-passed e = sym (ap (hashFrom h) (drop-of-length-le x e)) ∙ r .left
 
-  pub hash-again : i < length x → Hashing x (i + 1) ((h * 31 + getD x i 0) % buckets)
+  pub hash-again : i < length x → {h′ : ℕ} → h′ ≡ (h * 31 + getD x i 0) % buckets → Hashing x (i + 1) h′
   unfolding hashFrom
-  hash-again lt =
-      let step : hashFrom h (drop i x) ≡ hashFrom ((h * 31 + getD x i 0) % buckets) (drop (i + 1) x) = rw (add-one, drop-cons x i 0) in
+  hash-again lt {h′} e =
+      let step : hashFrom h (drop i x) ≡ hashFrom h′ (drop (i + 1) x) = rw (add-one, drop-cons x i 0, e) in
       record { inside = omega arith; small = omega arith; left = sym step ∙ r .left }
 
 hash-from-small : (h : ℕ) (x : List ℕ) → h < buckets → hashFrom h x < buckets

@@ -28,7 +28,7 @@ nameEnd bs p = cond (leb 1 (length (drop p bs)) && leb (1 + getD (drop p bs) 0 0
 
 -- the values of the hash
 abbrev pub buckets : ℕ
-buckets = 2048
+buckets = 4096
 
 unfoldable pub hashFrom : ℕ → List ℕ → ℕ
 hashFrom h [] = h

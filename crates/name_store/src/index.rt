@@ -1,14 +1,14 @@
 // The index of a name store: an atom's name by its number, and its number by the name.
 ghost use mathlib.Core.Bool.{cond};
 ghost use mathlib.Core.Path.{_≡_};
-ghost use Prim.Native.Nat.{_+_, _≤_, _<_};
+ghost use Prim.Native.Nat.{_+_, _*_, _%_, _≤_, _<_};
 ghost use mathlib.Core.List.{[]};
 ghost use lib.ListN.{length, getD, set};
 ghost use Rattle.name_store.specs.NameStore.{decodeNames, sameBytes};
 ghost use Rattle.name_store.specs.NameIndex.{found, new?, nameEnd, nameHash, buckets, Placed, Indexed};
 
 // The values of the hash.
-pub const BUCKETS: usize = 2048;
+pub const BUCKETS: usize = 4096;
 
 pub enum Found {
     At(usize),
@@ -31,13 +31,21 @@ pub fn same_bytes(a: &[u8], b: &[u8]) -> bool
     true
 }
 
+// The hash with one byte more.
+pub fn hash_step(h: usize, b: u8) -> usize
+    requires { ⌜ h < buckets ⌝ }
+    ensures { λ r. ⌜ r ≡ (h * 31 + b) % buckets ⌝ }
+{
+    (h * 31 + b as usize) % BUCKETS
+}
+
 pub fn hash(name: &[u8]) -> usize
     ensures { λ r. ⌜ r ≡ nameHash (now (name .entry)) ⌝ }
 {
     let mut h: usize = 0;
     let mut i: usize = 0;
     while i < name.len() {
-        h = (h * 31 + name[i] as usize) % BUCKETS;
+        h = hash_step(h, name[i]);
         i += 1;
     }
     h
@@ -69,12 +77,20 @@ pub fn name_at<'a>(bytes: &'a [u8], starts: &[u16], atom: usize) -> &'a [u8]
     &bytes[from..to]
 }
 
-// The number of a name; `starts` has a place for each atom.
-pub fn find(bytes: &[u8], starts: &[u16], heads: &[u16], next: &[u16], name: &[u8]) -> Found
+// The number of a name whose hash is known; `starts` has a place for each atom.
+pub fn find_hashed(
+    bytes: &[u8],
+    starts: &[u16],
+    heads: &[u16],
+    next: &[u16],
+    name: &[u8],
+    h: usize,
+) -> Found
     requires { ⌜ Indexed (decodeNames (length (now starts)) (now bytes)) (now bytes) (now starts) (now heads) (now next) ⌝ }
+    requires { ⌜ h ≡ nameHash (now name) ⌝ }
     ensures { λ r. ⌜ r ≡ found (now (name .entry)) (decodeNames (length (now (starts .entry))) (now (bytes .entry))) ⌝ }
 {
-    let mut link = heads[hash(name)] as usize;
+    let mut link = heads[h] as usize;
     while 0 < link {
         let atom = link - 1;
         if same_bytes(name_at(bytes, starts, atom), name) {
@@ -83,6 +99,15 @@ pub fn find(bytes: &[u8], starts: &[u16], heads: &[u16], next: &[u16], name: &[u
         link = next[atom] as usize;
     }
     Found::Missing
+}
+
+// The number of a name; `starts` has a place for each atom.
+pub fn find(bytes: &[u8], starts: &[u16], heads: &[u16], next: &[u16], name: &[u8]) -> Found
+    requires { ⌜ Indexed (decodeNames (length (now starts)) (now bytes)) (now bytes) (now starts) (now heads) (now next) ⌝ }
+    ensures { λ r. ⌜ r ≡ found (now (name .entry)) (decodeNames (length (now (starts .entry))) (now (bytes .entry))) ⌝ }
+{
+    let h = hash(name);
+    find_hashed(bytes, starts, heads, next, name, h)
 }
 
 // Enters the name of an atom, whose length byte stands at `at`.

@@ -1,2 +1,3 @@
--- The laws of names.
+-- The laws of names, their store and its index.
+pub mod NameBits
 pub mod NameForms

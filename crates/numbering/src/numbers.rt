@@ -1,9 +1,8 @@
 // The names of a rule's lists to atom numbers.
-use lines::forms::any;
-use lines::scan;
-use lines::scan::Item;
-use name_store::index;
-use name_store::index::Found;
+use crate::forms::any;
+use crate::scan;
+use names::index;
+use names::index::Found;
 ghost use mathlib.Core.Path.{_≡_};
 ghost use Prim.Native.Nat.{_+_, _*_, _^_, _≤_, _<_};
 ghost use mathlib.Core.List.{[], _∷_};
@@ -12,14 +11,21 @@ ghost use lib.ListN.{length, getD, drop, set};
 ghost use Rattle.name_store.specs.NameStore.{decodeNames};
 ghost use Rattle.name_store.specs.NameIndex.{Indexed};
 ghost use Rattle.stores.specs.RuleStore.{Below};
-ghost use Rattle.text.specs.Emitted.{Emitted, InRange};
-ghost use Rattle.lines.specs.Items.{items};
-ghost use Rattle.numbering.specs.Numbers.{NumbersIs, RuleNumbersIs};
+ghost use Rattle.writer.specs.Emitted.{Emitted, InRange};
+ghost use Rattle.reader.specs.Items.{items};
+ghost use Rattle.reader.specs.HashedItems.{hashedRun, hashedItem};
+ghost use Rattle.reader.specs.Numbers.{NumbersIs, RuleNumbersIs};
 
 // Where the numbers of a list end and whether a name stands twice in it, or that a name is not declared.
 pub enum Numbers {
     List { end: usize, twice: bool },
     Undeclared,
+}
+
+// A space and the name after it, by its length and its hash, or anything else.
+pub enum HashedItem {
+    At { size: usize, hash: usize },
+    Stop,
 }
 
 // Writes a word where there is room for it.
@@ -44,6 +50,39 @@ pub fn mark(marks: &mut [u16], atom: usize, stamp: u16) -> bool
     marked
 }
 
+// The name at `at`, in one walk for its end and its hash.
+pub fn hashed_run_at(s: &[u8], at: usize) -> HashedItem
+    requires { ⌜ at ≤ length (now s) ⌝ }
+    ensures { λ r. ⌜ r ≡ hashedRun (drop at (now (s .entry))) ⌝ }
+{
+    let mut i = at;
+    let mut hash: usize = 0;
+    while i < s.len() {
+        let b = s[i];
+        if scan::is_delimiter(b) {
+            return HashedItem::At { size: i - at, hash };
+        }
+        hash = index::hash_step(hash, b);
+        i += 1;
+    }
+    HashedItem::At { size: i - at, hash }
+}
+
+// The item at `at`, with its hash.
+pub fn hashed_item_at(s: &[u8], at: usize) -> HashedItem
+    requires { ⌜ at ≤ length (now s) ⌝ }
+    ensures { λ r. ⌜ r ≡ hashedItem (drop at (now (s .entry))) ⌝ }
+{
+    if s.len() <= at {
+        return HashedItem::Stop;
+    }
+    if s[at] == b' ' {
+        hashed_run_at(s, at + 1)
+    } else {
+        HashedItem::Stop
+    }
+}
+
 // Writes the numbers of the names from `from` on.
 pub fn numbers_at(
     line: &[u8],
@@ -66,12 +105,13 @@ pub fn numbers_at(
     let mut end = at;
     let mut twice = false;
     loop {
-        let Item::At(n) = scan::item_at(line, i) else {
+        let HashedItem::At { size, hash } = hashed_item_at(line, i) else {
             return Numbers::List { end, twice };
         };
         let start = i + 1;
-        let to = start + n;
-        let Found::At(atom) = index::find(bytes, starts, heads, next, &line[start..to]) else {
+        let to = start + size;
+        let name = &line[start..to];
+        let Found::At(atom) = index::find_hashed(bytes, starts, heads, next, name, hash) else {
             return Numbers::Undeclared;
         };
         if mark(marks, atom, stamp) {

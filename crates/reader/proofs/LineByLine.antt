@@ -22,8 +22,9 @@ use Rattle.lines.specs.Faults.{State, ruling?, stepForm}
 use Rattle.delivery.specs.Said.{Said, accepted, refused, onStep, readLines, start}
 use Rattle.gathering.specs.Gathered.{stateOf, Held, LineSays, LineIs}
 use Rattle.reader.specs.Gathering.{startCounts, passedOn, GatherSays, GatherIs}
-use Rattle.lines.proofs.Scanning.{part-sized}
-use Rattle.gathering.proofs.HeldState.{held-is}
+use Rattle.reader.proofs.Scanning.{part-sized}
+use Rattle.reader.proofs.LineBlocks.{line-le}
+use Rattle.reader.proofs.HeldState.{held-is}
 
 lines-skip : (k : ℕ) (s : List ℕ) → linesFrom k s ≡ lines (drop k s)
 unfolding lines linesFrom
@@ -31,15 +32,6 @@ lines-skip zero [] = refl
 lines-skip (suc k) [] = refl
 lines-skip zero (b ∷ s) = refl
 lines-skip (suc k) (b ∷ s) = lines-skip k s
-
-line-le : (s : List ℕ) → lineLength s ≤ length s
-unfolding lineLength
-line-le [] = zero-le
-line-le (b ∷ s) = go (eqb b 10) (line-le s)
-  where
-    go : (x : Bool) → lineLength s ≤ length s → suc (cond x 0 (lineLength s)) ≤ suc (length s)
-    go true h = omega arith
-    go false h = omega arith
 
 first-line : (s : List ℕ) → 1 ≤ length s → (lines s ≡ take (lineLength s) s ∷ lines (drop (lineLength s) s)) × (1 ≤ lineLength s)
 unfolding lines linesFrom lineLength

@@ -35,7 +35,7 @@ slice-aggregate-read-lines-6 c = search needs
 
 read-lines-requires : tie.Need-read-lines-requires
 read-lines-requires c κs =
-    let room : buckets ≤ 2048 = omega arith in
+    let room : buckets ≤ 4096 = omega arith in
     (c .before .before .before .before .before .before .before .if1 .left, start-held (c .before .before .before .before .before .before .before .before .before .before .before .args .text .now) (c .before .before .before .before .before .before .kind-of .ensures) (replicate 36604 0) (replicate 20900 0) (replicate 1100 0) (replicate 1100 0) refl room (unmarked 1100) (length-replicate {A = ℕ} 36604 0) (length-replicate {A = ℕ} 20900 0) (length-replicate {A = ℕ} 1100 0) (length-replicate {A = ℕ} 1100 0) (length-replicate {A = ℕ} 1100 0))
 
 enum-known-gathered : tie.Need-enum-known-gathered

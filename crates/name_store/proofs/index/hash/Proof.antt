@@ -1,5 +1,4 @@
 use borrow.Author.Needs.{needs}
-use native.Mathlib.Omega.{arith}
 use Prim.Native.Nat.{_-_}
 use lib.ListN.{length}
 use Rattle.name_store.proofs.ByteLoops.{Hashing, hash-begins, hash-passed, hash-again}
@@ -15,17 +14,11 @@ abbrev μ-loop : tie.MeasureT-loop
 loop-holds : tie.Need-loop-holds Inv-loop μ-loop
 loop-holds c = hash-begins _
 
-mul-h : tie.Need-mul-h Inv-loop μ-loop
-mul-h c = search needs
+shared-slice-read-hash-step : tie.Need-shared-slice-read-hash-step Inv-loop μ-loop
+shared-slice-read-hash-step c = search needs
 
-shared-slice-read-h : tie.Need-shared-slice-read-h Inv-loop μ-loop
-shared-slice-read-h c = search needs
-
-cast-h : tie.Need-cast-h Inv-loop μ-loop
-cast-h c = omega (arith, c .shared-slice-known .given (c .before .before .loop .i))
-
-add-h : tie.Need-add-h Inv-loop μ-loop
-add-h c = omega (arith, c .shared-slice-known .given (c .before .before .loop .i))
+hash-step-requires : tie.Need-hash-step-requires Inv-loop μ-loop
+hash-step-requires c κs = c .before .before .loop .inv .small
 
 add-i : tie.Need-add-i Inv-loop μ-loop
 add-i c = search needs
@@ -34,7 +27,7 @@ loop-less : tie.Need-loop-less Inv-loop μ-loop
 loop-less c = search needs
 
 loop-again : tie.Need-loop-again Inv-loop μ-loop
-loop-again c = hash-again (c .before .before .loop .inv) (c .before .loop-test .taken)
+loop-again c = hash-again (c .before .before .before .loop .inv) (c .before .before .loop-test .taken) (c .hash-step .ensures)
 
 returns : tie.Need-returns Inv-loop μ-loop
 returns c = hash-passed (c .before .loop .inv) (c .loop-test .left)
@@ -46,10 +39,8 @@ hash-spec =
     Inv-loop
     μ-loop
     loop-holds
-    mul-h
-    shared-slice-read-h
-    cast-h
-    add-h
+    shared-slice-read-hash-step
+    hash-step-requires
     add-i
     loop-less
     loop-again

@@ -1,23 +1,20 @@
-use mathlib.Core.Path.{sym, _∙_}
 use borrow.Author.Needs.{needs}
+use mathlib.Core.Logic.{⊎-elim}
+use Rattle.names.proofs.NameBits.{low, high, beyond}
 use Rattle.names.proofs.forms.is_name_byte.Statement.{statement}
 use Rattle.names.proofs.forms.is_name_byte.Tie as tie
 
-is-letter-requires : tie.Need-is-letter-requires
-is-letter-requires c κs = search needs
-
 returns : tie.Need-returns
-returns c = simp (sym (c .before .is-letter .ensures) ∙ c .if1 .taken)
+returns c = beyond _ (c .if1 .taken)
 
-is-digit-requires : tie.Need-is-digit-requires
-is-digit-requires c κs = search needs
+cast-result : tie.Need-cast-result
+cast-result c = search needs
+
+shr-result : tie.Need-shr-result
+shr-result c = search needs
 
 returns-2 : tie.Need-returns-2
-returns-2 c = c .if2 .taken ∙ simp (sym (c .before .before .before .is-letter .ensures) ∙ c .before .before .if1 .left, sym (c .before .is-digit .ensures) ∙ c .if2 .taken)
-
-returns-3 : tie.Need-returns-3
-returns-3 c = simp (sym (c .before .before .before .is-letter .ensures) ∙ c .before .before .if1 .left, sym (c .before .is-digit .ensures) ∙ c .if2 .left)
+returns-2 c = ⊎-elim (λ t. low _ (t .0 .taken) (t .1)) (λ t. high _ (t .0 .left) (c .before .before .if1 .left) (t .1)) (c .before .if2 .came)
 
 pub is-name-byte-spec : {M : Type 1} → statement M
-is-name-byte-spec =
-    tie.close (tie.spec is-letter-requires returns is-digit-requires returns-2 returns-3)
+is-name-byte-spec = tie.close (tie.spec returns cast-result shr-result returns-2)

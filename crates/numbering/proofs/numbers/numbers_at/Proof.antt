@@ -2,10 +2,11 @@ use Prim.Native.Nat.{_-_}
 use mathlib.Core.Path.{_≡_, refl, ap, _∙_}
 use mathlib.Core.Logic.{⊎-elim}
 use lib.ListN.{length, length-set}
-use Rattle.name_store.specs.NameStore.{decodeNames}
-use Rattle.name_store.proofs.NamePlaces.{length-decode}
-use Rattle.text.proofs.Emitting.{same-length as same-length-of}
-use Rattle.numbering.proofs.NameNumbers.{Numbering, numbering, numbers-end, number-inside, not-declared, known-name, atom-marked, word-range, number-again, number-new}
+use Rattle.names.specs.NameStore.{decodeNames}
+use Rattle.names.proofs.NamePlaces.{length-decode}
+use Rattle.writer.proofs.Emitting.{same-length as same-length-of}
+use Rattle.reader.proofs.HashedNames.{hashed-end, hashed-item, hashed-name}
+use Rattle.reader.proofs.NameNumbers.{Numbering, numbering, numbers-end, number-inside, not-declared, known-name, atom-marked, word-range, number-again, number-new}
 use borrow.Author.Needs.{needs}
 use native.Mathlib.Omega.{arith}
 use Rattle.numbering.proofs.numbers.numbers_at.Statement.{statement}
@@ -20,11 +21,11 @@ abbrev μ-loop : tie.MeasureT-loop
 loop-holds : tie.Need-loop-holds Inv-loop μ-loop
 loop-holds c = (refl, refl, numbering _ _ _ _ _ _ _ (c .before .before .before .before .before .before .before .pre .0 .0) (omega (arith, c .before .before .before .before .before .before .before .pre .0 .2, length-decode (length (c .before .before .before .before .before .before .before .args .starts .now)) (c .before .before .before .before .before .before .before .args .bytes .now))) (c .before .before .before .before .before .before .before .pre .0 .3) (c .before .before .before .before .before .before .before .pre .1 .1))
 
-item-at-requires : tie.Need-item-at-requires Inv-loop μ-loop
-item-at-requires c κs = c .loop .inv .2 .inside
+hashed-item-at-requires : tie.Need-hashed-item-at-requires Inv-loop μ-loop
+hashed-item-at-requires c κs = c .loop .inv .2 .inside
 
-enum-known-n : tie.Need-enum-known-n Inv-loop μ-loop
-enum-known-n c = search needs
+enum-known-size : tie.Need-enum-known-size Inv-loop μ-loop
+enum-known-size c = search needs
 
 enum-told : tie.Need-enum-told Inv-loop μ-loop
 enum-told c = search needs
@@ -36,25 +37,25 @@ same-length-2 : tie.Need-same-length-2 Inv-loop μ-loop
 same-length-2 c = c .before .before .before .loop .inv .1
 
 returns : tie.Need-returns Inv-loop μ-loop
-returns c = record { says = numbers-end (c .before .before .before .loop .inv .2) (c .before .before .item-at .ensures) (c .enum-told .given .1) }
+returns c = record { says = numbers-end (c .before .before .before .loop .inv .2) refl (hashed-end (c .before .before .before .before .before .before .before .before .before .before .before .args .line .now) (c .before .before .before .loop .i) (c .before .before .hashed-item-at .ensures) (c .enum-told .given .1)) }
 
 add-start : tie.Need-add-start Inv-loop μ-loop
-add-start c = omega (arith, number-inside (c .before .before .before .before .loop .inv .2) (c .before .before .before .item-at .ensures) (c .before .n .given .1))
+add-start c = omega (arith, number-inside (c .before .before .before .before .loop .inv .2) refl (hashed-item (c .before .before .before .before .before .before .before .before .before .before .before .before .args .line .now) (c .before .before .before .before .loop .i) (c .before .before .before .hashed-item-at .ensures) (c .before .size .given .1)))
 
 add-to : tie.Need-add-to Inv-loop μ-loop
-add-to c = omega (arith, number-inside (c .before .before .before .before .loop .inv .2) (c .before .before .before .item-at .ensures) (c .before .n .given .1))
+add-to c = omega (arith, number-inside (c .before .before .before .before .loop .inv .2) refl (hashed-item (c .before .before .before .before .before .before .before .before .before .before .before .before .args .line .now) (c .before .before .before .before .loop .i) (c .before .before .before .hashed-item-at .ensures) (c .before .size .given .1)))
 
-sub-find : tie.Need-sub-find Inv-loop μ-loop
-sub-find c = search needs
+sub-name : tie.Need-sub-name Inv-loop μ-loop
+sub-name c = search needs
 
-part-find-start : tie.Need-part-find-start Inv-loop μ-loop
-part-find-start c = search needs
+part-name-start : tie.Need-part-name-start Inv-loop μ-loop
+part-name-start c = search needs
 
-part-find-end : tie.Need-part-find-end Inv-loop μ-loop
-part-find-end c = omega (arith, number-inside (c .before .before .before .before .loop .inv .2) (c .before .before .before .item-at .ensures) (c .before .n .given .1))
+part-name-end : tie.Need-part-name-end Inv-loop μ-loop
+part-name-end c = omega (arith, number-inside (c .before .before .before .before .loop .inv .2) refl (hashed-item (c .before .before .before .before .before .before .before .before .before .before .before .before .args .line .now) (c .before .before .before .before .loop .i) (c .before .before .before .hashed-item-at .ensures) (c .before .size .given .1)))
 
-find-requires : tie.Need-find-requires Inv-loop μ-loop
-find-requires c κs = c .before .before .before .before .before .before .before .before .before .before .before .before .before .pre .1 .0
+find-hashed-requires : tie.Need-find-hashed-requires Inv-loop μ-loop
+find-hashed-requires c κs = (c .before .before .before .before .before .before .before .before .before .before .before .before .before .pre .1 .0, hashed-name (c .before .before .before .before .before .before .before .before .before .before .before .before .before .args .line .now) (c .before .before .before .before .before .loop .i) (c .before .before .before .before .hashed-item-at .ensures) (c .before .before .size .given .1))
 
 enum-known-atom : tie.Need-enum-known-atom Inv-loop μ-loop
 enum-known-atom c = search needs
@@ -69,32 +70,31 @@ same-length-4 : tie.Need-same-length-4 Inv-loop μ-loop
 same-length-4 c = c .before .before .before .before .before .before .before .before .loop .inv .1
 
 returns-2 : tie.Need-returns-2 Inv-loop μ-loop
-returns-2 c = record { says = not-declared (c .before .before .before .before .before .before .before .before .loop .inv .2) (c .before .before .before .before .before .before .before .item-at .ensures) (c .before .before .before .before .before .n .given .1) (c .before .before .find .ensures) (c .enum-told2 .given .1) }
+returns-2 c = record { says = not-declared (c .before .before .before .before .before .before .before .before .loop .inv .2) refl (hashed-item (c .before .before .before .before .before .before .before .before .before .before .before .before .before .before .before .before .args .line .now) (c .before .before .before .before .before .before .before .before .loop .i) (c .before .before .before .before .before .before .before .hashed-item-at .ensures) (c .before .before .before .before .before .size .given .1)) (c .before .before .find-hashed .ensures) (c .enum-told2 .given .1) }
 
 mark-requires : tie.Need-mark-requires Inv-loop μ-loop
-mark-requires c κs = atom-marked (c .before .before .before .before .before .before .before .before .before .before .loop .inv .2) (c .before .before .before .before .before .before .before .before .before .item-at .ensures) (c .before .before .before .before .before .before .before .n .given .1) (c .before .before .before .before .find .ensures) (c .before .before .atom .given .1)
+mark-requires c κs = atom-marked (c .before .before .before .before .before .before .before .before .before .before .loop .inv .2) refl (hashed-item (c .before .before .before .before .before .before .before .before .before .before .before .before .before .before .before .before .before .before .args .line .now) (c .before .before .before .before .before .before .before .before .before .before .loop .i) (c .before .before .before .before .before .before .before .before .before .hashed-item-at .ensures) (c .before .before .before .before .before .before .before .size .given .1)) (c .before .before .before .before .find-hashed .ensures) (c .before .before .atom .given .1)
 
 cast-push-word : tie.Need-cast-push-word Inv-loop μ-loop
-cast-push-word c = omega (arith, known-name (c .before .before .before .before .before .before .before .before .before .before .before .before .before .before .loop .inv .2) (c .before .before .before .before .before .before .before .before .before .before .before .before .before .item-at .ensures) (c .before .before .before .before .before .before .before .before .before .before .before .n .given .1) (c .before .before .before .before .before .before .before .before .find .ensures) (c .before .before .before .before .before .before .atom .given .1) .below, c .before .before .before .before .before .before .before .before .before .before .before .before .before .before .before .before .before .before .before .before .before .before .pre .0 .1, length-decode (length (c .before .before .before .before .before .before .before .before .before .before .before .before .before .before .before .before .before .before .before .before .before .before .args .starts .now)) (c .before .before .before .before .before .before .before .before .before .before .before .before .before .before .before .before .before .before .before .before .before .before .args .bytes .now))
+cast-push-word c = omega (arith, known-name (c .before .before .before .before .before .before .before .before .before .before .before .before .before .before .loop .inv .2) refl (hashed-item (c .before .before .before .before .before .before .before .before .before .before .before .before .before .before .before .before .before .before .before .before .before .before .args .line .now) (c .before .before .before .before .before .before .before .before .before .before .before .before .before .before .loop .i) (c .before .before .before .before .before .before .before .before .before .before .before .before .before .hashed-item-at .ensures) (c .before .before .before .before .before .before .before .before .before .before .before .size .given .1)) (c .before .before .before .before .before .before .before .before .find-hashed .ensures) (c .before .before .before .before .before .before .atom .given .1) .below, c .before .before .before .before .before .before .before .before .before .before .before .before .before .before .before .before .before .before .before .before .before .before .pre .0 .1, length-decode (length (c .before .before .before .before .before .before .before .before .before .before .before .before .before .before .before .before .before .before .before .before .before .before .args .starts .now)) (c .before .before .before .before .before .before .before .before .before .before .before .before .before .before .before .before .before .before .before .before .before .before .args .bytes .now))
 
 push-word-requires : tie.Need-push-word-requires Inv-loop μ-loop
-push-word-requires c κs = word-range (c .before .before .before .before .before .before .before .before .before .before .before .before .before .before .before .loop .inv .2) (c .before .before .before .before .before .before .before .before .before .before .before .before .before .before .item-at .ensures) (c .before .before .before .before .before .before .before .before .before .before .before .before .n .given .1) (c .before .before .before .before .before .before .before .before .before .find .ensures) (c .before .before .before .before .before .before .before .atom .given .1) _
+push-word-requires c κs = word-range (c .before .before .before .before .before .before .before .before .before .before .before .before .before .before .before .loop .inv .2) refl (hashed-item (c .before .before .before .before .before .before .before .before .before .before .before .before .before .before .before .before .before .before .before .before .before .before .before .args .line .now) (c .before .before .before .before .before .before .before .before .before .before .before .before .before .before .before .loop .i) (c .before .before .before .before .before .before .before .before .before .before .before .before .before .before .hashed-item-at .ensures) (c .before .before .before .before .before .before .before .before .before .before .before .before .size .given .1)) (c .before .before .before .before .before .before .before .before .before .find-hashed .ensures) (c .before .before .before .before .before .before .before .atom .given .1) _
 
 loop-less : tie.Need-loop-less Inv-loop μ-loop
-loop-less c = omega (arith, number-inside (c .before .before .before .before .before .before .before .before .before .before .before .before .before .before .before .before .before .before .loop .inv .2) (c .before .before .before .before .before .before .before .before .before .before .before .before .before .before .before .before .before .item-at .ensures) (c .before .before .before .before .before .before .before .before .before .before .before .before .before .before .before .n .given .1))
+loop-less c = omega (arith, number-inside (c .before .before .before .before .before .before .before .before .before .before .before .before .before .before .before .before .before .before .loop .inv .2) refl (hashed-item (c .before .before .before .before .before .before .before .before .before .before .before .before .before .before .before .before .before .before .before .before .before .before .before .before .before .before .args .line .now) (c .before .before .before .before .before .before .before .before .before .before .before .before .before .before .before .before .before .before .loop .i) (c .before .before .before .before .before .before .before .before .before .before .before .before .before .before .before .before .before .hashed-item-at .ensures) (c .before .before .before .before .before .before .before .before .before .before .before .before .before .before .before .size .given .1)))
 
 loop-again : tie.Need-loop-again Inv-loop μ-loop
 loop-again c =
     let h = c .before .before .before .before .before .before .before .before .before .before .before .before .before .before .before .before .before .before .loop .inv in
-    let e = c .before .before .before .before .before .before .before .before .before .before .before .before .before .before .before .before .before .item-at .ensures in
-    let d = c .before .before .before .before .before .before .before .before .before .before .before .before .before .before .before .n .given .1 in
-    let f = c .before .before .before .before .before .before .before .before .before .before .before .before .find .ensures in
+    let d = hashed-item (c .before .before .before .before .before .before .before .before .before .before .before .before .before .before .before .before .before .before .before .before .before .before .before .before .before .before .args .line .now) (c .before .before .before .before .before .before .before .before .before .before .before .before .before .before .before .before .before .before .loop .i) (c .before .before .before .before .before .before .before .before .before .before .before .before .before .before .before .before .before .hashed-item-at .ensures) (c .before .before .before .before .before .before .before .before .before .before .before .before .before .before .before .size .given .1) in
+    let f = c .before .before .before .before .before .before .before .before .before .before .before .before .find-hashed .ensures in
     let g = c .before .before .before .before .before .before .before .before .before .before .atom .given .1 in
     let m = c .before .before .before .before .before .before .before .mark .ensures in
     let w = c .before .before .push-word .ensures in (
       ap length (m .1) ∙ (length-set (c .before .before .before .before .before .before .before .before .before .before .before .before .before .before .before .before .before .before .loop .marks) _ _ ∙ h .0),
       same-length-of w ∙ h .1,
-      ⊎-elim (λ t. number-again (h .2) e d f g (m .0) (m .1) w (t .0 .taken) (t .1)) (λ t. number-new (h .2) e d f g (m .0) (m .1) w (t .0 .left) (t .1)) (c .before .before .before .before .if1 .came),
+      ⊎-elim (λ t. number-again (h .2) refl d f g (m .0) (m .1) w (t .0 .taken) (t .1)) (λ t. number-new (h .2) refl d f g (m .0) (m .1) w (t .0 .left) (t .1)) (c .before .before .before .before .if1 .came),
     )
 
 pub numbers-at-spec : {M : Type 1} → statement M
@@ -104,18 +104,18 @@ numbers-at-spec =
     Inv-loop
     μ-loop
     loop-holds
-    item-at-requires
-    enum-known-n
+    hashed-item-at-requires
+    enum-known-size
     enum-told
     same-length
     same-length-2
     returns
     add-start
     add-to
-    sub-find
-    part-find-start
-    part-find-end
-    find-requires
+    sub-name
+    part-name-start
+    part-name-end
+    find-hashed-requires
     enum-known-atom
     enum-told-2
     same-length-3
