@@ -12,15 +12,14 @@ use Rattle.kinds.specs.declared.limits.Kind.{Kind}
 use Rattle.kinds.specs.declared.refusals.Refusal.the-variants.{Output}
 use Rattle.name_store.specs.NameStore.{encodeNames}
 use Rattle.stores.specs.RuleStore.{kindWord, encode}
-use Rattle.text.specs.Emitted.{Emitted, InRange}
-use Rattle.writer.specs.Answers.{over}
+use Rattle.output.specs.Emitted.{Emitted, InRange, over}
 use Rattle.delivery.specs.declared.answers.Read.the-variants.{Accepted, Refused}
 use Rattle.gathering.specs.declared.gathered.Gathered.{Gathered}
 use Rattle.lines.specs.Faults.{State}
 use Rattle.delivery.specs.Answers.{ruleWordsOf, nameBytesOf}
 use Rattle.gathering.specs.Gathered.{storedWords, Held}
 use Rattle.delivery.specs.Delivered.{headerWords, Delivered}
-use Rattle.text.proofs.Emitting.{sets-seam}
+use Rattle.output.proofs.Emitting.{sets-seam}
 use Rattle.gathering.proofs.HeldState.{behind, held-small}
 
 over-is : (d w : List ℕ) → length w ≤ length d → sets d 0 w ≡ over w d

@@ -7,7 +7,7 @@ use lib.ListN.{length}
 use Rattle.kinds.specs.declared.refusals.Refusal.the-variants.{Output}
 use Rattle.stores.specs.RuleStore.{encode}
 use Rattle.name_store.specs.NameStore.{encodeNames}
-use Rattle.writer.specs.Answers.{over}
+use Rattle.output.specs.Emitted.{over}
 use Rattle.delivery.specs.declared.answers.Read.{Read}
 use Rattle.delivery.specs.declared.answers.Read.the-variants.{Accepted, Refused}
 use Rattle.lines.specs.Faults.{State}

@@ -5,7 +5,7 @@ use mathlib.Core.List.{List, [], _∷_}
 use lib.ListN.{length}
 use Rattle.kinds.specs.declared.limits.Kind.{Kind}
 use Rattle.stores.specs.RuleStore.{kindWord}
-use Rattle.writer.specs.Answers.{over}
+use Rattle.output.specs.Emitted.{over}
 use Rattle.delivery.specs.declared.answers.Read.{Read}
 use Rattle.gathering.specs.declared.gathered.Gathered.{Gathered}
 use Rattle.lines.specs.Faults.{State}

@@ -3,12 +3,11 @@ use crate::answers::Read;
 use gathering::gathered::Gathered;
 use kinds::limits::Kind;
 use kinds::refusals::Refusal;
-use numbering::numbers;
-use text::emit;
+use output::words::push;
 ghost use mathlib.Core.Path.{_≡_};
 ghost use Prim.Native.Nat.{_<_};
 ghost use Rattle.stores.specs.RuleStore.{kindWord};
-ghost use Rattle.text.specs.Emitted.{Emitted, InRange};
+ghost use Rattle.output.specs.Emitted.{Emitted};
 ghost use Rattle.gathering.specs.Gathered.{stateOf, Held};
 ghost use Rattle.delivery.specs.Delivered.{Delivered, headerWords};
 
@@ -28,23 +27,10 @@ fn put_header(kind: Kind, gathered: Gathered, words: &mut [u16]) -> usize
     let atoms = gathered.atoms;
     let classes = gathered.classes;
     let rules = gathered.rules;
-    let second = numbers::push_word(kind_word(kind), words, 0);
-    let third = numbers::push_word(atoms as u16, words, second);
-    let fourth = numbers::push_word(classes as u16, words, third);
-    numbers::push_word(rules as u16, words, fourth)
-}
-
-fn put_words(words: &[u16], out: &mut [u16]) -> usize
-    requires { ⌜ InRange 0 (now words) ⌝ }
-    ensures { λ r. ⌜ Emitted (now (out .entry)) 0 (now (words .entry)) (now (out .exit)) r ⌝ }
-{
-    let mut next: usize = 0;
-    let mut i: usize = 0;
-    while i < words.len() {
-        next = numbers::push_word(words[i], out, next);
-        i += 1;
-    }
-    next
+    let second = push(kind_word(kind), words, 0);
+    let third = push(atoms as u16, words, second);
+    let fourth = push(classes as u16, words, third);
+    push(rules as u16, words, fourth)
 }
 
 pub fn deliver(
@@ -77,8 +63,8 @@ pub fn deliver(
         };
     }
     put_header(kind, gathered, words);
-    put_words(&words[..filled], rules);
-    emit::emit(&bytes[..used], names, 0);
+    output::words::emit(&words[..filled], rules, 0);
+    output::bytes::emit(&bytes[..used], names, 0);
     Read::Accepted {
         words: filled,
         bytes: used,

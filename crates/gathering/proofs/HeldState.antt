@@ -16,7 +16,7 @@ use Rattle.name_store.specs.NameIndex.{Indexed}
 use Rattle.stores.proofs.RuleTests.{rule-front, past-front}
 use Rattle.name_store.proofs.NameStores.{decode-front}
 use Rattle.name_store.proofs.NameEntries.{length-filled, filled}
-use Rattle.text.proofs.Emitting.{sets-seam}
+use Rattle.output.proofs.Emitting.{sets-seam}
 use Rattle.gathering.specs.declared.gathered.Gathered.{Gathered}
 use Rattle.lines.specs.Faults.{State}
 use Rattle.gathering.specs.Gathered.{stateOf, storedWords, Filled, Held}

@@ -11,8 +11,8 @@ use borrow.Author.Tests.{lt-leb, le-leb}
 use Rattle.kinds.specs.Limits.{atomLimit, classLimit}
 use Rattle.kinds.specs.declared.limits.Kind.{Kind}
 use Rattle.kinds.specs.declared.refusals.Refusal.the-variants.{DeclaredTwice, Limit}
-use Rattle.text.specs.Emitted.{Emitted, InRange}
-use Rattle.text.proofs.Emitting.{none, then, renamed}
+use Rattle.output.specs.Emitted.{Emitted, InRange}
+use Rattle.output.proofs.Emitting.{none, then, renamed}
 use Rattle.gathering.specs.declared.gathered.Gathered.{Gathered}
 use Rattle.gathering.specs.declared.gathered.Line.the-variants.{Next, Fault}
 use Rattle.lines.specs.declared.forms.Keyword.{Keyword}

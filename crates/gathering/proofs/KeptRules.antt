@@ -10,7 +10,7 @@ use Rattle.kinds.specs.Limits.{ruleLimit, occurrenceLimit}
 use Rattle.kinds.specs.declared.limits.Kind.{Kind}
 use Rattle.kinds.specs.declared.limits.Kind.the-variants.{Plain, Preference}
 use Rattle.kinds.specs.declared.refusals.Refusal.the-variants.{Limit, FilledNot}
-use Rattle.text.specs.Emitted.{Emitted}
+use Rattle.output.specs.Emitted.{Emitted}
 use Rattle.gathering.specs.declared.gathered.Gathered.{Gathered}
 use Rattle.gathering.specs.declared.gathered.Line.the-variants.{Next, Fault}
 use Rattle.gathering.specs.Gathered.{filledCount, withRule, keptRule, Kept}

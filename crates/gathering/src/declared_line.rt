@@ -8,7 +8,7 @@ use lines::forms::Keyword;
 use lines::stage::Stage;
 use numbering::entries;
 use numbering::entries::Entered;
-use numbering::numbers;
+use output::words::push;
 ghost use mathlib.Core.Path.{_≡_};
 ghost use Prim.Native.Nat.{_+_, _^_, _≤_, _<_};
 ghost use mathlib.Core.Bool.{_&&_, _||_};
@@ -19,7 +19,7 @@ ghost use Rattle.kinds.specs.Limits.{atomLimit, classLimit, textLimit};
 ghost use Rattle.rules.specs.Lists.{some};
 ghost use Rattle.name_store.specs.NameStore.{decodeNames};
 ghost use Rattle.name_store.specs.NameIndex.{Indexed, buckets};
-ghost use Rattle.text.specs.Emitted.{Emitted};
+ghost use Rattle.output.specs.Emitted.{Emitted};
 ghost use Rattle.lines.specs.Items.{items};
 ghost use Rattle.lines.specs.Forms.{formOf};
 ghost use Rattle.lines.specs.Faults.{expects, stageAfter, classesAfter, classWords, twice};
@@ -90,7 +90,7 @@ fn put_copies(w: u16, count: usize, words: &mut [u16], at: usize) -> usize
     let mut end = at;
     let mut i: usize = 0;
     while i < count {
-        end = numbers::push_word(w, words, end);
+        end = push(w, words, end);
         i += 1;
     }
     end

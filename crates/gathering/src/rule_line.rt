@@ -6,6 +6,7 @@ use kinds::refusals::Refusal;
 use lines::stage::Stage;
 use numbering::numbers;
 use numbering::numbers::Numbers;
+use output::words::push;
 ghost use mathlib.Core.Path.{_≡_};
 ghost use Prim.Native.Nat.{_+_, _^_, _≤_, _<_};
 ghost use mathlib.Core.Bool.{_&&_};
@@ -13,7 +14,7 @@ ghost use mathlib.Core.List.{[], _∷_};
 ghost use lib.Dec.{leb};
 ghost use lib.ListN.{length};
 ghost use Rattle.kinds.specs.Limits.{ruleLimit, occurrenceLimit, textLimit};
-ghost use Rattle.text.specs.Emitted.{Emitted};
+ghost use Rattle.output.specs.Emitted.{Emitted};
 ghost use Rattle.lines.specs.Forms.{formOf};
 ghost use Rattle.lines.specs.Faults.{ruling?};
 ghost use Rattle.lines.specs.Shapes.{Ruled};
@@ -52,9 +53,9 @@ fn put_counts(heads: usize, bodies: usize, nots: usize, words: &mut [u16], at: u
     requires { ⌜ (heads < 65536) × (bodies < 65536) × (nots < 65536) × (at < 2 ^ 62) ⌝ }
     ensures { λ r. ⌜ Emitted (now (words .entry)) at (heads ∷ bodies ∷ nots ∷ []) (now (words .exit)) r ⌝ }
 {
-    let second = numbers::push_word(heads as u16, words, at);
-    let third = numbers::push_word(bodies as u16, words, second);
-    numbers::push_word(nots as u16, words, third)
+    let second = push(heads as u16, words, at);
+    let third = push(bodies as u16, words, second);
+    push(nots as u16, words, third)
 }
 
 // A rule whose numbers stand written up to `end`, behind its three counts.

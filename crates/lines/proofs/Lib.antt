@@ -1,5 +1,6 @@
 -- The laws of lines and their forms.
 pub mod Scanning
+pub mod LineBlocks
 pub mod Tags
 pub mod NameLists
 pub mod LineShapes

@@ -4,12 +4,12 @@ ghost use Prim.Native.Nat.{_≤_};
 ghost use lib.Dec.{eqb};
 ghost use lib.ListN.{length, drop};
 ghost use Rattle.rules.specs.Lists.{some};
-ghost use Rattle.names.specs.NameStore.{sameBytes};
-ghost use Rattle.writer.specs.Words.{line-end};
-ghost use Rattle.reader.specs.Lines.{lineLength};
-ghost use Rattle.reader.specs.Items.{delimiter?, run};
-ghost use Rattle.reader.specs.Forms.{begins};
-ghost use Rattle.reader.specs.Shapes.{itemOf};
+ghost use Rattle.name_store.specs.NameStore.{sameBytes};
+ghost use Rattle.kinds.specs.Words.{line-end};
+ghost use Rattle.lines.specs.Lines.{lineLength};
+ghost use Rattle.lines.specs.Items.{delimiter?, run};
+ghost use Rattle.lines.specs.Forms.{begins};
+ghost use Rattle.lines.specs.Shapes.{itemOf};
 
 // A space and the length of the name after it, or anything else.
 pub enum Item {

@@ -1,3 +1,3 @@
--- The laws of names, their store and its index.
+-- The laws of names.
 pub mod NameBits
 pub mod NameForms

@@ -17,8 +17,8 @@ use Rattle.name_store.specs.NameStore.{sameBytes}
 use Rattle.name_store.specs.NameIndex.{foundFrom, found}
 use Rattle.stores.specs.RuleStore.{Below}
 use Rattle.name_store.proofs.NameStores.{same-law}
-use Rattle.text.specs.Emitted.{Emitted, InRange}
-use Rattle.text.proofs.Emitting.{none, then, renamed}
+use Rattle.output.specs.Emitted.{Emitted, InRange}
+use Rattle.output.proofs.Emitting.{none, then, renamed}
 use Rattle.stores.proofs.Marks.{set-below, set-marks}
 use Rattle.lines.specs.declared.scan.Item.{Item}
 use Rattle.lines.specs.declared.scan.Item.the-variants.{At, Stop}

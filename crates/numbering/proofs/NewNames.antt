@@ -13,9 +13,9 @@ use Rattle.name_store.specs.NameStore.{nameBytes, encodeNames, decodeNames, sam
 use Rattle.name_store.specs.NameIndex.{new?, nameHash, Indexed}
 use Rattle.name_store.proofs.NameStores.{decode-front, not-seen}
 use Rattle.name_store.proofs.NameEntries.{entered}
-use Rattle.text.specs.Emitted.{Emitted, InRange}
+use Rattle.output.specs.Emitted.{Emitted, InRange}
 use Rattle.numbering.specs.Entries.{EntryRoom, EntrySays, EntryIs}
-use Rattle.text.proofs.Emitting.{sets-seam}
+use Rattle.output.proofs.Emitting.{sets-seam}
 
 -- the names of an index are those of its bytes
 pub decoded : {names : List (List ℕ)} {bytes starts heads links : List ℕ} → Indexed names bytes starts heads links → decodeNames (length names) bytes ≡ names

@@ -6,7 +6,7 @@ use mathlib.Core.List.{List}
 use mathlib.Core.Bool.{Bool, true, false, _||_}
 use lib.ListN.{length, drop, length-map}
 use Rattle.rules.specs.Lists.{some}
-use Rattle.text.proofs.Emitting.{then}
+use Rattle.output.proofs.Emitting.{then}
 use Rattle.lines.specs.Items.{items}
 use Rattle.lines.specs.Faults.{undeclared, numberOf, anyOf}
 use Rattle.numbering.specs.declared.numbers.Numbers.{Numbers}

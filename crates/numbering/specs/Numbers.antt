@@ -5,7 +5,7 @@ use mathlib.Core.Bool.{Bool, true, false}
 use mathlib.Core.List.{List, [], _++_, map}
 use Rattle.rules.specs.Lists.{some}
 use Rattle.stores.specs.RuleStore.{Below}
-use Rattle.text.specs.Emitted.{Emitted}
+use Rattle.output.specs.Emitted.{Emitted}
 use Rattle.numbering.specs.declared.numbers.Numbers.{Numbers}
 use Rattle.numbering.specs.declared.numbers.Numbers.the-variants as Answer
 use Rattle.lines.specs.Faults.{undeclared, numberOf, anyOf}

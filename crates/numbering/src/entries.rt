@@ -4,14 +4,15 @@ use lines::scan;
 use lines::scan::Item;
 use name_store::index;
 use name_store::index::Found;
-use text::emit;
+use output::bytes::emit;
+use output::bytes::push;
 ghost use mathlib.Core.Path.{_≡_};
 ghost use Prim.Native.Nat.{_≤_, _<_};
 ghost use mathlib.Core.List.{[]};
 ghost use lib.ListN.{length, drop, replicate};
 ghost use Rattle.name_store.specs.NameStore.{nameBytes, decodeNames};
 ghost use Rattle.name_store.specs.NameIndex.{Indexed, buckets};
-ghost use Rattle.text.specs.Emitted.{Emitted, InRange};
+ghost use Rattle.output.specs.Emitted.{Emitted, InRange};
 ghost use Rattle.rules.specs.Lists.{some};
 ghost use Rattle.lines.specs.Items.{items};
 ghost use Rattle.lines.specs.Faults.{twice};
@@ -28,8 +29,8 @@ fn put_name(name: &[u8], bytes: &mut [u8], at: usize) -> usize
     requires { ⌜ (length (now name) < 256) × InRange at (nameBytes (now name)) ⌝ }
     ensures { λ r. ⌜ Emitted (now (bytes .entry)) at (nameBytes (now (name .entry))) (now (bytes .exit)) r ⌝ }
 {
-    let from = emit::push(name.len() as u8, bytes, at);
-    emit::emit(name, bytes, from)
+    let from = push(name.len() as u8, bytes, at);
+    emit(name, bytes, from)
 }
 
 // Enters a name as that of the next atom, unless an atom before has it.

@@ -1,20 +1,19 @@
 // The names of a rule's lists to atom numbers.
-use crate::forms::any;
-use crate::scan;
-use names::index;
-use names::index::Found;
+use lines::forms::any;
+use lines::scan;
+use name_store::index;
+use name_store::index::Found;
+use output::words::push;
 ghost use mathlib.Core.Path.{_≡_};
 ghost use Prim.Native.Nat.{_+_, _*_, _^_, _≤_, _<_};
-ghost use mathlib.Core.List.{[], _∷_};
 ghost use lib.Dec.{eqb};
 ghost use lib.ListN.{length, getD, drop, set};
 ghost use Rattle.name_store.specs.NameStore.{decodeNames};
 ghost use Rattle.name_store.specs.NameIndex.{Indexed};
 ghost use Rattle.stores.specs.RuleStore.{Below};
-ghost use Rattle.writer.specs.Emitted.{Emitted, InRange};
-ghost use Rattle.reader.specs.Items.{items};
-ghost use Rattle.reader.specs.HashedItems.{hashedRun, hashedItem};
-ghost use Rattle.reader.specs.Numbers.{NumbersIs, RuleNumbersIs};
+ghost use Rattle.lines.specs.Items.{items};
+ghost use Rattle.numbering.specs.HashedItems.{hashedRun, hashedItem};
+ghost use Rattle.numbering.specs.Numbers.{NumbersIs, RuleNumbersIs};
 
 // Where the numbers of a list end and whether a name stands twice in it, or that a name is not declared.
 pub enum Numbers {
@@ -26,18 +25,6 @@ pub enum Numbers {
 pub enum HashedItem {
     At { size: usize, hash: usize },
     Stop,
-}
-
-// Writes a word where there is room for it.
-pub fn push_word(w: u16, out: &mut [u16], at: usize) -> usize
-    requires { ⌜ InRange at (w ∷ []) ⌝ }
-    ensures { λ r. ⌜ Emitted (now (out .entry)) at (w ∷ []) (now (out .exit)) r ⌝ }
-{
-    if at < out.len() {
-        out[at] = w;
-        return at + 1;
-    }
-    at + 1
 }
 
 // Marks an atom; whether it had the mark before.
@@ -117,7 +104,7 @@ pub fn numbers_at(
         if mark(marks, atom, stamp) {
             twice = true;
         }
-        end = push_word(atom as u16, out, end);
+        end = push(atom as u16, out, end);
         i = to;
     }
 }

@@ -28,8 +28,8 @@ use Rattle.name_store.proofs.NamePlaces.{length-decode}
 use Rattle.name_store.proofs.NameStores.{allowed-short}
 use Rattle.text.specs.Text.{item}
 use Rattle.text.specs.Items.{storedNames}
-use Rattle.text.specs.Emitted.{Emitted, InRange}
-use Rattle.text.proofs.Emitting.{none, then, renamed, same-length}
+use Rattle.output.specs.Emitted.{Emitted, InRange}
+use Rattle.output.proofs.Emitting.{none, then, renamed, same-length}
 use Rattle.walks.specs.Walk.{nextVerdict}
 use Rattle.walks.specs.Answers.{nextAnswer}
 use Rattle.walks.specs.declared.answers.NextState.{NextState}

@@ -16,8 +16,8 @@ use Rattle.rules.specs.Lists.{keep, filter, flat, from}
 use Rattle.rules.specs.Sets.{has}
 use Rattle.kinds.specs.Words.{space}
 use Rattle.text.specs.Text.{openText, listLine, item, named}
-use Rattle.text.specs.Emitted.{Emitted, InRange}
-use Rattle.text.proofs.Emitting.{Ahead}
+use Rattle.output.specs.Emitted.{Emitted, InRange}
+use Rattle.output.proofs.Emitting.{Ahead}
 use Rattle.printing.specs.Printed.{digits, decimal, closing, refusedText, stateWord, stateLine, member, members, totalLine, shown, Shown}
 
 pub parts : (u v : List ℕ) → Ahead (u ++ v) u v

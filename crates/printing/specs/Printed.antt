@@ -16,7 +16,7 @@ use Rattle.rules.specs.Sets.{has}
 use Rattle.stores.specs.Program.{Program}
 use Rattle.kinds.specs.Words.{space, close-bracket, line-end}
 use Rattle.text.specs.Text.{item, listLine, named}
-use Rattle.writer.specs.Answers.{over}
+use Rattle.output.specs.Emitted.{over}
 use Rattle.delivery.specs.Said.{Said, accepted, refused, said, programOf}
 use Rattle.translation.specs.Answers.{translationText}
 use Rattle.walks.specs.declared.answers.NextState.{NextState}

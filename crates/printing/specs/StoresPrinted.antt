@@ -14,7 +14,7 @@ use Rattle.stores.specs.declared.rule_store.RuleStore.the-variants.{Of}
 use Rattle.names.specs.Names.{allowed}
 use Rattle.name_store.specs.NameStore.{names?, decodeNames}
 use Rattle.name_store.specs.NameIndex.{Placed}
-use Rattle.text.specs.Emitted.{Emitted}
+use Rattle.output.specs.Emitted.{Emitted}
 use Rattle.text.specs.Items.{storedNames}
 use Rattle.writer.specs.declared.Written.{Written}
 use Rattle.writer.specs.declared.Written.the-variants.{Text, Refused}

@@ -10,15 +10,15 @@ use kinds::refusals::Refusal;
 use lister::next::next_state;
 use name_store::index::BUCKETS;
 use name_store::store::index_names;
+use output::bytes::emit;
 use stores::rule_store::RuleStore;
 use stores::rule_store::check_rules;
-use text::emit::emit;
 use walks::answers::NextState;
 ghost use mathlib.Core.Path.{_≡_};
 ghost use Rattle.kinds.specs.declared.limits.Kind.the-variants.{Preference as KindPreference};
 ghost use Rattle.stores.specs.RuleStore.{ruleStore};
 ghost use Rattle.stores.specs.declared.rule_store.RuleStore.the-variants.{Of};
-ghost use Rattle.text.specs.Emitted.{Emitted, InRange};
+ghost use Rattle.output.specs.Emitted.{Emitted, InRange};
 ghost use Rattle.printing.specs.Printed.{sized, Shown};
 ghost use Rattle.printing.specs.StoresPrinted.{Listable, Limited, lastLine, storesListing, storesStates};
 

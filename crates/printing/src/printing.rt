@@ -1,14 +1,14 @@
 // What the two programs print, line by line (document 01, "Sheets of known states").
 use kinds::refusals::Refusal;
 use name_store::index::name_at;
-use text::emit::emit;
-use text::emit::push;
+use output::bytes::emit;
+use output::bytes::push;
 ghost use mathlib.Core.Path.{_≡_};
 ghost use Prim.Native.Nat.{_≤_, _<_};
 ghost use lib.ListN.{length};
 ghost use Rattle.rules.specs.Sets.{has};
 ghost use Rattle.name_store.specs.NameIndex.{Placed};
-ghost use Rattle.text.specs.Emitted.{Emitted, InRange};
+ghost use Rattle.output.specs.Emitted.{Emitted, InRange};
 ghost use Rattle.text.specs.Items.{storedNames};
 ghost use Rattle.printing.specs.Printed.{decimal, refusedText, member, members, stateLine, totalLine, Shown};
 

@@ -1,21 +1,5 @@
 -- The laws of reading a text line by line, and the round trips.
 pub mod Examples
-pub mod Scanning
-pub mod LineBlocks
-pub mod Tags
-pub mod NameLists
-pub mod LineShapes
-pub mod HashedNames
-pub mod NameNumbers
-pub mod RuleLists
-pub mod KeptRules
-pub mod HeldState
-pub mod RuleSteps
-pub mod NewNames
-pub mod Entering
-pub mod NameBlocks
-pub mod KeptAtoms
-pub mod DeclaredSteps
 pub mod LineByLine
 pub mod WholeText
 pub mod LineText

@@ -22,9 +22,9 @@ use Rattle.lines.specs.Faults.{State, ruling?, stepForm}
 use Rattle.delivery.specs.Said.{Said, accepted, refused, onStep, readLines, start}
 use Rattle.gathering.specs.Gathered.{stateOf, Held, LineSays, LineIs}
 use Rattle.reader.specs.Gathering.{startCounts, passedOn, GatherSays, GatherIs}
-use Rattle.reader.proofs.Scanning.{part-sized}
-use Rattle.reader.proofs.LineBlocks.{line-le}
-use Rattle.reader.proofs.HeldState.{held-is}
+use Rattle.lines.proofs.Scanning.{part-sized}
+use Rattle.lines.proofs.LineBlocks.{line-le}
+use Rattle.gathering.proofs.HeldState.{held-is}
 
 lines-skip : (k : ℕ) (s : List ℕ) → linesFrom k s ≡ lines (drop k s)
 unfolding lines linesFrom

@@ -21,7 +21,8 @@ use Rattle.name_store.proofs.NameStores.{decode-names, names-law}
 use Rattle.writer.specs.declared.Written.{Written}
 use Rattle.writer.specs.declared.Written.the-variants.{Text, Refused as NotWritten}
 use Rattle.text.specs.Text.{textOf}
-use Rattle.writer.specs.Answers.{over, fitted}
+use Rattle.output.specs.Emitted.{over}
+use Rattle.writer.specs.Answers.{fitted}
 use Rattle.text.proofs.TextLength.{text-fits}
 use Rattle.delivery.specs.declared.answers.Read.{Read}
 use Rattle.delivery.specs.declared.answers.Read.the-variants.{Accepted, Refused as NotRead}

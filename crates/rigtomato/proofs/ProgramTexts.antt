@@ -24,7 +24,8 @@ use Rattle.stores.proofs.RuleStores.{decode-encode, kind-answered, words-count}
 use Rattle.name_store.proofs.NameStores.{allowed-short, decode-names}
 use Rattle.writer.specs.declared.Written.{Written}
 use Rattle.writer.specs.declared.Written.the-variants.{Text, Refused as NotWritten}
-use Rattle.writer.specs.Answers.{over, fitted, writtenBytes}
+use Rattle.output.specs.Emitted.{over}
+use Rattle.writer.specs.Answers.{fitted, writtenBytes}
 use Rattle.delivery.specs.declared.answers.Read.{Read}
 use Rattle.delivery.specs.declared.answers.Read.the-variants.{Accepted, Refused as NotRead}
 use Rattle.numbering.specs.Scratch.{scratchWords, scratchBytes}

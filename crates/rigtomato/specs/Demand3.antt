@@ -11,7 +11,7 @@ use Rattle.rules.specs.Rules.{occurrences}
 use Rattle.rules.specs.Stable.{Stable}
 use Rattle.rules.specs.Preferred.{Preferred}
 use Rattle.writer.specs.declared.Written.the-variants.{Text}
-use Rattle.writer.specs.Answers.{over}
+use Rattle.output.specs.Emitted.{over}
 use Rattle.delivery.specs.declared.answers.Read.the-variants.{Accepted}
 use Rattle.lines.specs.Faults.{State}
 use Rattle.delivery.specs.Said.{said, accepted, programOf}

@@ -5,7 +5,8 @@ mod programs;
 
 ghost use mathlib.Core.Path.{_≡_};
 ghost use lib.ListN.{length};
-ghost use Rattle.writer.specs.Answers.{over, writeAnswer, writeOutput};
+ghost use Rattle.output.specs.Emitted.{over};
+ghost use Rattle.writer.specs.Answers.{writeAnswer, writeOutput};
 ghost use Rattle.delivery.specs.Answers.{readAnswer, readRules, readNames};
 ghost use Rattle.translation.specs.Answers.{translateAnswer, translateOutput};
 ghost use Rattle.walks.specs.Answers.{preferredAnswer, stableAnswer, nextAnswer};

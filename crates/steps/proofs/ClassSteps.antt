@@ -11,9 +11,9 @@ use Rattle.rules.specs.Preferred.{ofClass}
 use Rattle.stores.specs.Program.{Rising}
 use Rattle.pairing.proofs.ListLaws.{length-from, shifted}
 use Rattle.text.specs.ClassRuns.{upTo, countWhile}
-use Rattle.text.specs.Emitted.{Emitted, InRange}
+use Rattle.output.specs.Emitted.{Emitted, InRange}
 use Rattle.text.proofs.ClassWords.{up-to-le, up-to-rises, class-run}
-use Rattle.text.proofs.Emitting.{Ahead, Emitting, start, turn, finish, range-here, range-renamed, renamed}
+use Rattle.output.proofs.Emitting.{Ahead, Emitting, start, turn, finish, range-here, range-renamed, renamed}
 use Rattle.steps.specs.declared.offsets.Offsets.{Offsets}
 use Rattle.steps.specs.Roles.{Low}
 use Rattle.steps.specs.StepWords.{each, single, words5, runWords5}

@@ -13,8 +13,8 @@ use Rattle.rules.proofs.Lists.{all-imp}
 use Rattle.stores.specs.RuleStore.{heads, bodies, places, ruleAt, rulesFrom}
 use Rattle.pairing.specs.Loops.{fixedWord?}
 use Rattle.pairing.proofs.SumLaws.{length-parts}
-use Rattle.text.specs.Emitted.{Emitted, InRange}
-use Rattle.text.proofs.Emitting.{Ahead, Emitting, start, turn, finish, range-here}
+use Rattle.output.specs.Emitted.{Emitted, InRange}
+use Rattle.output.proofs.Emitting.{Ahead, Emitting, start, turn, finish, range-here}
 use Rattle.steps.specs.FileRules.{FileRule, FileRules, Lists3}
 use Rattle.steps.specs.Roles.{fixedAmong}
 use Rattle.steps.specs.StepWords.{each, single, raised, copyOf, fixedOf, words2, lists3, words3}

@@ -10,7 +10,7 @@ use lib.ListN.{length, getD, drop, drop-of-length-le}
 use lib.Seq.{drop-cons}
 use Rattle.rules.specs.Lists.{keep, from}
 use Rattle.pairing.specs.Loops.{fixedWord?}
-use Rattle.text.proofs.Emitting.{Ahead}
+use Rattle.output.proofs.Emitting.{Ahead}
 use Rattle.steps.specs.StepWords.{each, single, raised, copyOf, fixedOf, words4, classWords6, words6}
 use Rattle.steps.specs.declared.offsets.Offsets.{Offsets}
 use Rattle.steps.specs.Roles.{classOf, FirstMinimised}

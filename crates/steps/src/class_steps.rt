@@ -1,13 +1,13 @@
 // Step 5, which goes by classes.
 use crate::classes::class_end;
 use crate::offsets::Offsets;
-use crate::words::emit;
 use crate::words::emit_run;
+use output::words::emit;
 ghost use Prim.Native.Nat.{_+_, _-_, _≤_};
 ghost use lib.ListN.{length};
 ghost use Rattle.rules.specs.Lists.{from};
 ghost use Rattle.stores.specs.Program.{Rising};
-ghost use Rattle.text.specs.Emitted.{Emitted, InRange};
+ghost use Rattle.output.specs.Emitted.{Emitted, InRange};
 ghost use Rattle.steps.specs.Offsets.{Small};
 ghost use Rattle.steps.specs.Roles.{Low};
 ghost use Rattle.steps.specs.StepWords.{each, words5, runWords5};

@@ -1,5 +1,5 @@
 // The atoms by the roles that their class words give them.
-use crate::words::push;
+use output::words::push;
 use stores::roles::Role;
 use stores::roles::role_of;
 ghost use mathlib.Core.Path.{_≡_};
@@ -7,7 +7,7 @@ ghost use Prim.Native.Nat.{_<_, _≤_};
 ghost use lib.ListN.{length};
 ghost use Rattle.rules.specs.Lists.{All};
 ghost use Rattle.pairing.specs.Loops.{fixedWord?};
-ghost use Rattle.text.specs.Emitted.{Emitted, InRange};
+ghost use Rattle.output.specs.Emitted.{Emitted, InRange};
 ghost use Rattle.text.specs.ClassRuns.{upTo};
 ghost use Rattle.steps.specs.StepWords.{each, copyOf, fixedOf};
 ghost use Rattle.steps.specs.Roles.{classOf, Low, unfixedCount, minimisedCount, fixedAmong};

@@ -2,14 +2,14 @@
 use crate::classes::count_fixed;
 use crate::classes::emit_copies;
 use crate::classes::emit_fixed;
-use crate::words::emit;
 use crate::words::emit_raised;
-use crate::words::push;
+use output::words::emit;
+use output::words::push;
 ghost use mathlib.Core.Path.{_≡_};
 ghost use Prim.Native.Nat.{_+_, _≤_};
 ghost use lib.ListN.{length};
 ghost use Rattle.stores.specs.RuleStore.{places, ruleAt, rulesFrom};
-ghost use Rattle.text.specs.Emitted.{Emitted, InRange};
+ghost use Rattle.output.specs.Emitted.{Emitted, InRange};
 ghost use Rattle.steps.specs.FileRules.{FileRule, FileRules, Lists3};
 ghost use Rattle.steps.specs.StepWords.{each, words2, lists3, words3};
 

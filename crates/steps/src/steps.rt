@@ -1,11 +1,11 @@
 // The steps that go by atoms, and those of one or two rules: 1, 4 and 6 to 10.
 use crate::classes::class_of;
 use crate::offsets::Offsets;
-use crate::words::emit;
+use output::words::emit;
 ghost use Prim.Native.Nat.{_-_, _≤_};
 ghost use lib.ListN.{length};
 ghost use Rattle.rules.specs.Lists.{from};
-ghost use Rattle.text.specs.Emitted.{Emitted, InRange};
+ghost use Rattle.output.specs.Emitted.{Emitted, InRange};
 ghost use Rattle.steps.specs.Offsets.{Small};
 ghost use Rattle.steps.specs.Roles.{FirstMinimised};
 ghost use Rattle.steps.specs.StepWords.{each, words1, words4, classWords6, words6, words789, words10};

@@ -1,33 +1,9 @@
-// Words to an output that may be too short for them: what has no room is counted and not written.
-ghost use mathlib.Core.List.{[], _∷_};
+// Runs of atoms.
+use output::words::push;
 ghost use Prim.Native.Nat.{_+_, _-_, _<_, _≤_};
 ghost use Rattle.rules.specs.Lists.{All, from};
-ghost use Rattle.text.specs.Emitted.{Emitted, InRange};
+ghost use Rattle.output.specs.Emitted.{Emitted, InRange};
 ghost use Rattle.steps.specs.StepWords.{each, single, raised};
-
-pub fn push(word: u16, out: &mut [u16], at: usize) -> usize
-    requires { ⌜ InRange at (word ∷ []) ⌝ }
-    ensures { λ r. ⌜ Emitted (now (out .entry)) at (word ∷ []) (now (out .exit)) r ⌝ }
-{
-    if at < out.len() {
-        out[at] = word;
-        return at + 1;
-    }
-    at + 1
-}
-
-pub fn emit(words: &[u16], out: &mut [u16], at: usize) -> usize
-    requires { ⌜ InRange at (now words) ⌝ }
-    ensures { λ r. ⌜ Emitted (now (out .entry)) at (now (words .entry)) (now (out .exit)) r ⌝ }
-{
-    let mut next = at;
-    let mut i: usize = 0;
-    while i < words.len() {
-        next = push(words[i], out, next);
-        i += 1;
-    }
-    next
-}
 
 // The numbers from `first` up to `end`.
 pub fn emit_run(first: u16, end: u16, out: &mut [u16], at: usize) -> usize

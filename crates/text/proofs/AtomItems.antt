@@ -9,7 +9,7 @@ use lib.Seq.{drop-cons}
 use Rattle.rules.specs.Lists.{All, from}
 use Rattle.kinds.specs.Words.{close-bracket, line-end}
 use Rattle.text.specs.Items.{atomItem, atomItems, atomLine}
-use Rattle.text.proofs.Emitting.{Ahead}
+use Rattle.output.proofs.Emitting.{Ahead}
 
 pub all-at : {A : Type 0} (P : A → Type 0) (d : A) (xs : List A) → All P xs → (i : ℕ) → i < length xs → P (getD xs i d)
 all-at P d [] h i l = absurd (omega arith)

@@ -17,9 +17,9 @@ use Rattle.stores.specs.declared.roles.Role.the-variants.{Minimised, Varying, F
 use Rattle.kinds.specs.Words.{open-bracket, close-bracket, line-end, minWord, varyWord, fixWord}
 use Rattle.text.specs.Text.{openText, listLine, named}
 use Rattle.text.specs.ClassRuns.{ClassWordsOf, upTo}
-use Rattle.text.specs.Emitted.{Emitted, InRange}
+use Rattle.output.specs.Emitted.{Emitted, InRange}
 use Rattle.text.specs.Items.{atomItems, atomLine, classItem, minItems, classItems}
-use Rattle.text.proofs.Emitting.{Ahead, Emitting, start, turn, finish, range-here}
+use Rattle.output.proofs.Emitting.{Ahead, Emitting, start, turn, finish, range-here}
 use Rattle.text.proofs.AtomItems.{all-at}
 use Rattle.text.proofs.ClassWords.{up-to-le, up-to-rises, within, stops, class-run}
 

@@ -1,5 +1,4 @@
 -- The laws of texts and of writing them.
-pub mod Emitting
 pub mod PlaceTable
 pub mod AtomItems
 pub mod RuleItems

@@ -13,8 +13,8 @@ use Rattle.kinds.specs.Words.{space, open-bracket, close-bracket, line-end, rul
 use Rattle.text.specs.Text.{openText, ruleLine, ruleText}
 use Rattle.text.specs.Items.{atomItems, atomPart, ruleItem, ruleItems}
 use Rattle.text.specs.StoredRules.{StoredRule, StoredRules}
-use Rattle.text.specs.Emitted.{Emitted, InRange}
-use Rattle.text.proofs.Emitting.{Ahead, Emitting, start, turn, finish, range-here}
+use Rattle.output.specs.Emitted.{Emitted, InRange}
+use Rattle.output.proofs.Emitting.{Ahead, Emitting, start, turn, finish, range-here}
 
 pub part-opens : (names : List (List ℕ)) (opening xs : List ℕ) → Ahead (atomPart names opening xs) opening (atomItems names xs)
 unfolding atomPart

@@ -25,7 +25,7 @@ use Rattle.text.specs.ClassRuns.{ClassWordsOf}
 use Rattle.text.specs.Items.{storedNames, atomItems, atomLine, ruleItems, classItem, minItems, classItems}
 use Rattle.text.specs.StoredRules.{RuleBelow, StoredRules}
 use Rattle.text.specs.Sources.{Sources, sourceText}
-use Rattle.text.proofs.Emitting.{Ahead}
+use Rattle.output.proofs.Emitting.{Ahead}
 
 -- the rules of a store that was tested
 stored-rules : (kind : Kind) (n used r : ℕ) (ws : List ℕ) → T (rules? kind n used r ws) → StoredRules n r ws

@@ -1,6 +1,5 @@
 -- The text of a program, and what writing it leaves.
 pub mod Text
-pub mod Emitted
 pub mod ClassRuns
 pub mod Items
 pub mod StoredRules

@@ -6,7 +6,7 @@ use lib.ListN.{length}
 use Rattle.stores.specs.RuleStore.{StoreOf, decode}
 use Rattle.name_store.specs.NameIndex.{Placed}
 use Rattle.text.specs.Text.{textOf}
-use Rattle.text.specs.Emitted.{InRange}
+use Rattle.output.specs.Emitted.{InRange}
 use Rattle.text.specs.Items.{storedNames}
 
 unfoldable pub sourceText : List ℕ → List ℕ → List ℕ → List ℕ

@@ -1,13 +1,13 @@
 // Atoms by their names.
-use crate::emit::emit;
-use crate::emit::emit_name;
-use crate::emit::push;
 use name_store::index::name_at;
+use output::bytes::emit;
+use output::bytes::emit_name;
+use output::bytes::push;
 ghost use Prim.Native.Nat.{_-_, _≤_, _<_};
 ghost use lib.ListN.{length};
 ghost use Rattle.rules.specs.Lists.{All, from};
 ghost use Rattle.name_store.specs.NameIndex.{Placed};
-ghost use Rattle.text.specs.Emitted.{Emitted, InRange};
+ghost use Rattle.output.specs.Emitted.{Emitted, InRange};
 ghost use Rattle.text.specs.Items.{storedNames, StoredNames, atomItem, atomItems, atomLine};
 
 // Fills the table of the places of names.

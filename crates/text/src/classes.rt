@@ -7,7 +7,7 @@ ghost use lib.ListN.{length};
 ghost use Rattle.rules.specs.Lists.{from};
 ghost use Rattle.name_store.specs.NameIndex.{Placed};
 ghost use Rattle.text.specs.ClassRuns.{ClassWordsOf, upTo};
-ghost use Rattle.text.specs.Emitted.{Emitted, InRange};
+ghost use Rattle.output.specs.Emitted.{Emitted, InRange};
 ghost use Rattle.kinds.specs.Words.{open-bracket, minWord};
 ghost use Rattle.text.specs.Items.{storedNames, atomLine, minItems, classItems};
 

@@ -1,13 +1,13 @@
 // The lines of rules.
 use crate::atoms::emit_atoms;
-use crate::emit::emit;
+use output::bytes::emit;
 ghost use mathlib.Core.Path.{_≡_};
 ghost use Prim.Native.Nat.{_+_, _≤_, _<_};
 ghost use lib.ListN.{length};
 ghost use Rattle.rules.specs.Lists.{All};
 ghost use Rattle.name_store.specs.NameIndex.{Placed};
 ghost use Rattle.stores.specs.RuleStore.{places, ruleAt, rulesFrom};
-ghost use Rattle.text.specs.Emitted.{Emitted, InRange};
+ghost use Rattle.output.specs.Emitted.{Emitted, InRange};
 ghost use Rattle.text.specs.Items.{storedNames, atomPart, ruleItem, ruleItems};
 ghost use Rattle.text.specs.StoredRules.{StoredRule, StoredRules};
 

@@ -4,7 +4,7 @@ use crate::classes::emit_classes;
 use crate::rule_lines::emit_rules;
 ghost use mathlib.Core.Path.{_≡_};
 ghost use lib.ListN.{getD};
-ghost use Rattle.text.specs.Emitted.{Emitted};
+ghost use Rattle.output.specs.Emitted.{Emitted};
 ghost use Rattle.text.specs.Sources.{Sources, sourceText};
 
 fn emit_plain(rules: &[u16], names: &[u8], starts: &[u16], out: &mut [u8]) -> usize

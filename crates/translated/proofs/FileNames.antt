@@ -16,8 +16,8 @@ use Rattle.pairing.specs.Translated.{translated, translatedNames}
 use Rattle.pairing.proofs.Looped.{looped-names}
 use Rattle.pairing.proofs.PlainForm.{plain-form}
 use Rattle.pairing.proofs.PlainNames.{plain-names}
-use Rattle.text.specs.Emitted.{InRange}
-use Rattle.text.proofs.Emitting.{Ahead}
+use Rattle.output.specs.Emitted.{InRange}
+use Rattle.output.proofs.Emitting.{Ahead}
 use Rattle.translated.specs.NameBytes.{FileNames, dottedBytes, generatedBytes}
 use Rattle.translated.specs.PreferenceStore.{PreferenceStore}
 use Rattle.steps.specs.Roles.{minimisedCount, unfixedCount}

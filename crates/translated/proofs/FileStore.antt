@@ -26,8 +26,8 @@ use Rattle.pairing.proofs.Numbering.{count, minimised-first}
 use Rattle.pairing.proofs.Sums.{rules-sum}
 use Rattle.pairing.proofs.Looped.{looped-rules}
 use Rattle.pairing.proofs.PlainForm.{plain-form}
-use Rattle.text.specs.Emitted.{InRange}
-use Rattle.text.proofs.Emitting.{Ahead}
+use Rattle.output.specs.Emitted.{InRange}
+use Rattle.output.proofs.Emitting.{Ahead}
 use Rattle.steps.specs.declared.offsets.Offsets.{Offsets}
 use Rattle.steps.specs.FileRules.{FileRules}
 use Rattle.steps.specs.Offsets.{offsetsOf, Small, FileFits, ClassesFit}

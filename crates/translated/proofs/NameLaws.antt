@@ -17,8 +17,8 @@ use Rattle.name_store.specs.NameStore.{nameBytes, encodeNames, firstName, decod
 use Rattle.name_store.proofs.NameStores.{allowed-short}
 use Rattle.pairing.specs.Atoms.{decimal}
 use Rattle.pairing.specs.Loops.{dot}
-use Rattle.text.specs.Emitted.{Emitted, InRange}
-use Rattle.text.proofs.Emitting.{Ahead, Emitting, start, turn, finish, range-here}
+use Rattle.output.specs.Emitted.{Emitted, InRange}
+use Rattle.output.proofs.Emitting.{Ahead, Emitting, start, turn, finish, range-here}
 use Rattle.translated.specs.NameBytes.{FileName, FileNames, dottedBytes, endBytes}
 use Rattle.steps.specs.StepWords.{each}
 use Rattle.steps.proofs.StepLaws.{run-next, run-ends}

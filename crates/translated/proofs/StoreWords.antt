@@ -9,7 +9,7 @@ use Rattle.rules.specs.Rules.{Rule, occurrences}
 use Rattle.stores.specs.RuleStore.{ruleWords}
 use Rattle.pairing.specs.Loops.{loop1, loop2, loop3, loop4, loop5, loop6, loop789, loop10}
 use Rattle.pairing.proofs.ListLaws.{shifted}
-use Rattle.text.proofs.Emitting.{Ahead}
+use Rattle.output.proofs.Emitting.{Ahead}
 use Rattle.steps.specs.declared.offsets.Offsets.{Offsets}
 use Rattle.steps.specs.StepWords.{each, words1, words2, words3, words4, words5, classWords6, words6, words789, words10, fileWords, classWords, lastWords, stepWords}
 

@@ -1,13 +1,13 @@
 // The name store of the translation.
+use output::bytes::emit;
 use steps::classes::count_minimised;
 use steps::classes::count_unfixed;
-use text::emit::emit;
 ghost use Prim.Native.Nat.{_+_, _-_, _≤_};
 ghost use Rattle.kinds.specs.declared.limits.Kind.the-variants.{Preference};
 ghost use Rattle.rules.specs.Lists.{from};
 ghost use Rattle.stores.specs.RuleStore.{decode};
 ghost use Rattle.name_store.specs.NameStore.{NamesOf, firstName, decodeNames, encodeNames};
-ghost use Rattle.text.specs.Emitted.{Emitted, InRange};
+ghost use Rattle.output.specs.Emitted.{Emitted, InRange};
 ghost use Rattle.pairing.specs.Translated.{translatedNames};
 ghost use Rattle.translated.specs.NameBytes.{FileName, FileNames, dottedBytes, endBytes, generatedBytes};
 ghost use Rattle.translated.specs.PreferenceStore.{PreferenceStore};

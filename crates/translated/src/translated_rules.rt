@@ -1,4 +1,5 @@
 // The rule store of the translation.
+use output::words::emit;
 use steps::class_steps::step5;
 use steps::classes::count_minimised;
 use steps::classes::count_unfixed;
@@ -11,10 +12,9 @@ use steps::steps::step4;
 use steps::steps::step6;
 use steps::steps::step10;
 use steps::steps::step789;
-use steps::words::emit;
 ghost use Prim.Native.Nat.{_≤_};
 ghost use Rattle.stores.specs.RuleStore.{decode, rulesFrom, encode};
-ghost use Rattle.text.specs.Emitted.{Emitted, InRange};
+ghost use Rattle.output.specs.Emitted.{Emitted, InRange};
 ghost use Rattle.pairing.specs.Translated.{translated};
 ghost use Rattle.steps.specs.Offsets.{Small, FileFits, ClassesFit};
 ghost use Rattle.steps.specs.StepWords.{fileWords, classWords, lastWords, stepWords};

@@ -20,7 +20,7 @@ use Rattle.pairing.specs.Translated.{translated, translatedNames}
 use Rattle.pairing.proofs.PlainForm.{plain-form}
 use Rattle.pairing.proofs.PlainNames.{plain-names}
 use Rattle.text.specs.Text.{textOf}
-use Rattle.text.specs.Emitted.{Emitted}
+use Rattle.output.specs.Emitted.{Emitted}
 use Rattle.writer.specs.Answers.{fitted, fittedOutput, storesText}
 use Rattle.writer.specs.declared.Written.{Written}
 use Rattle.writer.specs.declared.Written.the-variants.{Refused}

@@ -1,9 +1,2 @@
--- The laws of texts and of writing them.
-pub mod Copying
-pub mod Emitting
-pub mod PlaceTable
-pub mod AtomItems
-pub mod RuleItems
-pub mod ClassItems
-pub mod TextParts
+-- The laws of the writer's answer.
 pub mod Writing

@@ -25,7 +25,7 @@ use Rattle.name_store.proofs.NameStores.{allowed-short, decoded-names}
 use Rattle.stores.proofs.RuleStores.{store-law, of-kind, refused}
 use Rattle.stores.proofs.StoreHeader.{atoms-small}
 use Rattle.text.specs.Text.{textOf}
-use Rattle.text.specs.Emitted.{Emitted}
+use Rattle.output.specs.Emitted.{Emitted}
 use Rattle.text.specs.Items.{storedNames, StoredNames}
 use Rattle.text.specs.Sources.{Sources, sourceText}
 use Rattle.writer.specs.Answers.{fitted, fittedOutput, storesText, writeAnswer, writeOutput}

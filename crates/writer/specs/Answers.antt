@@ -1,19 +1,16 @@
 -- What the writer answers and leaves in the lent output: refusals 10, 14, 9 in this order (document 01, "Who can be turned back").
 use Prim.Native.Nat.{ℕ}
 use mathlib.Core.Bool.{cond}
-use mathlib.Core.List.{List, [], _++_}
+use mathlib.Core.List.{List, []}
 use lib.Dec.{leb}
-use lib.ListN.{length, drop}
+use lib.ListN.{length}
 use Rattle.kinds.specs.declared.refusals.Refusal.the-variants.{Output, RuleStore, NameStore}
 use Rattle.stores.specs.RuleStore.{store?, decode}
 use Rattle.name_store.specs.NameStore.{names?, decodeNames}
+use Rattle.output.specs.Emitted.{over}
 use Rattle.text.specs.Text.{textOf}
 use Rattle.writer.specs.declared.Written.{Written}
 use Rattle.writer.specs.declared.Written.the-variants.{Text, Refused}
-
--- what is written stands at the front; the bytes past it keep their content
-abbrev pub over : List ℕ → List ℕ → List ℕ
-over w before = w ++ drop (length w) before
 
 -- a text into an output that has room for so many bytes
 abbrev pub fitted : List ℕ → ℕ → Written

@@ -14,20 +14,20 @@ returns-2 c = names-short (c .before .before .before .before .before .before .be
 put-header-requires : tie.Need-put-header-requires
 put-header-requires c κs = header-small (c .before .before .before .before .before .before .before .before .before .before .before .pre)
 
-slice-reshare-prefix-put-words : tie.Need-slice-reshare-prefix-put-words
-slice-reshare-prefix-put-words c = omega (arith, held-small (c .before .before .before .before .before .before .before .before .before .before .before .before .before .before .pre) .words, c .before .before .before .before .before .before .before .before .before .before .before .before .before .before .pre .words-room, c .before .before .put-header .kept .1 .1 .0)
-
-slice-aggregate-put-words : tie.Need-slice-aggregate-put-words
-slice-aggregate-put-words c = words-part-length (c .before .before .before .before .before .before .before .before .before .before .before .before .before .before .before .pre) (c .before .before .before .put-header .ensures)
-
-put-words-requires : tie.Need-put-words-requires
-put-words-requires c κs = words-range (c .before .before .before .before .before .before .before .before .before .before .before .before .before .before .before .before .pre) (c .before .before .before .before .put-header .ensures)
+slice-reshare-prefix-emit : tie.Need-slice-reshare-prefix-emit
+slice-reshare-prefix-emit c = omega (arith, held-small (c .before .before .before .before .before .before .before .before .before .before .before .before .before .before .pre) .words, c .before .before .before .before .before .before .before .before .before .before .before .before .before .before .pre .words-room, c .before .before .put-header .kept .1 .1 .0)
 
 slice-aggregate-emit : tie.Need-slice-aggregate-emit
-slice-aggregate-emit c = bytes-part-length (c .before .before .before .before .before .before .before .before .before .before .before .before .before .before .before .before .before .before .before .before .pre)
+slice-aggregate-emit c = words-part-length (c .before .before .before .before .before .before .before .before .before .before .before .before .before .before .before .pre) (c .before .before .before .put-header .ensures)
 
 emit-requires : tie.Need-emit-requires
-emit-requires c κs = bytes-range (c .before .before .before .before .before .before .before .before .before .before .before .before .before .before .before .before .before .before .before .before .before .pre)
+emit-requires c κs = words-range (c .before .before .before .before .before .before .before .before .before .before .before .before .before .before .before .before .pre) (c .before .before .before .before .put-header .ensures)
+
+slice-aggregate-emit-2 : tie.Need-slice-aggregate-emit-2
+slice-aggregate-emit-2 c = bytes-part-length (c .before .before .before .before .before .before .before .before .before .before .before .before .before .before .before .before .before .before .before .before .pre)
+
+emit-requires-2 : tie.Need-emit-requires-2
+emit-requires-2 c κs = bytes-range (c .before .before .before .before .before .before .before .before .before .before .before .before .before .before .before .before .before .before .before .before .before .pre)
 
 same-length : tie.Need-same-length
 same-length c = search needs
@@ -39,7 +39,7 @@ same-length-3 : tie.Need-same-length-3
 same-length-3 c = search needs
 
 returns-3 : tie.Need-returns-3
-returns-3 c = both-written (c .before .before .before .before .before .before .before .before .before .before .before .before .before .before .before .before .before .before .before .before .before .before .before .before .pre) _ _ (c .before .before .before .before .before .before .before .before .before .before .before .before .before .before .before .if1 .left) (c .before .before .before .before .before .before .before .before .before .before .before .before .before .before .if2 .left) (c .before .before .before .before .before .before .before .before .before .before .before .before .put-header .ensures) (c .before .before .before .before .before .before .before .put-words .ensures) (c .before .before .emit .ensures)
+returns-3 c = both-written (c .before .before .before .before .before .before .before .before .before .before .before .before .before .before .before .before .before .before .before .before .before .before .before .before .pre) _ _ (c .before .before .before .before .before .before .before .before .before .before .before .before .before .before .before .if1 .left) (c .before .before .before .before .before .before .before .before .before .before .before .before .before .before .if2 .left) (c .before .before .before .before .before .before .before .before .before .before .before .before .put-header .ensures) (c .before .before .before .before .before .before .before .emit .ensures) (c .before .before .emit2 .ensures)
 
 pub deliver-spec : {M : Type 1} → statement M
 deliver-spec =
@@ -48,11 +48,11 @@ deliver-spec =
     returns
     returns-2
     put-header-requires
-    slice-reshare-prefix-put-words
-    slice-aggregate-put-words
-    put-words-requires
+    slice-reshare-prefix-emit
     slice-aggregate-emit
     emit-requires
+    slice-aggregate-emit-2
+    emit-requires-2
     same-length
     same-length-2
     same-length-3

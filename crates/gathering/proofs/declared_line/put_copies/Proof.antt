@@ -15,8 +15,8 @@ abbrev μ-loop : tie.MeasureT-loop
 loop-holds : tie.Need-loop-holds Inv-loop μ-loop
 loop-holds c = (refl, copying _ _ _ _ (c .before .pre))
 
-push-word-requires : tie.Need-push-word-requires Inv-loop μ-loop
-push-word-requires c κs = copy-range (c .before .before .loop .inv .1) (c .before .loop-test .taken)
+push-requires : tie.Need-push-requires Inv-loop μ-loop
+push-requires c κs = copy-range (c .before .before .loop .inv .1) (c .before .loop-test .taken)
 
 add-i : tie.Need-add-i Inv-loop μ-loop
 add-i c = omega (arith, c .before .before .before .before .loop-test .taken)
@@ -25,7 +25,7 @@ loop-less : tie.Need-loop-less Inv-loop μ-loop
 loop-less c = omega (arith, c .before .before .before .before .loop-test .taken)
 
 loop-again : tie.Need-loop-again Inv-loop μ-loop
-loop-again c = (c .before .before .push-word .kept .1 .0 ∙ c .before .before .before .before .before .loop .inv .0, copy-again (c .before .before .before .before .before .loop .inv .1) (c .before .before .before .before .loop-test .taken) (c .before .before .push-word .ensures))
+loop-again c = (c .before .before .push .kept .1 .0 ∙ c .before .before .before .before .before .loop .inv .0, copy-again (c .before .before .before .before .before .loop .inv .1) (c .before .before .before .before .loop-test .taken) (c .before .before .push .ensures))
 
 same-length : tie.Need-same-length Inv-loop μ-loop
 same-length c = c .before .loop .inv .0
@@ -40,7 +40,7 @@ put-copies-spec =
     Inv-loop
     μ-loop
     loop-holds
-    push-word-requires
+    push-requires
     add-i
     loop-less
     loop-again

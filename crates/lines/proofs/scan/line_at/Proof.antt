@@ -3,10 +3,10 @@ use native.Mathlib.Omega.{arith}
 use mathlib.Core.Path.{_≡_}
 use lib.ListN.{length, drop}
 use borrow.Author.Needs.{needs}
-use Rattle.reader.specs.Lines.{lineLength}
-use Rattle.reader.proofs.LineBlocks.{block-passed, line-fits}
-use Rattle.reader.proofs.scan.line_at.Statement.{statement}
-use Rattle.reader.proofs.scan.line_at.Tie as tie
+use Rattle.lines.specs.Lines.{lineLength}
+use Rattle.lines.proofs.LineBlocks.{block-passed, line-fits}
+use Rattle.lines.proofs.scan.line_at.Statement.{statement}
+use Rattle.lines.proofs.scan.line_at.Tie as tie
 
 abbrev Inv-loop : tie.InvT-loop
 Inv-loop s at i₀ i = (at ≤ i) × (i ≤ length s) × (i + lineLength (drop i s) ≡ at + lineLength (drop at s))

@@ -1,6 +1,6 @@
 use borrow.Author.Needs.{needs}
-use Rattle.names.proofs.index.find.Statement.{statement}
-use Rattle.names.proofs.index.find.Tie as tie
+use Rattle.name_store.proofs.index.find.Statement.{statement}
+use Rattle.name_store.proofs.index.find.Tie as tie
 
 hash-requires : tie.Need-hash-requires
 hash-requires c κs = search needs

@@ -1,4 +1,4 @@
-use Rattle.text.proofs.Emitting.{then}
+use Rattle.output.proofs.Emitting.{then}
 use borrow.Author.Needs.{needs}
 use Rattle.numbering.proofs.entries.put_name.Statement.{statement}
 use Rattle.numbering.proofs.entries.put_name.Tie as tie

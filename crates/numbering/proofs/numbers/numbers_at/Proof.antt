@@ -2,11 +2,11 @@ use Prim.Native.Nat.{_-_}
 use mathlib.Core.Path.{_≡_, refl, ap, _∙_}
 use mathlib.Core.Logic.{⊎-elim}
 use lib.ListN.{length, length-set}
-use Rattle.names.specs.NameStore.{decodeNames}
-use Rattle.names.proofs.NamePlaces.{length-decode}
-use Rattle.writer.proofs.Emitting.{same-length as same-length-of}
-use Rattle.reader.proofs.HashedNames.{hashed-end, hashed-item, hashed-name}
-use Rattle.reader.proofs.NameNumbers.{Numbering, numbering, numbers-end, number-inside, not-declared, known-name, atom-marked, word-range, number-again, number-new}
+use Rattle.name_store.specs.NameStore.{decodeNames}
+use Rattle.name_store.proofs.NamePlaces.{length-decode}
+use Rattle.output.proofs.Emitting.{same-length as same-length-of}
+use Rattle.numbering.proofs.HashedNames.{hashed-end, hashed-item, hashed-name}
+use Rattle.numbering.proofs.NameNumbers.{Numbering, numbering, numbers-end, number-inside, not-declared, known-name, atom-marked, word-range, number-again, number-new}
 use borrow.Author.Needs.{needs}
 use native.Mathlib.Omega.{arith}
 use Rattle.numbering.proofs.numbers.numbers_at.Statement.{statement}
@@ -75,11 +75,11 @@ returns-2 c = record { says = not-declared (c .before .before .before .before .b
 mark-requires : tie.Need-mark-requires Inv-loop μ-loop
 mark-requires c κs = atom-marked (c .before .before .before .before .before .before .before .before .before .before .loop .inv .2) refl (hashed-item (c .before .before .before .before .before .before .before .before .before .before .before .before .before .before .before .before .before .before .args .line .now) (c .before .before .before .before .before .before .before .before .before .before .loop .i) (c .before .before .before .before .before .before .before .before .before .hashed-item-at .ensures) (c .before .before .before .before .before .before .before .size .given .1)) (c .before .before .before .before .find-hashed .ensures) (c .before .before .atom .given .1)
 
-cast-push-word : tie.Need-cast-push-word Inv-loop μ-loop
-cast-push-word c = omega (arith, known-name (c .before .before .before .before .before .before .before .before .before .before .before .before .before .before .loop .inv .2) refl (hashed-item (c .before .before .before .before .before .before .before .before .before .before .before .before .before .before .before .before .before .before .before .before .before .before .args .line .now) (c .before .before .before .before .before .before .before .before .before .before .before .before .before .before .loop .i) (c .before .before .before .before .before .before .before .before .before .before .before .before .before .hashed-item-at .ensures) (c .before .before .before .before .before .before .before .before .before .before .before .size .given .1)) (c .before .before .before .before .before .before .before .before .find-hashed .ensures) (c .before .before .before .before .before .before .atom .given .1) .below, c .before .before .before .before .before .before .before .before .before .before .before .before .before .before .before .before .before .before .before .before .before .before .pre .0 .1, length-decode (length (c .before .before .before .before .before .before .before .before .before .before .before .before .before .before .before .before .before .before .before .before .before .before .args .starts .now)) (c .before .before .before .before .before .before .before .before .before .before .before .before .before .before .before .before .before .before .before .before .before .before .args .bytes .now))
+cast-push : tie.Need-cast-push Inv-loop μ-loop
+cast-push c = omega (arith, known-name (c .before .before .before .before .before .before .before .before .before .before .before .before .before .before .loop .inv .2) refl (hashed-item (c .before .before .before .before .before .before .before .before .before .before .before .before .before .before .before .before .before .before .before .before .before .before .args .line .now) (c .before .before .before .before .before .before .before .before .before .before .before .before .before .before .loop .i) (c .before .before .before .before .before .before .before .before .before .before .before .before .before .hashed-item-at .ensures) (c .before .before .before .before .before .before .before .before .before .before .before .size .given .1)) (c .before .before .before .before .before .before .before .before .find-hashed .ensures) (c .before .before .before .before .before .before .atom .given .1) .below, c .before .before .before .before .before .before .before .before .before .before .before .before .before .before .before .before .before .before .before .before .before .before .pre .0 .1, length-decode (length (c .before .before .before .before .before .before .before .before .before .before .before .before .before .before .before .before .before .before .before .before .before .before .args .starts .now)) (c .before .before .before .before .before .before .before .before .before .before .before .before .before .before .before .before .before .before .before .before .before .before .args .bytes .now))
 
-push-word-requires : tie.Need-push-word-requires Inv-loop μ-loop
-push-word-requires c κs = word-range (c .before .before .before .before .before .before .before .before .before .before .before .before .before .before .before .loop .inv .2) refl (hashed-item (c .before .before .before .before .before .before .before .before .before .before .before .before .before .before .before .before .before .before .before .before .before .before .before .args .line .now) (c .before .before .before .before .before .before .before .before .before .before .before .before .before .before .before .loop .i) (c .before .before .before .before .before .before .before .before .before .before .before .before .before .before .hashed-item-at .ensures) (c .before .before .before .before .before .before .before .before .before .before .before .before .size .given .1)) (c .before .before .before .before .before .before .before .before .before .find-hashed .ensures) (c .before .before .before .before .before .before .before .atom .given .1) _
+push-requires : tie.Need-push-requires Inv-loop μ-loop
+push-requires c κs = word-range (c .before .before .before .before .before .before .before .before .before .before .before .before .before .before .before .loop .inv .2) refl (hashed-item (c .before .before .before .before .before .before .before .before .before .before .before .before .before .before .before .before .before .before .before .before .before .before .before .args .line .now) (c .before .before .before .before .before .before .before .before .before .before .before .before .before .before .before .loop .i) (c .before .before .before .before .before .before .before .before .before .before .before .before .before .before .hashed-item-at .ensures) (c .before .before .before .before .before .before .before .before .before .before .before .before .size .given .1)) (c .before .before .before .before .before .before .before .before .before .find-hashed .ensures) (c .before .before .before .before .before .before .before .atom .given .1) _
 
 loop-less : tie.Need-loop-less Inv-loop μ-loop
 loop-less c = omega (arith, number-inside (c .before .before .before .before .before .before .before .before .before .before .before .before .before .before .before .before .before .before .loop .inv .2) refl (hashed-item (c .before .before .before .before .before .before .before .before .before .before .before .before .before .before .before .before .before .before .before .before .before .before .before .before .before .before .args .line .now) (c .before .before .before .before .before .before .before .before .before .before .before .before .before .before .before .before .before .before .loop .i) (c .before .before .before .before .before .before .before .before .before .before .before .before .before .before .before .before .before .hashed-item-at .ensures) (c .before .before .before .before .before .before .before .before .before .before .before .before .before .before .before .size .given .1)))
@@ -91,7 +91,7 @@ loop-again c =
     let f = c .before .before .before .before .before .before .before .before .before .before .before .before .find-hashed .ensures in
     let g = c .before .before .before .before .before .before .before .before .before .before .atom .given .1 in
     let m = c .before .before .before .before .before .before .before .mark .ensures in
-    let w = c .before .before .push-word .ensures in (
+    let w = c .before .before .push .ensures in (
       ap length (m .1) ∙ (length-set (c .before .before .before .before .before .before .before .before .before .before .before .before .before .before .before .before .before .before .loop .marks) _ _ ∙ h .0),
       same-length-of w ∙ h .1,
       ⊎-elim (λ t. number-again (h .2) refl d f g (m .0) (m .1) w (t .0 .taken) (t .1)) (λ t. number-new (h .2) refl d f g (m .0) (m .1) w (t .0 .left) (t .1)) (c .before .before .before .before .if1 .came),
@@ -122,7 +122,7 @@ numbers-at-spec =
     same-length-4
     returns-2
     mark-requires
-    cast-push-word
-    push-word-requires
+    cast-push
+    push-requires
     loop-less
     loop-again)

@@ -1,5 +1,5 @@
 use Rattle.printing.proofs.ListedStates.{last-state, last-total, last-spent, last-refused}
-use Rattle.text.proofs.Emitting.{none, renamed, range-renamed}
+use Rattle.output.proofs.Emitting.{none, renamed, range-renamed}
 use mathlib.Core.Path.{sym}
 use borrow.Author.Needs.{needs}
 use Rattle.printing.proofs.listing.emit_last.Statement.{statement}

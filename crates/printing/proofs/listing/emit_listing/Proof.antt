@@ -1,4 +1,4 @@
-use Rattle.text.proofs.Emitting.{same-length as emitted-length}
+use Rattle.output.proofs.Emitting.{same-length as emitted-length}
 use mathlib.Core.Path.{_∙_}
 use Rattle.printing.proofs.ListedStates.{Listing, begins, passed, ended, state-small, count-small, falls, listed, state-range, few-starts, last-range, length-kept}
 use Rattle.stores.specs.RuleStore.{decode}

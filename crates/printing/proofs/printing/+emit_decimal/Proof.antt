@@ -1,6 +1,6 @@
 use Rattle.printing.proofs.PrintedLines.{one-digit, last-digit}
 use Rattle.text.proofs.AtomItems.{last-run}
-use Rattle.text.proofs.Emitting.{start, turn, finish, renamed, range-renamed, range-begin, range-here}
+use Rattle.output.proofs.Emitting.{start, turn, finish, renamed, range-renamed, range-begin, range-here}
 use mathlib.Core.Path.{refl, sym}
 use native.Mathlib.Omega.{arith}
 use borrow.Author.Needs.{needs}

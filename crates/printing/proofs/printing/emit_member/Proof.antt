@@ -1,6 +1,6 @@
 use Rattle.printing.proofs.PrintedLines.{member-out, member-in}
 use Rattle.text.proofs.AtomItems.{last-run}
-use Rattle.text.proofs.Emitting.{none, start, turn, finish, range-begin, range-here, range-renamed, renamed}
+use Rattle.output.proofs.Emitting.{none, start, turn, finish, range-begin, range-here, range-renamed, renamed}
 use mathlib.Core.Path.{refl, sym}
 use borrow.Author.Needs.{needs}
 use Rattle.printing.proofs.printing.emit_member.Statement.{statement}

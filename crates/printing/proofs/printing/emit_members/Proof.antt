@@ -1,5 +1,5 @@
 use Rattle.printing.proofs.PrintedLines.{member-next, members-end}
-use Rattle.text.proofs.Emitting.{Emitting, start, turn, finish, range-here, length-kept}
+use Rattle.output.proofs.Emitting.{Emitting, start, turn, finish, range-here, length-kept}
 use Rattle.text.specs.Items.{storedNames}
 use Rattle.printing.specs.Printed.{members}
 use lib.ListN.{length}

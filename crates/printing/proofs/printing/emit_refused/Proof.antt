@@ -1,6 +1,6 @@
 use Rattle.printing.proofs.PrintedLines.{refused-range, refused-opens, parts, one-byte}
 use Rattle.text.proofs.AtomItems.{last-run}
-use Rattle.text.proofs.Emitting.{start, turn, finish, range-here}
+use Rattle.output.proofs.Emitting.{start, turn, finish, range-here}
 use mathlib.Core.Path.{refl}
 use borrow.Author.Needs.{needs}
 use Rattle.printing.proofs.printing.emit_refused.Statement.{statement}

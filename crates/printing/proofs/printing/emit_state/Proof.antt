@@ -1,6 +1,6 @@
 use Rattle.printing.proofs.PrintedLines.{state-opens, parts}
 use Rattle.text.proofs.AtomItems.{last-run}
-use Rattle.text.proofs.Emitting.{start, turn, finish, range-begin, range-here}
+use Rattle.output.proofs.Emitting.{start, turn, finish, range-begin, range-here}
 use mathlib.Core.Path.{refl}
 use Rattle.name_store.proofs.NamePlaces.{length-decode}
 use borrow.Author.Needs.{needs}

@@ -1,5 +1,5 @@
 use Rattle.steps.proofs.ClassSteps.{ClassesLeft, classes-begin, classes-end, begins-inside, first-end, end-inside, class-range, classes-again}
-use Rattle.text.proofs.Emitting.{length-kept}
+use Rattle.output.proofs.Emitting.{length-kept}
 use native.Mathlib.Omega.{arith}
 use Prim.Native.Nat.{_+_, _-_}
 use borrow.Author.Needs.{needs}

@@ -1,6 +1,6 @@
 use Rattle.steps.proofs.StepLaws.{list-next, list-ends}
 use Rattle.steps.specs.StepWords.{each, copyOf}
-use Rattle.text.proofs.Emitting.{Emitting, start, turn, finish, range-here, length-kept}
+use Rattle.output.proofs.Emitting.{Emitting, start, turn, finish, range-here, length-kept}
 use Rattle.text.proofs.AtomItems.{all-at}
 use lib.ListN.{length, drop}
 use Prim.Native.Nat.{_≤_, _<_, _-_}

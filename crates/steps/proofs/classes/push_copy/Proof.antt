@@ -1,5 +1,5 @@
 use Rattle.steps.proofs.StepLaws.{no-copy, a-copy}
-use Rattle.text.proofs.Emitting.{none, renamed, range-renamed}
+use Rattle.output.proofs.Emitting.{none, renamed, range-renamed}
 use mathlib.Core.Path.{sym}
 use borrow.Author.Needs.{needs}
 use Rattle.steps.proofs.classes.push_copy.Statement.{statement}

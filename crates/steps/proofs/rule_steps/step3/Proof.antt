@@ -1,6 +1,6 @@
 use Rattle.steps.proofs.RuleSteps.{RulesLeft, rules-begin, rules-end, rule-stored, place-inside, rule-range, rules-again}
 use Rattle.steps.specs.StepWords.{words3}
-use Rattle.text.proofs.Emitting.{length-kept}
+use Rattle.output.proofs.Emitting.{length-kept}
 use native.Mathlib.Omega.{arith}
 use lib.ListN.{length}
 use Prim.Native.Nat.{_-_}

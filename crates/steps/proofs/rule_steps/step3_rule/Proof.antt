@@ -1,5 +1,5 @@
 use Rattle.steps.proofs.RuleSteps.{by-rule, lists-fit}
-use Rattle.text.proofs.Emitting.{renamed, range-renamed}
+use Rattle.output.proofs.Emitting.{renamed, range-renamed}
 use mathlib.Core.Path.{refl, sym}
 use borrow.Author.Needs.{needs}
 use Rattle.steps.proofs.rule_steps.step3_rule.Statement.{statement}

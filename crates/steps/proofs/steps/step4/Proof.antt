@@ -1,5 +1,5 @@
 use Rattle.steps.proofs.StepLaws.{ends-words}
-use Rattle.text.proofs.Emitting.{renamed, range-renamed}
+use Rattle.output.proofs.Emitting.{renamed, range-renamed}
 use mathlib.Core.Path.{sym}
 use borrow.Author.Needs.{needs}
 use Rattle.steps.proofs.steps.step4.Statement.{statement}

@@ -1,10 +1,10 @@
 use Rattle.steps.proofs.StepLaws.{run-next, run-ends}
 use Rattle.steps.specs.StepWords.{each, words6}
-use Rattle.text.proofs.Emitting.{Emitting, start, turn, finish, range-here, length-kept}
+use Rattle.output.proofs.Emitting.{Emitting, start, turn, finish, range-here, length-kept}
 use Rattle.rules.specs.Lists.{from}
 use Prim.Native.Nat.{_-_}
 use native.Mathlib.Omega.{arith}
-use Rattle.text.proofs.Emitting.{renamed, range-renamed}
+use Rattle.output.proofs.Emitting.{renamed, range-renamed}
 use mathlib.Core.Path.{sym}
 use Rattle.steps.proofs.StepLaws.{own-low, own-small, own-words}
 use borrow.Author.Needs.{needs}

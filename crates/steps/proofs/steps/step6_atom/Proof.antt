@@ -1,6 +1,6 @@
 use Rattle.steps.proofs.StepLaws.{first-ahead, second-ahead, third-ahead}
 use Rattle.text.proofs.AtomItems.{last-run}
-use Rattle.text.proofs.Emitting.{start, turn, finish, range-begin, range-here}
+use Rattle.output.proofs.Emitting.{start, turn, finish, range-begin, range-here}
 use mathlib.Core.Path.{refl}
 use borrow.Author.Needs.{needs}
 use Rattle.steps.proofs.steps.step6_atom.Statement.{statement}

@@ -1,6 +1,6 @@
 use Rattle.steps.proofs.StepLaws.{run-next, run-ends}
 use Rattle.steps.specs.StepWords.{each, words789}
-use Rattle.text.proofs.Emitting.{Emitting, start, turn, finish, range-here, length-kept}
+use Rattle.output.proofs.Emitting.{Emitting, start, turn, finish, range-here, length-kept}
 use Rattle.rules.specs.Lists.{from}
 use Prim.Native.Nat.{_-_}
 use borrow.Author.Needs.{needs}

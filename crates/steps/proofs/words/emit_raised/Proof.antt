@@ -1,6 +1,6 @@
 use Rattle.steps.proofs.StepLaws.{list-next, list-ends, raised-is}
 use Rattle.steps.specs.StepWords.{each, raised}
-use Rattle.text.proofs.Emitting.{Emitting, start, turn, finish, range-here, range-renamed, renamed, length-kept}
+use Rattle.output.proofs.Emitting.{Emitting, start, turn, finish, range-here, range-renamed, renamed, length-kept}
 use Rattle.text.proofs.AtomItems.{all-at}
 use mathlib.Core.Path.{sym}
 use native.Mathlib.Omega.{arith}

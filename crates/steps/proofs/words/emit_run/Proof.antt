@@ -1,6 +1,6 @@
 use Rattle.steps.proofs.StepLaws.{run-next, run-ends, single-is}
 use Rattle.steps.specs.StepWords.{each, single}
-use Rattle.text.proofs.Emitting.{Emitting, start, turn, finish, range-here, range-renamed, renamed, length-kept}
+use Rattle.output.proofs.Emitting.{Emitting, start, turn, finish, range-here, range-renamed, renamed, length-kept}
 use Rattle.rules.specs.Lists.{from}
 use mathlib.Core.Path.{sym}
 use Prim.Native.Nat.{_-_}

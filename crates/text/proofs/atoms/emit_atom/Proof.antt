@@ -1,5 +1,5 @@
 use Rattle.text.proofs.AtomItems.{atom-space, last-run}
-use Rattle.text.proofs.Emitting.{start, turn, finish, range-begin, range-here, range-renamed, renamed}
+use Rattle.output.proofs.Emitting.{start, turn, finish, range-begin, range-here, range-renamed, renamed}
 use mathlib.Core.Path.{refl, sym}
 use borrow.Author.Needs.{needs}
 use Rattle.text.proofs.atoms.emit_atom.Statement.{statement}

@@ -1,5 +1,5 @@
 use Rattle.text.proofs.AtomItems.{all-at, next-atom, no-atoms}
-use Rattle.text.proofs.Emitting.{Emitting, start, turn, finish, range-here, length-kept}
+use Rattle.output.proofs.Emitting.{Emitting, start, turn, finish, range-here, length-kept}
 use Rattle.text.specs.Items.{storedNames, atomItems}
 use lib.ListN.{length, drop}
 use native.Mathlib.Omega.{arith}

@@ -1,5 +1,5 @@
 use Rattle.text.proofs.AtomItems.{line-opens, line-lists, last-run}
-use Rattle.text.proofs.Emitting.{start, turn, finish, range-begin, range-here}
+use Rattle.output.proofs.Emitting.{start, turn, finish, range-begin, range-here}
 use mathlib.Core.Path.{refl}
 use borrow.Author.Needs.{needs}
 use Rattle.text.proofs.atoms.emit_line.Statement.{statement}

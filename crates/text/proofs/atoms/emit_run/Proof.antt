@@ -1,5 +1,5 @@
 use Rattle.text.proofs.AtomItems.{run-next, run-ends}
-use Rattle.text.proofs.Emitting.{Emitting, start, turn, finish, range-here, length-kept}
+use Rattle.output.proofs.Emitting.{Emitting, start, turn, finish, range-here, length-kept}
 use Rattle.text.specs.Items.{storedNames, atomItems}
 use Rattle.rules.specs.Lists.{from}
 use Prim.Native.Nat.{_-_}

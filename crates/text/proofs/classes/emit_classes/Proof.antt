@@ -1,5 +1,5 @@
 use Rattle.text.proofs.ClassItems.{mins-ahead, vary-before, fix-inside, vary-ahead, fix-ahead}
-use Rattle.text.proofs.Emitting.{start, turn, finish, range-begin, range-here}
+use Rattle.output.proofs.Emitting.{start, turn, finish, range-begin, range-here}
 use native.Mathlib.Omega.{arith}
 use mathlib.Core.Path.{refl}
 use borrow.Author.Needs.{needs}

@@ -1,5 +1,5 @@
 use Rattle.text.proofs.ClassItems.{MinsLeft, mins-begin, mins-end, next-class, end-inside, min-range, mins-again}
-use Rattle.text.proofs.Emitting.{length-kept}
+use Rattle.output.proofs.Emitting.{length-kept}
 use Rattle.text.specs.Items.{storedNames}
 use lib.ListN.{length}
 use native.Mathlib.Omega.{arith}

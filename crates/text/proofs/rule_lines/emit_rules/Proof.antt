@@ -1,5 +1,5 @@
 use Rattle.text.proofs.RuleItems.{RulesLeft, rules-begin, rules-end, rule-stored, place-inside, rule-range, rules-again}
-use Rattle.text.proofs.Emitting.{length-kept}
+use Rattle.output.proofs.Emitting.{length-kept}
 use Rattle.text.specs.Items.{storedNames}
 use lib.ListN.{length}
 use native.Mathlib.Omega.{arith}

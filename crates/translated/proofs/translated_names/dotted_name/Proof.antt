@@ -1,6 +1,6 @@
 use Rattle.translated.proofs.NameLaws.{dotted-ahead}
 use Rattle.text.proofs.AtomItems.{last-run}
-use Rattle.text.proofs.Emitting.{start, turn, finish, range-begin, range-here}
+use Rattle.output.proofs.Emitting.{start, turn, finish, range-begin, range-here}
 use mathlib.Core.Path.{refl}
 use borrow.Author.Needs.{needs}
 use Rattle.translated.proofs.translated_names.dotted_name.Statement.{statement}

@@ -1,5 +1,5 @@
 use Rattle.translated.proofs.NameLaws.{NamesLeft, names-begin, names-end, name-stored, name-inside, name-range, names-again}
-use Rattle.text.proofs.Emitting.{length-kept}
+use Rattle.output.proofs.Emitting.{length-kept}
 use native.Mathlib.Omega.{arith}
 use Prim.Native.Nat.{_-_}
 use borrow.Author.Needs.{needs}

@@ -1,5 +1,5 @@
 use Rattle.translated.proofs.NameLaws.{one-digit, two-digits}
-use Rattle.text.proofs.Emitting.{renamed, range-renamed}
+use Rattle.output.proofs.Emitting.{renamed, range-renamed}
 use mathlib.Core.Path.{sym}
 use borrow.Author.Needs.{needs}
 use Rattle.translated.proofs.translated_names.end_name.Statement.{statement}

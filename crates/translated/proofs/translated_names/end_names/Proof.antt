@@ -1,7 +1,7 @@
 use Rattle.translated.proofs.NameLaws.{end-next, ends-end}
 use Rattle.steps.specs.StepWords.{each}
 use Rattle.translated.specs.NameBytes.{endBytes}
-use Rattle.text.proofs.Emitting.{Emitting, start, turn, finish, range-here, length-kept}
+use Rattle.output.proofs.Emitting.{Emitting, start, turn, finish, range-here, length-kept}
 use Rattle.rules.specs.Lists.{from}
 use native.Mathlib.Omega.{arith}
 use Prim.Native.Nat.{_+_, _-_}

@@ -1,7 +1,7 @@
 use Rattle.translated.proofs.FileStore.{few-atoms, few-classes, long, few-words, low}
 use Rattle.translated.proofs.FileNames.{stored, stored-all, few-first, few-second, names-ahead, names-range}
 use Rattle.text.proofs.AtomItems.{last-run}
-use Rattle.text.proofs.Emitting.{start, turn, finish, range-begin, range-here}
+use Rattle.output.proofs.Emitting.{start, turn, finish, range-begin, range-here}
 use mathlib.Core.Path.{refl}
 use native.Mathlib.Omega.{arith}
 use borrow.Author.Needs.{needs}

@@ -1,6 +1,6 @@
 use Rattle.translated.proofs.FileStore.{few-atoms, few-classes, few-rules, long, few-words, low, few-m, few-q, small, file-fits, classes-fit, header-ahead, store-range}
 use Rattle.text.proofs.AtomItems.{last-run}
-use Rattle.text.proofs.Emitting.{start, turn, finish, range-begin, range-here}
+use Rattle.output.proofs.Emitting.{start, turn, finish, range-begin, range-here}
 use mathlib.Core.Path.{refl}
 use native.Mathlib.Omega.{arith}
 use borrow.Author.Needs.{needs}

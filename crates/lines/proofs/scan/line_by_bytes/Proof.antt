@@ -1,0 +1,66 @@
+use Prim.Native.Nat.{_≤_, _-_, _+_}
+use native.Mathlib.Omega.{arith}
+use mathlib.Core.Path.{_≡_}
+use lib.ListN.{length, drop}
+use borrow.Author.Needs.{needs}
+use Rattle.lines.specs.Lines.{lineLength}
+use Rattle.lines.proofs.Scanning.{line-ends, line-goes-on, line-out}
+use Rattle.lines.proofs.scan.line_by_bytes.Statement.{statement}
+use Rattle.lines.proofs.scan.line_by_bytes.Tie as tie
+
+abbrev Inv-loop : tie.InvT-loop
+Inv-loop s at i₀ i = (at ≤ i) × (i ≤ length s) × (i + lineLength (drop i s) ≡ at + lineLength (drop at s))
+
+abbrev μ-loop : tie.MeasureT-loop
+μ-loop s at i₀ i = length s - i
+
+loop-holds : tie.Need-loop-holds Inv-loop μ-loop
+loop-holds c = search needs
+
+shared-slice-read-if1 : tie.Need-shared-slice-read-if1 Inv-loop μ-loop
+shared-slice-read-if1 c = search needs
+
+add-result : tie.Need-add-result Inv-loop μ-loop
+add-result c = search needs
+
+sub-result : tie.Need-sub-result Inv-loop μ-loop
+sub-result c = search needs
+
+returns : tie.Need-returns Inv-loop μ-loop
+returns c =
+    let h = c .before .before in
+    omega (arith, line-ends (h .before .before .args .s .now) (h .before .loop .i) (h .loop-test .taken) (c .if1 .taken))
+
+add-i : tie.Need-add-i Inv-loop μ-loop
+add-i c = search needs
+
+loop-less : tie.Need-loop-less Inv-loop μ-loop
+loop-less c = search needs
+
+loop-again : tie.Need-loop-again Inv-loop μ-loop
+loop-again c =
+    let h = c .before .before in
+    omega (arith, line-goes-on (h .before .before .args .s .now) (h .before .loop .i) (h .loop-test .taken) (c .if1 .left))
+
+sub-result-2 : tie.Need-sub-result-2 Inv-loop μ-loop
+sub-result-2 c = search needs
+
+returns-2 : tie.Need-returns-2 Inv-loop μ-loop
+returns-2 c = omega (arith, line-out (c .before .before .args .s .now) (c .before .loop .i) (c .loop-test .left))
+
+pub line-by-bytes-spec : {M : Type 1} → statement M
+line-by-bytes-spec =
+    tie.close
+    (tie.spec
+    Inv-loop
+    μ-loop
+    loop-holds
+    shared-slice-read-if1
+    add-result
+    sub-result
+    returns
+    add-i
+    loop-less
+    loop-again
+    sub-result-2
+    returns-2)

@@ -1,0 +1,2 @@
+-- What writing leaves in an output.
+pub mod Emitted

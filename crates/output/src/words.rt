@@ -1,0 +1,27 @@
+// The words of a rule store.
+ghost use mathlib.Core.List.{[], _∷_};
+ghost use Rattle.output.specs.Emitted.{Emitted, InRange};
+
+pub fn push(word: u16, out: &mut [u16], at: usize) -> usize
+    requires { ⌜ InRange at (word ∷ []) ⌝ }
+    ensures { λ r. ⌜ Emitted (now (out .entry)) at (word ∷ []) (now (out .exit)) r ⌝ }
+{
+    if at < out.len() {
+        out[at] = word;
+        return at + 1;
+    }
+    at + 1
+}
+
+pub fn emit(words: &[u16], out: &mut [u16], at: usize) -> usize
+    requires { ⌜ InRange at (now words) ⌝ }
+    ensures { λ r. ⌜ Emitted (now (out .entry)) at (now (words .entry)) (now (out .exit)) r ⌝ }
+{
+    let mut next = at;
+    let mut i: usize = 0;
+    while i < words.len() {
+        next = push(words[i], out, next);
+        i += 1;
+    }
+    next
+}
