@@ -10,19 +10,19 @@ use lib.Seq.{drop-cons, take-suc, take-all, set-at, append-snoc, length-take-le,
 use borrow.Rule.Slice.PartMut.{midOf, postOf, putMid}
 
 -- the first i elements of s over those of d
-abbrev over : List ℕ → List ℕ → ℕ → List ℕ
-over s d i = take i s ++ drop i d
+abbrev overlaid : List ℕ → List ℕ → ℕ → List ℕ
+overlaid s d i = take i s ++ drop i d
 
-over-next : (s d : List ℕ) (i : ℕ) → i < length s → i < length d → set (over s d i) i (getD s i 0) ≡ over s d (i + 1)
-over-next s d i l k =
+overlaid-next : (s d : List ℕ) (i : ℕ) → i < length s → i < length d → set (overlaid s d i) i (getD s i 0) ≡ overlaid s d (i + 1)
+overlaid-next s d i l k =
     ap (λ (r : List ℕ). set (take i s ++ r) i (getD s i 0)) (drop-cons d i 0 k)
     ∙ set-at (take i s) (getD d i 0) (drop (suc i) d) (getD s i 0) i (length-take-le i s (omega arith))
     ∙ sym (append-snoc (take i s) (getD s i 0) (drop (suc i) d))
     ∙ ap (λ (r : List ℕ). r ++ drop (suc i) d) (sym (take-suc s i 0 l))
-    ∙ ap (over s d) (sym (add-one i))
+    ∙ ap (overlaid s d) (sym (add-one i))
 
-over-all : (s d : List ℕ) (i : ℕ) → length d ≡ length s → length s ≤ i → over s d i ≡ s
-over-all s d i e l =
+overlaid-all : (s d : List ℕ) (i : ℕ) → length d ≡ length s → length s ≤ i → overlaid s d i ≡ s
+overlaid-all s d i e l =
     let m : length d ≤ i = omega arith in
     ap₂ (λ (a b : List ℕ). a ++ b) (take-all i s l) (drop-of-length-le d m) ∙ append-nil s
 
@@ -31,7 +31,7 @@ pub record Copying (s d now : List ℕ) (i : ℕ) : Type 0 where
   pub as-long : length d ≡ length s
   pub kept : length now ≡ length s
   pub within : i ≤ length s
-  pub so : now ≡ over s d i
+  pub so : now ≡ overlaid s d i
 
 pub start : {s d : List ℕ} → length d ≡ length s → Copying s d d 0
 start e = record { as-long = e; kept = e; within = omega arith; so = refl }
@@ -43,11 +43,11 @@ module _ {s d now : List ℕ} {i : ℕ} (h : Copying s d now i) where
         as-long = h .as-long;
         kept = length-set now i (getD s i 0) ∙ h .kept;
         within = omega arith;
-        so = ap (λ (r : List ℕ). set r i (getD s i 0)) (h .so) ∙ over-next s d i l (omega arith);
+        so = ap (λ (r : List ℕ). set r i (getD s i 0)) (h .so) ∙ overlaid-next s d i l (omega arith);
       }
 
   pub finish : length s ≤ i → now ≡ s
-  finish l = h .so ∙ over-all s d i (h .as-long) l
+  finish l = h .so ∙ overlaid-all s d i (h .as-long) l
 
 -- the first k elements, stored one by one
 abbrev elements : ℕ → ℕ → List ℕ → List ℕ
@@ -64,7 +64,7 @@ stored-below k s d = lt-length-sets d 0 (elements k 0 s)
 pub stored-length : (k : ℕ) (s d : List ℕ) → length (sets d 0 (elements k 0 s)) ≡ length d
 stored-length k s d = length-sets d 0 (elements k 0 s)
 
-pub first-stored : (k : ℕ) (s d : List ℕ) → k ≤ length s → k ≤ length d → sets d 0 (elements k 0 s) ≡ over s d k
+pub first-stored : (k : ℕ) (s d : List ℕ) → k ≤ length s → k ≤ length d → sets d 0 (elements k 0 s) ≡ overlaid s d k
 first-stored k s d l m =
     let e : elements k 0 s ≡ take k s = elements-taken k 0 s (omega arith) in
     let n : length (elements k 0 s) ≡ k = ap length e ∙ length-take-le k s l in
@@ -81,7 +81,7 @@ rest-gone i k s l = let m : length (drop i s) ≤ k = omega (arith, length-drop 
 
 -- the first k elements, then the last k: all of them, where they meet
 module _ (k : ℕ) (s d : List ℕ) (e : length d ≡ length s) (l : k ≤ length s) (m : length s ≤ k + k) where
-  pub both-ends : (now tail : List ℕ) → now ≡ over s d k → tail ≡ over (midOf (length s - k) (length s - (length s - k)) s) (midOf (length s - k) (length now - (length s - k)) now) k
+  pub both-ends : (now tail : List ℕ) → now ≡ overlaid s d k → tail ≡ overlaid (midOf (length s - k) (length s - (length s - k)) s) (midOf (length s - k) (length now - (length s - k)) now) k
       → putMid (length s - k) (length now - (length s - k)) now tail ≡ s
   both-ends now tail p q =
       let i : ℕ = length s - k in

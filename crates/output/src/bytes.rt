@@ -42,7 +42,7 @@ fn copy(bytes: &[u8], part: &mut [u8])
     }
 }
 
-// For words that the compiler knows: it makes one store of a few bytes.
+// For words whose length the compiler knows: it makes a few wide stores of them.
 pub fn emit(bytes: &[u8], out: &mut [u8], at: usize) -> usize
     requires { ⌜ InRange at (now bytes) ⌝ }
     ensures { λ r. ⌜ Emitted (now (out .entry)) at (now (bytes .entry)) (now (out .exit)) r ⌝ }
@@ -134,7 +134,7 @@ fn copy_name(bytes: &[u8], part: &mut [u8])
     copy(bytes, part);
 }
 
-// For names, whose lengths the compiler does not know.
+// For names, whose lengths it does not know.
 pub fn emit_name(bytes: &[u8], out: &mut [u8], at: usize) -> usize
     requires { ⌜ InRange at (now bytes) ⌝ }
     ensures { λ r. ⌜ Emitted (now (out .entry)) at (now (bytes .entry)) (now (out .exit)) r ⌝ }

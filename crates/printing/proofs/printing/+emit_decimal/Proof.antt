@@ -10,7 +10,7 @@ use borrow.Fn.PlainCycle.{Measures, is, falls, and}
 use Rattle.printing.proofs.printing.emit_decimal.Reads as emit-decimal
 use Rattle.printing.proofs.printing.emit_decimal.Kinds as emit-decimal-kinds
 use Rattle.printing.proofs.printing.+emit_decimal.Lts-emit_decimal as emit-decimal-lts
-use Rattle.text.proofs.emit.push.Reads as push-reads
+use Rattle.output.proofs.bytes.push.Reads as push-reads
 use Rattle.printing.proofs.printing.+emit_decimal.{statement}
 use Rattle.printing.proofs.printing.+emit_decimal.Tie.{close}
 
