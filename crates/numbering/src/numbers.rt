@@ -97,8 +97,8 @@ pub fn numbers_at(
         };
         let start = i + 1;
         let to = start + size;
-        let name = &line[start..to];
-        let Found::At(atom) = index::find_hashed(bytes, starts, heads, next, name, hash) else {
+        let Found::At(atom) = index::find_hashed(bytes, starts, heads, next, &line[start..to], hash)
+        else {
             return Numbers::Undeclared;
         };
         if mark(marks, atom, stamp) {

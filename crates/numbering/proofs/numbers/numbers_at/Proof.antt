@@ -45,14 +45,14 @@ add-start c = omega (arith, number-inside (c .before .before .before .before .lo
 add-to : tie.Need-add-to Inv-loop μ-loop
 add-to c = omega (arith, number-inside (c .before .before .before .before .loop .inv .2) refl (hashed-item (c .before .before .before .before .before .before .before .before .before .before .before .before .args .line .now) (c .before .before .before .before .loop .i) (c .before .before .before .hashed-item-at .ensures) (c .before .size .given .1)))
 
-sub-name : tie.Need-sub-name Inv-loop μ-loop
-sub-name c = search needs
+sub-find-hashed : tie.Need-sub-find-hashed Inv-loop μ-loop
+sub-find-hashed c = search needs
 
-part-name-start : tie.Need-part-name-start Inv-loop μ-loop
-part-name-start c = search needs
+part-find-hashed-start : tie.Need-part-find-hashed-start Inv-loop μ-loop
+part-find-hashed-start c = search needs
 
-part-name-end : tie.Need-part-name-end Inv-loop μ-loop
-part-name-end c = omega (arith, number-inside (c .before .before .before .before .loop .inv .2) refl (hashed-item (c .before .before .before .before .before .before .before .before .before .before .before .before .args .line .now) (c .before .before .before .before .loop .i) (c .before .before .before .hashed-item-at .ensures) (c .before .size .given .1)))
+part-find-hashed-end : tie.Need-part-find-hashed-end Inv-loop μ-loop
+part-find-hashed-end c = omega (arith, number-inside (c .before .before .before .before .loop .inv .2) refl (hashed-item (c .before .before .before .before .before .before .before .before .before .before .before .before .args .line .now) (c .before .before .before .before .loop .i) (c .before .before .before .hashed-item-at .ensures) (c .before .size .given .1)))
 
 find-hashed-requires : tie.Need-find-hashed-requires Inv-loop μ-loop
 find-hashed-requires c κs = (c .before .before .before .before .before .before .before .before .before .before .before .before .before .pre .1 .0, hashed-name (c .before .before .before .before .before .before .before .before .before .before .before .before .before .args .line .now) (c .before .before .before .before .before .loop .i) (c .before .before .before .before .hashed-item-at .ensures) (c .before .before .size .given .1))
@@ -112,9 +112,9 @@ numbers-at-spec =
     returns
     add-start
     add-to
-    sub-name
-    part-name-start
-    part-name-end
+    sub-find-hashed
+    part-find-hashed-start
+    part-find-hashed-end
     find-hashed-requires
     enum-known-atom
     enum-told-2
