@@ -15,6 +15,7 @@ use Rattle.kinds.specs.declared.refusals.Refusal.{Refusal}
 use Rattle.kinds.specs.declared.refusals.Refusal.the-variants.{Form as BrokenForm, Name, DeclaredTwice, Limit}
 use Rattle.rules.specs.Lists.{some, flat}
 use Rattle.rules.proofs.Lists.{all-app-r}
+use Rattle.rules.proofs.Booleans.{both-true}
 use Rattle.names.specs.Names.{allowed}
 use Rattle.name_store.specs.NameStore.{decodeNames}
 use Rattle.name_store.specs.NameIndex.{Indexed}
@@ -32,7 +33,7 @@ use Rattle.lines.specs.Faults.{State, next, fault, expects, ruling?, classesAft
 use Rattle.lines.specs.Shapes.{wordOf, Declared}
 use Rattle.numbering.specs.Entries.{Room, Stored, Short, AllEntered, SomeEntered, among}
 use Rattle.gathering.specs.Gathered.{storedWords, Filled, Held, LineSays, LineIs, firstLine, countsIf, withNames, keptNames, KeptNames, pastRefusal}
-use Rattle.gathering.proofs.HeldState.{fill-more, held-is, held-small}
+use Rattle.gathering.proofs.HeldState.{fill-more, held-is, held-small, atoms-small}
 use Rattle.numbering.proofs.NewNames.{decoded}
 use Rattle.numbering.proofs.Entering.{twice-split, twice-apart}
 
@@ -66,14 +67,6 @@ expected Preference Ruling w e = absurd (let z : _≡_ {A = ℕ} 0 1 = cc in ome
 class-room : (kind : Kind) (n : ℕ) → n ≤ atomLimit kind → 4 + wordCount kind n ≤ 36604
 class-room Plain n h = omega arith
 class-room Preference n h = omega arith
-
-atoms-small : (kind : Kind) → atomLimit kind ≤ 1100
-atoms-small Plain = omega arith
-atoms-small Preference = omega arith
-
-both : (a b : Bool) → (a && b) ≡ true → (a ≡ true) × (b ≡ true)
-both true b e = (refl, e)
-both false b e = absurd (let z : _≡_ {A = ℕ} 0 1 = cc in omega arith)
 
 module _ {kind : Kind} {st : State} {g : Gathered} {words bytes starts heads links marks : List ℕ} (h : Held kind st g words bytes starts heads links marks)
     {l : List ℕ} {f : Form} {word : Keyword} {from count : ℕ} {refused : Bool} (p : Declared kind l f word from count refused) where
@@ -248,7 +241,7 @@ module _ {kind : Kind} {st : State} {g : Gathered} {words bytes starts heads lin
                   → LineSays kind st f words₂ bytes′ starts′ heads′ links′ marks o
               go false q z y v = subst (LineSays kind st f words₂ bytes′ starts′ heads′ links′ marks) (sym y) z
               go true q z y v =
-                  let within = both (leb n (atomLimit kind)) (leb (classesAfter w (g .classes)) classLimit) q in
+                  let within = both-true (leb n (atomLimit kind)) (leb (classesAfter w (g .classes)) classLimit) q in
                   let held = declared-held (leb-true n (atomLimit kind) (within .0)) (leb-true (classesAfter w (g .classes)) classLimit (within .1)) (v ∙ ap (λ j. sets words (g .words) (countsIf j (classWords w (g .classes) count))) y) in
                   let is = held-is held in
                   subst (LineSays kind st f words₂ bytes′ starts′ heads′ links′ marks) (sym y)

@@ -1,5 +1,5 @@
 -- The scratch decodes to the state that it holds, and a list written behind what is filled.
-use Prim.Native.Nat.{ℕ, suc, _+_, _*_, _≤_}
+use Prim.Native.Nat.{ℕ, suc, _+_, _≤_}
 use native.Mathlib.Omega.{arith}
 use mathlib.Core.Path.{_≡_, refl, sym, ap, ap₂, _∙_}
 use mathlib.Core.List.{List, [], _∷_, _++_, append-assoc, append-nil}
@@ -82,18 +82,11 @@ pub flat-last : (rs : List (Rule ℕ)) (r : Rule ℕ) → flat ruleWords (rs ++ 
 flat-last [] r = append-nil (ruleWords r)
 flat-last (s ∷ rs) r = ap (λ l. ruleWords s ++ l) (flat-last rs r) ∙ sym (append-assoc (ruleWords s) (flat ruleWords rs) (ruleWords r))
 
-rule-length : (r : Rule ℕ) → length (ruleWords r) ≡ 3 + occurrences r
-rule-length r = omega (arith, length-append (r .head) (r .body ++ r .nots), length-append (r .body) (r .nots))
-
-pub rules-length : (rs : List (Rule ℕ)) → length (flat ruleWords rs) ≡ 3 * length rs + sum occurrences rs
-rules-length [] = refl
-rules-length (r ∷ rs) = omega (arith, length-append (ruleWords r) (flat ruleWords rs), rule-length r, rules-length rs)
-
 pub sum-last : (rs : List (Rule ℕ)) (r : Rule ℕ) → sum occurrences (rs ++ (r ∷ [])) ≡ sum occurrences rs + occurrences r
 sum-last [] r = omega arith
 sum-last (s ∷ rs) r = omega (arith, sum-last rs r)
 
-atoms-small : (kind : Kind) → atomLimit kind ≤ 1100
+pub atoms-small : (kind : Kind) → atomLimit kind ≤ 1100
 atoms-small Plain = omega arith
 atoms-small Preference = omega arith
 

@@ -10,6 +10,7 @@ use Rattle.kinds.specs.Limits.{ruleLimit, occurrenceLimit}
 use Rattle.kinds.specs.declared.limits.Kind.{Kind}
 use Rattle.kinds.specs.declared.limits.Kind.the-variants.{Plain, Preference}
 use Rattle.kinds.specs.declared.refusals.Refusal.the-variants.{Limit, FilledNot}
+use Rattle.rules.proofs.Booleans.{both-true}
 use Rattle.output.specs.Emitted.{Emitted}
 use Rattle.gathering.specs.declared.gathered.Gathered.{Gathered}
 use Rattle.gathering.specs.declared.gathered.Line.the-variants.{Next, Fault}
@@ -31,13 +32,9 @@ module _ (kind : Kind) (rules occurrences : ℕ) where
   pub rules-in : {limit : ℕ} → limit ≡ ruleLimit kind → rules ≤ limit → {most : ℕ} → most ≡ occurrenceLimit kind → leb occurrences most ≡ (leb rules (ruleLimit kind) && leb occurrences (occurrenceLimit kind))
   rules-in e l f = let g = le-leb rules (ruleLimit kind) (omega arith) in rw (g, f)
 
-both : (a b : Bool) → (a && b) ≡ true → (a ≡ true) × (b ≡ true)
-both true b e = (refl, e)
-both false b e = absurd (let z : _≡_ {A = ℕ} 0 1 = cc in omega arith)
-
 pub limits-kept : (kind : Kind) (rules occurrences : ℕ) {fits : Bool} → fits ≡ (leb rules (ruleLimit kind) && leb occurrences (occurrenceLimit kind)) → not fits ≡ false → (rules ≤ ruleLimit kind) × (occurrences ≤ occurrenceLimit kind)
 limits-kept kind rules occurrences {fits} e d =
-    let t = both (leb rules (ruleLimit kind)) (leb occurrences (occurrenceLimit kind)) (sym e ∙ not-false fits d) in
+    let t = both-true (leb rules (ruleLimit kind)) (leb occurrences (occurrenceLimit kind)) (sym e ∙ not-false fits d) in
     (leb-true rules (ruleLimit kind) (t .0), leb-true occurrences (occurrenceLimit kind) (t .1))
 
 module _ (kind : Kind) (g : Gathered) (heads bodies nots end : ℕ) (before : List ℕ) {fits : Bool}

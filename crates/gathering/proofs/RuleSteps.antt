@@ -17,6 +17,7 @@ use Rattle.kinds.specs.declared.refusals.Refusal.the-variants.{Form as BrokenFo
 use Rattle.rules.specs.Lists.{some, sum, flat}
 use Rattle.rules.specs.Rules.{Rule, occurrences}
 use Rattle.stores.specs.RuleStore.{ruleWords, wordCount}
+use Rattle.stores.proofs.RuleStores.{rules-length}
 use Rattle.gathering.specs.declared.gathered.Gathered.{Gathered}
 use Rattle.gathering.specs.declared.gathered.Line.{Line}
 use Rattle.gathering.specs.declared.gathered.Line.the-variants.{Next}
@@ -29,7 +30,7 @@ use Rattle.lines.specs.Shapes.{Ruled}
 use Rattle.numbering.specs.Numbers.{ruleNumbers, RuleNumbered, RuleNumbersSay, RuleNumbersIs}
 use Rattle.gathering.specs.Gathered.{storedWords, Filled, Held, LineSays, LineIs, filledCount, firstLine, withRule, countsIf, keptRule, Kept}
 use Rattle.gathering.proofs.KeptRules.{limits-kept}
-use Rattle.gathering.proofs.HeldState.{fill-more, held-is, flat-last, rules-length, sum-last}
+use Rattle.gathering.proofs.HeldState.{fill-more, held-is, flat-last, sum-last}
 
 -- the counts are written after the numbers behind them
 

@@ -10,6 +10,7 @@ use lib.Seq.{drop-drop}
 use Rattle.kinds.specs.declared.limits.Kind.{Kind}
 use Rattle.kinds.specs.declared.limits.Kind.the-variants.{Plain, Preference}
 use Rattle.rules.specs.Lists.{every, some}
+use Rattle.rules.proofs.Booleans.{or-assoc, or-true, or-false}
 use Rattle.names.specs.declared.forms.NameClass.{NameClass}
 use Rattle.names.specs.declared.forms.NameClass.the-variants.{House, Generated, TooLong, Wrong}
 use Rattle.names.specs.Names.{nameClass, takes, allowed}
@@ -63,14 +64,6 @@ pub record Naming (kind : Kind) (s : List ℕ) (from end count : ℕ) (refused :
   pub few : count ≤ end
   pub left : namesLeft kind from end count refused (items (drop end s)) ≡ namesShape kind from (drop from s)
 
-or-end : (x : Bool) → (x || false) ≡ x
-or-end true = refl
-or-end false = refl
-
-or-assoc : (x y z : Bool) → (x || (y || z)) ≡ ((x || y) || z)
-or-assoc true y z = refl
-or-assoc false y z = refl
-
 module _ (kind : Kind) (s : List ℕ) (from : ℕ) where
   pub begins-naming : from ≤ length s → Naming kind s from from 0 false
   unfolding namesLeft namesShape
@@ -80,7 +73,7 @@ module _ {kind : Kind} {s : List ℕ} {from end count : ℕ} {refused : Bool} (h
   pub names-end : r ≡ Stop → Found.List from end count refused ≡ namesShape kind from (drop from s)
   unfolding namesLeft span
   names-end d =
-      let none : namesLeft kind from end count refused [] ≡ Found.List from end count refused = simp (add-zero, or-end) in
+      let none : namesLeft kind from end count refused [] ≡ Found.List from end count refused = simp (add-zero, or-false) in
       sym none ∙ ap (namesLeft kind from end count refused) (sym (items-end s end e d)) ∙ h .left
 
   module _ {n : ℕ} (d : r ≡ At n) where
@@ -114,15 +107,11 @@ module _ {kind : Kind} {s : List ℕ} {from end count : ℕ} {refused : Bool} (h
 
       pub name-taken : q ≡ Fit.Taken → {b : Bool} → b ≡ refused → Naming kind s from (end + 1 + n) (count + 1) b
       unfolding allowed
-      name-taken g p = let t = fit-says kind x f g in on (t .0) (p ∙ sym (ap (λ (y : Bool). refused || y) (t .1) ∙ or-end refused))
+      name-taken g p = let t = fit-says kind x f g in on (t .0) (p ∙ sym (ap (λ (y : Bool). refused || y) (t .1) ∙ or-false refused))
 
       pub name-refused : q ≡ Fit.Refused → {b : Bool} → b ≡ true → Naming kind s from (end + 1 + n) (count + 1) b
       unfolding allowed
       name-refused g p = let t = fit-says kind x f g in on (t .0) (p ∙ sym (ap (λ (y : Bool). refused || y) (t .1) ∙ or-true refused))
-        where
-          or-true : (y : Bool) → (y || true) ≡ true
-          or-true true = refl
-          or-true false = refl
 
 -- a tag and the names after it
 

@@ -1,20 +1,20 @@
 -- Lines, runs and items by their places.
 use Prim.Native.Nat.{ℕ, zero, suc, _+_, _-_, _<_, _≤_, zero-le}
 use native.Mathlib.Numerals.{add-one}
-use native.Mathlib.Nat.{add-sub-cancel-left}
 use native.Mathlib.Omega.{arith}
 use mathlib.Core.Path.{_≡_, refl, sym, ap, ap₂, _∙_}
 use mathlib.Core.List.{List, [], _∷_}
 use mathlib.Core.Bool.{Bool, true, false, cond}
 use lib.Dec.{eqb}
 use lib.ListN.{length, getD, take, drop, length-drop, drop-of-length-le}
-use lib.Seq.{drop-cons, take-all, drop-drop, length-take-le}
+use lib.Seq.{drop-cons, drop-drop, length-take-le}
 use borrow.Author.Tests.{eq-eqb, ne-eqb}
 use Rattle.lines.specs.declared.scan.Item.{Item}
 use Rattle.lines.specs.declared.scan.Item.the-variants.{At, Stop}
 use Rattle.lines.specs.Lines.{lineLength}
 use Rattle.lines.specs.Items.{delimiter?, run, itemsFrom, items, span}
 use Rattle.lines.specs.Shapes.{itemOf}
+use Rattle.rules.proofs.Lists.{part-sized}
 
 -- a line
 module _ (s : List ℕ) (i : ℕ) where
@@ -92,13 +92,7 @@ no-item (b ∷ s) e = go (eqb b 32) e
     go true e = absurd (let z : _≡_ {A = ℕ} 0 1 = cc in omega arith)
     go false e = refl
 
--- a part from a to a + n
-pub part-sized : (a n : ℕ) (l : List ℕ) → take (a + n - a) l ≡ take n l
-part-sized a n l = rw add-sub-cancel-left
 
--- a part to the end of the list is what is left of it
-pub part-rest : (k : ℕ) (l : List ℕ) → take (length l - k) (drop k l) ≡ drop k l
-part-rest k l = take-all (length l - k) (drop k l) (omega (arith, length-drop k l))
 
 -- at each step of a walk over items
 module _ (s : List ℕ) (i : ℕ) {r : Item} (e : r ≡ itemOf (drop i s)) where

@@ -13,6 +13,7 @@ use borrow.Author.Tests.{ne-eqb, eq-eqb, eqb-true, leb-true, le-leb}
 use Rattle.kinds.specs.Limits.{classLimit}
 use Rattle.rules.specs.Lists.{keep, filter, from}
 use Rattle.rules.specs.Preferred.{varying, fixed, ofClass}
+use Rattle.rules.proofs.Booleans.{both-true}
 use Rattle.stores.specs.Program.{roleOf}
 use Rattle.stores.specs.declared.roles.Role.{Role}
 use Rattle.stores.specs.declared.roles.Role.the-variants.{Minimised, Varying, Fixed, Unknown}
@@ -51,10 +52,6 @@ picks-other true q r w e = absurd (let z : _≡_ {A = ℕ} 0 1 = cc in omega ari
 picks-other false true r w e = absurd (let z : _≡_ {A = ℕ} 0 1 = cc in omega arith)
 picks-other false false true w e = absurd (let z : _≡_ {A = ℕ} 0 1 = cc in omega arith)
 picks-other false false false w e = (refl, refl)
-
-both-true : (a b : Bool) → (a && b) ≡ true → (a ≡ true) × (b ≡ true)
-both-true true b e = (refl, e)
-both-true false b e = absurd (let z : _≡_ {A = ℕ} 0 1 = cc in omega arith)
 
 module _ (w bit : ℕ) (ks : List ℕ) (r : Role) (e : r ≡ roleOf w) where
   kept : class? w ≡ false → ks ≡ noted w bit ks

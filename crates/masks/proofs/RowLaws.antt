@@ -12,6 +12,7 @@ use lib.Seq.{drop-cons, drop-drop, set-at, length-take-le, append-snoc, take-suc
 use Rattle.rules.specs.Rules.{Rule, rule}
 use Rattle.stores.specs.RuleStore.{places, ruleAt, rulesFrom}
 use Rattle.stores.proofs.RulePlace.{places-at, rule-at}
+use Rattle.stores.proofs.RuleStores.{rules-count}
 use Rattle.masks.specs.Masks.{maskOf, live, careOf, wantOf, filled}
 use Rattle.masks.specs.Rows.{Row, Rows, ReadRule}
 
@@ -81,11 +82,6 @@ part-more d s j v hd hs e =
     ∙ ap (λ (l : List ℕ). l ++ drop (suc j) d) (sym (take-suc s j 0 hs))
     ∙ ap (λ (k : ℕ). take k s ++ drop k d) (sym (add-one j))
 
-pub length-rules : (r : ℕ) (ws : List ℕ) → length (rulesFrom r ws) ≡ r
-unfolding rulesFrom
-length-rules zero ws = refl
-length-rules (suc r) ws = ap suc (length-rules r (drop (3 + places ws) ws))
-
 module _ (ws : List ℕ) (start rules m : ℕ) (c₀ w₀ : List ℕ) where
   abbrev All-rules : List (Rule ℕ)
   All-rules = rulesFrom rules (drop start ws)
@@ -125,7 +121,7 @@ module _ (ws : List ℕ) (start rules m : ℕ) (c₀ w₀ : List ℕ) where
     cons k = ap (λ (x : List ℕ). ruleAt (drop at ws) ∷ rulesFrom k x) (drop-drop (3 + places (drop at ws)) at ws)
 
     in-rules : j < length All-rules
-    in-rules = omega (arith, length-rules rules (drop start ws))
+    in-rules = omega (arith, rules-count rules (drop start ws))
 
     parts : ruleAt (drop at ws) ∷ rulesFrom (rules - (j + 1)) (drop (at + (3 + places (drop at ws))) ws) ≡ getD All-rules j (ruleAt (drop at ws)) ∷ drop (suc j) All-rules
     parts = sym (f .ends ∙ ap (λ (k : ℕ). rulesFrom k (drop at ws)) less ∙ cons (rules - (j + 1))) ∙ drop-cons All-rules j (ruleAt (drop at ws)) in-rules
@@ -158,7 +154,7 @@ module _ (ws : List ℕ) (start rules m : ℕ) (c₀ w₀ : List ℕ) where
 
   whole : (d : List ℕ) (g : Rule ℕ → ℕ) → part d (map g All-rules) rules ≡ filled d (map g All-rules)
   whole d g =
-      let e : length (map g All-rules) ≡ rules = length-map All-rules g ∙ length-rules rules (drop start ws) in
+      let e : length (map g All-rules) ≡ rules = length-map All-rules g ∙ rules-count rules (drop start ws) in
       ap₂ (λ (x : List ℕ) (k : ℕ). x ++ drop k d) (take-all rules (map g All-rules) (omega arith)) (sym e)
 
   pub fill-ends : (cs wants : List ℕ) (at j : ℕ) → Filling cs wants at j → rules ≤ j

@@ -11,7 +11,7 @@ use lib.Dec.{T, eqb}
 use lib.ListN.{length, getD}
 use borrow.Author.Tests.{eqb-true, eqb-false}
 use Rattle.rules.specs.Lists.{All, Distinct, some}
-use Rattle.rules.proofs.Booleans.{T-or}
+use Rattle.rules.proofs.Booleans.{T-or, is-true, is-false}
 use Rattle.name_store.specs.NameStore.{decodeNames, sameBytes}
 use Rattle.name_store.specs.NameIndex.{foundFrom, found, nameHash, hashes, lastWith, Indexed}
 use Rattle.name_store.specs.declared.index.Found.the-variants.{At, Missing}
@@ -57,14 +57,6 @@ last-ext f g h (suc i) e = ap₂ (λ (a b : ℕ). cond (eqb a h) (suc i) b) (e i
 
 -- what `found` says
 
-pub bool-false : (b : Bool) → (T b → ⊥) → b ≡ false
-bool-false true h = absurd (h tt)
-bool-false false h = refl
-
-pub bool-true : (b : Bool) → T b → b ≡ true
-bool-true true h = refl
-bool-true false h = absurd h
-
 all-at : {A : Type 0} (P : A → Type 0) (d : A) (xs : List A) (j : ℕ) → All P xs → j < length xs → P (getD xs j d)
 all-at P d [] j a l = absurd (omega arith)
 all-at P d (x ∷ xs) zero a l = a .0
@@ -73,7 +65,7 @@ all-at P d (x ∷ xs) (suc j) a l = all-at P d xs j (a .1) (omega arith)
 module _ (x : List ℕ) where
   skip : (i : ℕ) (y : List ℕ) (names : List (List ℕ)) → (y ≡ x → ⊥) → foundFrom i x (y ∷ names) ≡ foundFrom (suc i) x names
   unfolding foundFrom
-  skip i y names h = ap (λ b. cond b (At i) (foundFrom (suc i) x names)) (bool-false (sameBytes y x) (λ t. h (same-equal y x t)))
+  skip i y names h = ap (λ b. cond b (At i) (foundFrom (suc i) x names)) (is-false (sameBytes y x) (λ t. h (same-equal y x t)))
 
   pub found-none : (i : ℕ) (names : List (List ℕ)) → ((k : ℕ) → k < length names → getD names k [] ≡ x → ⊥) → foundFrom i x names ≡ Missing
   unfolding foundFrom
@@ -83,7 +75,7 @@ module _ (x : List ℕ) where
   pub found-at : (i : ℕ) (names : List (List ℕ)) (j : ℕ) → Distinct names → j < length names → getD names j [] ≡ x → foundFrom i x names ≡ At (i + j)
   unfolding foundFrom
   found-at i [] j d l e = absurd (omega arith)
-  found-at i (y ∷ names) zero d l e = ap (λ b. cond b (At i) (foundFrom (suc i) x names)) (bool-true (sameBytes y x) (same-law y x .1 e)) ∙ ap At (sym (add-zero i))
+  found-at i (y ∷ names) zero d l e = ap (λ b. cond b (At i) (foundFrom (suc i) x names)) (is-true (sameBytes y x) (same-law y x .1 e)) ∙ ap At (sym (add-zero i))
   found-at i (y ∷ names) (suc j) d l e =
       let other : y ≢ getD names j [] = all-at (λ z. y ≢ z) [] names j (d .0) (omega arith) in
       let s : suc i + j ≡ i + suc j = omega arith in
@@ -109,7 +101,7 @@ module _ (x : List ℕ) where
     where
       go : (b : Bool) → sameBytes y x ≡ b → cond b (At i) (foundFrom (suc i) x names) ≡ Missing → (foundFrom (suc i) x names ≡ Missing → All (λ z. x ≢ z) names) → (x ≢ y) × All (λ z. x ≢ z) names
       go true t e r = absurd (let z : _≡_ {A = ℕ} 0 1 = cc in omega arith)
-      go false t e r = (λ k. let z : _≡_ {A = Bool} true false = sym (bool-true (sameBytes y x) (same-law y x .1 (sym k))) ∙ t in let w : _≡_ {A = ℕ} 0 1 = cc in omega arith, r e)
+      go false t e r = (λ k. let z : _≡_ {A = Bool} true false = sym (is-true (sameBytes y x) (same-law y x .1 (sym k))) ∙ t in let w : _≡_ {A = ℕ} 0 1 = cc in omega arith, r e)
 
   -- a found name is among them
   pub found-among : (i : ℕ) (names : List (List ℕ)) {j : ℕ} → foundFrom i x names ≡ At j → T (some (sameBytes x) names)

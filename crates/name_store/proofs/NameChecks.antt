@@ -1,5 +1,4 @@
 -- The check of a name store, name by name: the names before `at` are entered, and the test of the rest decides.
-use Rattle.rules.specs.Lists.{empty?}
 use Prim.Native.Nat.{ℕ, suc, _+_, _-_, _*_, _≤_, _<_, zero-le}
 use native.Mathlib.Numerals.{add-one}
 use native.Mathlib.Omega.{arith}
@@ -9,9 +8,9 @@ use mathlib.Core.Bool.{Bool, true, false, _&&_, cond}
 use lib.Dec.{T, leb, eqb, leb→le}
 use lib.ListN.{length, getD, take, drop, set, replicate, length-append, length-drop, length-set, take-append-drop}
 use lib.Seq.{length-take-le, drop-cons, drop-drop}
-use borrow.Author.Tests.{eq-eqb, ne-eqb}
 use Rattle.kinds.specs.declared.limits.Kind.{Kind}
 use Rattle.rules.proofs.Booleans.{T-and-r}
+use Rattle.rules.proofs.Lists.{none-left}
 use Rattle.names.specs.Names.{allowed}
 use Rattle.name_store.specs.NameStore.{nameBytes, encodeNames, firstName, decodeNames, namesFrom?, names?}
 use Rattle.name_store.specs.NameIndex.{new?, nameEnd, buckets, nameHash, Indexed}
@@ -32,13 +31,6 @@ ended false t e = refl
 goes-on : (b : Bool) (t : ℕ) {to : ℕ} → cond b (At t) Missing ≡ At to → (b ≡ true) × (to ≡ t)
 goes-on true t e = (refl, cc)
 goes-on false t e = absurd (let z : _≡_ {A = ℕ} 0 1 = cc in omega arith)
-
-all-read : (bytes : List ℕ) (at : ℕ) → at ≤ length bytes → eqb at (length bytes) ≡ empty? (drop at bytes)
-all-read bytes at l = go (drop at bytes) (length-drop at bytes)
-  where
-    go : (rest : List ℕ) → length rest ≡ length bytes - at → eqb at (length bytes) ≡ empty? rest
-    go [] e = eq-eqb at (length bytes) (omega arith)
-    go (b ∷ rest) e = ne-eqb at (length bytes) (λ q. omega arith)
 
 pub record Checking (kind : Kind) (bytes : List ℕ) (atoms : ℕ) (starts₀ heads₀ next₀ starts heads next : List ℕ) (at atom : ℕ) : Type 0 where
   pub same-starts : length starts ≡ length starts₀
@@ -79,7 +71,7 @@ module _ {kind : Kind} {bytes : List ℕ} {atoms : ℕ} {starts₀ heads₀ next
   check-passed l =
       let q : atom ≡ atoms = omega (arith, k .counted) in
       let z : atoms - atom ≡ 0 = omega arith in
-      (all-read bytes at inside ∙ sym (ap (λ n. namesFrom? kind (decodeNames atom bytes) n (drop at bytes)) z) ∙ k .left, λ e. subst (λ n. Indexed (decodeNames n bytes) bytes starts heads next) q (k .index))
+      (none-left bytes at inside ∙ sym (ap (λ n. namesFrom? kind (decodeNames atom bytes) n (drop at bytes)) z) ∙ k .left, λ e. subst (λ n. Indexed (decodeNames n bytes) bytes starts heads next) q (k .index))
 
   pub check-room : atom < atoms → (atom < length starts) × (atom < length next) × (atom + 1 < 65536) × (at < 65536)
   check-room lt = omega (arith, k)

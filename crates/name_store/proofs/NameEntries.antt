@@ -15,10 +15,10 @@ use Rattle.rules.specs.Lists.{All, Distinct, some}
 use Rattle.name_store.specs.NameStore.{nameBytes, encodeNames, decodeNames, sameBytes}
 use Rattle.name_store.specs.NameIndex.{found, new?, buckets, nameHash, hashes, lastWith, place, Placed, Indexed}
 use Rattle.name_store.proofs.ByteLoops.{hash-small}
-use Rattle.name_store.proofs.NameChains.{last-ext, bool-true, bool-false, missing-differs, found-among}
+use Rattle.name_store.proofs.NameChains.{last-ext, missing-differs, found-among}
 use Rattle.name_store.proofs.NamePlaces.{length-decode}
 use Rattle.name_store.proofs.NameStores.{not-seen, decode-front}
-use Rattle.rules.proofs.Booleans.{T-not-out}
+use Rattle.rules.proofs.Booleans.{T-not-out, is-true, is-false}
 use Rattle.name_store.specs.declared.index.Found.{Found}
 use Rattle.name_store.specs.declared.index.Found.the-variants.{At, Missing}
 
@@ -187,7 +187,7 @@ module _ (n : ℕ) {bytes starts heads next : List ℕ} (ix : Indexed (decodeNam
     found-filled = is ∙ ap (λ m. found x (decodeNames m bytes)) length-filled
 
     pub found-new : r ≡ Missing → true ≡ new? x (decodeNames n bytes)
-    found-new e = sym (bool-true (new? x (decodeNames n bytes)) (not-seen x (decodeNames n bytes) .1 (missing-differs x 0 (decodeNames n bytes) (sym found-filled ∙ e))))
+    found-new e = sym (is-true (new? x (decodeNames n bytes)) (not-seen x (decodeNames n bytes) .1 (missing-differs x 0 (decodeNames n bytes) (sym found-filled ∙ e))))
 
     pub found-old : {j : ℕ} → r ≡ At j → false ≡ new? x (decodeNames n bytes)
-    found-old e = sym (bool-false (new? x (decodeNames n bytes)) (λ t. T-not-out (some (sameBytes x) (decodeNames n bytes)) t (found-among x 0 (decodeNames n bytes) (sym found-filled ∙ e))))
+    found-old e = sym (is-false (new? x (decodeNames n bytes)) (λ t. T-not-out (some (sameBytes x) (decodeNames n bytes)) t (found-among x 0 (decodeNames n bytes) (sym found-filled ∙ e))))

@@ -1,5 +1,5 @@
 -- The name store and its test: bytes pass exactly when they are the store of different names that the kind allows.
-use Prim.Native.Nat.{ℕ, zero, suc, _+_, _≤_}
+use Prim.Native.Nat.{ℕ, zero, suc, _+_, _*_, _≤_}
 use native.Mathlib.Numerals.{one-add}
 use native.Mathlib.Omega.{arith}
 use mathlib.Core.Path.{_≡_, refl, sym, ap, ap₂, _∙_, subst, subst₂}
@@ -220,3 +220,9 @@ names-law kind n bs = (λ h. (decodeNames n bs, decoded-names kind n bs h), λ p
 
     back : (names : List (List ℕ)) → NamesOf bs kind n names → T (names? kind n bs)
     back names r = subst₂ (λ (m : ℕ) (l : List ℕ). T (namesFrom? kind [] m l)) (r .form .count) (r .bytes) (complete kind [] names (r .form .all-allowed) (r .form .different) (none names))
+
+-- a store of short names is short
+pub encoded-length : (names : List (List ℕ)) → All (λ x. length x ≤ 18) names → length (encodeNames names) ≤ 19 * length names
+unfolding encodeNames
+encoded-length [] h = omega arith
+encoded-length (x ∷ names) h = omega (arith, length-append x (encodeNames names), encoded-length names (h .1), h .0)

@@ -6,6 +6,7 @@ use mathlib.Core.Bool.{Bool, true, false, _||_}
 use mathlib.Core.List.{List, [], _∷_, _++_, append-assoc, append-nil}
 use lib.ListN.{length, drop, length-append}
 use Rattle.rules.specs.Lists.{some}
+use Rattle.rules.proofs.Booleans.{or-assoc, or-false}
 use Rattle.name_store.specs.NameStore.{nameBytes, encodeNames, decodeNames, sameBytes}
 use Rattle.name_store.specs.NameIndex.{found, Indexed}
 use Rattle.name_store.specs.declared.index.Found.{Found}
@@ -29,18 +30,10 @@ twice-split old [] zs = ap (λ l. twice l zs) (sym (append-nil old))
 twice-split old (y ∷ ys) zs =
     ap (λ b. some (sameBytes y) old || b) (twice-split (old ++ (y ∷ [])) ys zs ∙ ap (λ l. twice (old ++ (y ∷ [])) ys || twice l zs) (append-assoc old (y ∷ []) ys))
     ∙ or-assoc (some (sameBytes y) old) (twice (old ++ (y ∷ [])) ys) (twice (old ++ (y ∷ ys)) zs)
-  where
-    or-assoc : (a b c : Bool) → (a || (b || c)) ≡ ((a || b) || c)
-    or-assoc true b c = refl
-    or-assoc false b c = refl
 
 some-app : {A : Type 0} (p : A → Bool) (xs ys : List A) → some p (xs ++ ys) ≡ (some p xs || some p ys)
 some-app p [] ys = refl
 some-app p (x ∷ xs) ys = ap (λ b. p x || b) (some-app p xs ys) ∙ or-assoc (p x) (some p xs) (some p ys)
-  where
-    or-assoc : (a b c : Bool) → (a || (b || c)) ≡ ((a || b) || c)
-    or-assoc true b c = refl
-    or-assoc false b c = refl
 
 -- later names against those of a block, and among themselves
 pub twice-apart : (old new zs : List (List ℕ)) → twice (old ++ new) zs ≡ (some (among old) zs || twice new zs)
@@ -142,11 +135,7 @@ module _ {names : List (List ℕ)} {s : List ℕ} {from : ℕ} {bytes starts hea
 
         last-twice : twice names (h .passed ++ (x ∷ [])) ≡ some (sameBytes x) held
         unfolding twice
-        last-twice = twice-split names (h .passed) (x ∷ []) ∙ ap (λ b. b || (some (sameBytes x) held || false)) (h .once) ∙ or-end (some (sameBytes x) held)
-          where
-            or-end : (b : Bool) → (b || false) ≡ b
-            or-end true = refl
-            or-end false = refl
+        last-twice = twice-split names (h .passed) (x ∷ []) ∙ ap (λ b. b || (some (sameBytes x) held || false)) (h .once) ∙ or-false (some (sameBytes x) held)
 
         pub entered-twice : q ≡ false → twice names (items (drop from s)) ≡ true
         unfolding twice

@@ -10,13 +10,14 @@ use lib.ListN.{length, getD, take, drop, drop-of-length-le}
 use lib.Seq.{drop-cons, drop-drop}
 use borrow.Author.Tests.{eq-eqb, ne-eqb}
 use Rattle.name_store.specs.NameIndex.{buckets, hashFrom, nameHash}
+use Rattle.rules.proofs.Lists.{part-sized}
 use Rattle.lines.specs.declared.scan.Item.the-variants as Item
-use Rattle.numbering.specs.declared.numbers.HashedItem.{HashedItem}
-use Rattle.numbering.specs.declared.numbers.HashedItem.the-variants.{At, Stop}
+use Rattle.numbering.specs.declared.hashed_items.HashedItem.{HashedItem}
+use Rattle.numbering.specs.declared.hashed_items.HashedItem.the-variants.{At, Stop}
 use Rattle.lines.specs.Items.{delimiter?, run}
 use Rattle.lines.specs.Shapes.{itemOf}
 use Rattle.numbering.specs.HashedItems.{hashedRun, hashedItem}
-use Rattle.lines.proofs.Scanning.{run-goes-on, run-ends, run-out, part-sized}
+use Rattle.lines.proofs.Scanning.{run-goes-on, run-ends, run-out}
 
 -- the hash of what stands before a delimiter, h being that of the bytes before
 unfoldable pub runHash : ℕ → List ℕ → ℕ

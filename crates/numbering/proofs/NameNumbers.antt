@@ -9,7 +9,7 @@ use lib.Dec.{T, eqb, eqb→eq}
 use lib.ListN.{length, getD, drop, set, length-set, length-append, length-map}
 use borrow.Author.Tests.{ne-eqb}
 use Rattle.rules.specs.Lists.{All, some}
-use Rattle.rules.proofs.Booleans.{bool-ext, eq→eqb}
+use Rattle.rules.proofs.Booleans.{bool-ext, eq→eqb, or-assoc, or-true, or-false}
 use Rattle.rules.proofs.Lists.{all-app}
 use Rattle.name_store.specs.declared.index.Found.{Found}
 use Rattle.name_store.specs.declared.index.Found.the-variants as Found
@@ -95,10 +95,6 @@ all-declared names (x ∷ seen) d = rw (d .0) (all-declared names seen (d .1))
 one-undeclared : (names seen : List (List ℕ)) (x : List ℕ) (xs : List (List ℕ)) → some (sameBytes x) names ≡ false → some (undeclared names) (seen ++ (x ∷ xs)) ≡ true
 one-undeclared names [] x xs e = rw e
 one-undeclared names (y ∷ seen) x xs e = rw (one-undeclared names seen x xs e) (or-true (undeclared names y))
-  where
-    or-true : (b : Bool) → (b || true) ≡ true
-    or-true true = refl
-    or-true false = refl
 
 -- marks
 
@@ -114,18 +110,6 @@ some-last p (y ∷ xs) x = ap (λ (b : Bool). p y || b) (some-last p xs x) ∙ e
 map-last : {A B : Type 0} (f : A → B) (xs : List A) (x : A) → map f (xs ++ (x ∷ [])) ≡ map f xs ++ (f x ∷ [])
 map-last f [] x = refl
 map-last f (y ∷ xs) x = ap (λ l. f y ∷ l) (map-last f xs x)
-
-or-assoc : (a b c : Bool) → (a || (b || c)) ≡ ((a || b) || c)
-or-assoc true b c = refl
-or-assoc false b c = refl
-
-or-end : (a : Bool) → (a || false) ≡ a
-or-end true = refl
-or-end false = refl
-
-or-true : (a : Bool) → (a || true) ≡ true
-or-true true = refl
-or-true false = refl
 
 -- the names up to i are passed
 pub record Numbering (names : List (List ℕ)) (s : List ℕ) (from stamp : ℕ) (before : List ℕ) (at i end : ℕ) (flag : Bool) (marks now : List ℕ) : Type 0 where
@@ -165,7 +149,7 @@ module _ {names : List (List ℕ)} {s : List ℕ} {from stamp : ℕ} {before : L
       let whole : h .seen ≡ items (drop from s) = sym (append-nil (h .seen)) ∙ ap (λ l. h .seen ++ l) (sym out) ∙ h .all in
       record {
         declared = ap (some (undeclared names)) (sym whole) ∙ all-declared names (h .seen) (h .known);
-        is-twice = sym (or-end flag) ∙ ap (λ l. flag || twice (h .seen) l) (sym out) ∙ h .is-twice;
+        is-twice = sym (or-false flag) ∙ ap (λ l. flag || twice (h .seen) l) (sym out) ∙ h .is-twice;
         written = renamed (h .written) (ap (map (numberOf names)) whole);
         below = h .below;
       }
@@ -232,4 +216,4 @@ module _ {names : List (List ℕ)} {s : List ℕ} {from stamp : ℕ} {before : L
           number-again o p = step (p ∙ sym (ap (λ b. flag || b) o ∙ or-true flag))
 
           pub number-new : had ≡ false → {flag′ : Bool} → flag′ ≡ flag → Numbering names s from stamp before at (i + 1 + n) end′ flag′ marks′ now′
-          number-new o p = step (p ∙ sym (ap (λ b. flag || b) o ∙ or-end flag))
+          number-new o p = step (p ∙ sym (ap (λ b. flag || b) o ∙ or-false flag))

@@ -1,11 +1,12 @@
 -- The three lists of a rule to numbers, one after another.
 use Prim.Native.Nat.{ℕ, _+_, _≤_}
 use native.Mathlib.Omega.{arith}
-use mathlib.Core.Path.{_≡_, refl, _∙_, subst}
+use mathlib.Core.Path.{_≡_, _∙_, subst}
 use mathlib.Core.List.{List}
-use mathlib.Core.Bool.{Bool, true, false, _||_}
+use mathlib.Core.Bool.{Bool, true, _||_}
 use lib.ListN.{length, drop, length-map}
 use Rattle.rules.specs.Lists.{some}
+use Rattle.rules.proofs.Booleans.{or-true}
 use Rattle.output.proofs.Emitting.{then}
 use Rattle.lines.specs.Items.{items}
 use Rattle.lines.specs.Faults.{undeclared, numberOf, anyOf}
@@ -13,10 +14,6 @@ use Rattle.numbering.specs.declared.numbers.Numbers.{Numbers}
 use Rattle.numbering.specs.declared.numbers.Numbers.the-variants as Answer
 use Rattle.numbering.specs.Numbers.{Numbered, NumbersSay, NumbersIs, RuleNumbered}
 use Rattle.lines.proofs.Scanning.{items-few}
-
-or-true : (a : Bool) → (a || true) ≡ true
-or-true true = refl
-or-true false = refl
 
 module _ (names hs bs ns : List (List ℕ)) where
   pub undeclared-head : some (undeclared names) hs ≡ true → anyOf (some (undeclared names)) hs bs ns ≡ true

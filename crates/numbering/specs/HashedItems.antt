@@ -6,8 +6,8 @@ use lib.Dec.{eqb}
 use lib.ListN.{take}
 use Rattle.name_store.specs.NameIndex.{nameHash}
 use Rattle.kinds.specs.Words.{space}
-use Rattle.numbering.specs.declared.numbers.HashedItem.{HashedItem}
-use Rattle.numbering.specs.declared.numbers.HashedItem.the-variants.{At, Stop}
+use Rattle.numbering.specs.declared.hashed_items.HashedItem.{HashedItem}
+use Rattle.numbering.specs.declared.hashed_items.HashedItem.the-variants.{At, Stop}
 use Rattle.lines.specs.Items.{run}
 
 -- the bytes before the first delimiter

@@ -1,6 +1,7 @@
 // The names of a rule's lists to atom numbers.
+use crate::hashed_items::HashedItem;
+use crate::hashed_items::hashed_item_at;
 use lines::forms::any;
-use lines::scan;
 use name_store::index;
 use name_store::index::Found;
 use output::words::push;
@@ -12,19 +13,12 @@ ghost use Rattle.name_store.specs.NameStore.{decodeNames};
 ghost use Rattle.name_store.specs.NameIndex.{Indexed};
 ghost use Rattle.stores.specs.RuleStore.{Below};
 ghost use Rattle.lines.specs.Items.{items};
-ghost use Rattle.numbering.specs.HashedItems.{hashedRun, hashedItem};
 ghost use Rattle.numbering.specs.Numbers.{NumbersIs, RuleNumbersIs};
 
 // Where the numbers of a list end and whether a name stands twice in it, or that a name is not declared.
 pub enum Numbers {
     List { end: usize, twice: bool },
     Undeclared,
-}
-
-// A space and the name after it, by its length and its hash, or anything else.
-pub enum HashedItem {
-    At { size: usize, hash: usize },
-    Stop,
 }
 
 // Marks an atom; whether it had the mark before.
@@ -35,39 +29,6 @@ pub fn mark(marks: &mut [u16], atom: usize, stamp: u16) -> bool
     let marked = marks[atom] == stamp;
     marks[atom] = stamp;
     marked
-}
-
-// The name at `at`, in one walk for its end and its hash.
-pub fn hashed_run_at(s: &[u8], at: usize) -> HashedItem
-    requires { ⌜ at ≤ length (now s) ⌝ }
-    ensures { λ r. ⌜ r ≡ hashedRun (drop at (now (s .entry))) ⌝ }
-{
-    let mut i = at;
-    let mut hash: usize = 0;
-    while i < s.len() {
-        let b = s[i];
-        if scan::is_delimiter(b) {
-            return HashedItem::At { size: i - at, hash };
-        }
-        hash = index::hash_step(hash, b);
-        i += 1;
-    }
-    HashedItem::At { size: i - at, hash }
-}
-
-// The item at `at`, with its hash.
-pub fn hashed_item_at(s: &[u8], at: usize) -> HashedItem
-    requires { ⌜ at ≤ length (now s) ⌝ }
-    ensures { λ r. ⌜ r ≡ hashedItem (drop at (now (s .entry))) ⌝ }
-{
-    if s.len() <= at {
-        return HashedItem::Stop;
-    }
-    if s[at] == b' ' {
-        hashed_run_at(s, at + 1)
-    } else {
-        HashedItem::Stop
-    }
 }
 
 // Writes the numbers of the names from `from` on.

@@ -8,6 +8,7 @@ use mathlib.Core.List.{List, [], _∷_, _++_, append-nil}
 use lib.ListN.{length, getD, set, take, drop, drop-of-length-le, length-append, length-drop, length-set, take-append-drop}
 use lib.Seq.{drop-cons, take-suc, take-all, set-at, append-snoc, length-take-le, take-append-le, take-take, sets, length-sets, lt-length-sets, sets-eq}
 use borrow.Rule.Slice.PartMut.{midOf, postOf, putMid}
+use Rattle.rules.proofs.Lists.{part-rest}
 
 -- the first i elements of s over those of d
 abbrev overlaid : List ℕ → List ℕ → ℕ → List ℕ
@@ -73,8 +74,6 @@ first-stored k s d l m =
     ∙ ap (λ (r : List ℕ). r ++ drop k d) e
 
 -- the elements from the i-th on are no more than are left
-rest-taken : (i : ℕ) (s : List ℕ) → take (length s - i) (drop i s) ≡ drop i s
-rest-taken i s = take-all (length s - i) (drop i s) (omega (arith, length-drop i s))
 
 rest-gone : (i k : ℕ) (s : List ℕ) → length s ≤ i + k → drop k (drop i s) ≡ []
 rest-gone i k s l = let m : length (drop i s) ≤ k = omega (arith, length-drop i s) in drop-of-length-le (drop i s) m
@@ -87,8 +86,8 @@ module _ (k : ℕ) (s d : List ℕ) (e : length d ≡ length s) (l : k ≤ lengt
       let i : ℕ = length s - k in
       let n : length now ≡ length s = ap length p ∙ omega (arith, length-append (take k s) (drop k d), length-take-le k s l, length-drop k d) in
       let front : take i now ≡ take i s = ap (take i) p ∙ take-append-le i (take k s) (drop k d) (omega (arith, length-take-le k s l)) ∙ take-take i k s (omega arith) in
-      let kept : take k (midOf i (length s - i) s) ≡ drop i s = ap (take k) (rest-taken i s) ∙ take-all k (drop i s) (omega (arith, length-drop i s)) in
-      let past : drop k (midOf i (length now - i) now) ≡ [] = ap (drop k) (rest-taken i now) ∙ rest-gone i k now (omega arith) in
+      let kept : take k (midOf i (length s - i) s) ≡ drop i s = ap (take k) (part-rest i s) ∙ take-all k (drop i s) (omega (arith, length-drop i s)) in
+      let past : drop k (midOf i (length now - i) now) ≡ [] = ap (drop k) (part-rest i now) ∙ rest-gone i k now (omega arith) in
       let back : tail ≡ drop i s = q ∙ ap₂ (λ (a b : List ℕ). a ++ b) kept past ∙ append-nil (drop i s) in
       ap₂ (λ (a b : List ℕ). a ++ (b ++ postOf i (length now - i) now)) front back
       ∙ ap (λ (r : List ℕ). take i s ++ (drop i s ++ r)) (rest-gone i (length now - i) now (omega arith))

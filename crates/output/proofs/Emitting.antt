@@ -78,6 +78,12 @@ range-renamed {u} {v} {at} h e = subst (InRange at) e h
 pub record Ahead (left run rest : List ℕ) : Type 0 where
   pub is : left ≡ run ++ rest
 
+pub in-front : (u v : List ℕ) → Ahead (u ++ v) u v
+in-front u v = record { is = refl }
+
+pub one-in-front : (a : ℕ) (v : List ℕ) → Ahead (a ∷ v) (a ∷ []) v
+one-in-front a v = record { is = refl }
+
 -- what stands written and what is left are the whole
 pub record Emitting (whole before : List ℕ) (at : ℕ) (left now : List ℕ) (next : ℕ) : Type 0 where
   pub range : InRange at whole

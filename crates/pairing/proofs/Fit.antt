@@ -17,6 +17,7 @@ use Rattle.rules.proofs.Booleans.{decide, T-not-in}
 use Rattle.rules.proofs.Lists.{all-imp}
 use Rattle.stores.specs.Program.{Program, Form, ClassesForm, RuleForm, RoleForm, Rising, roleOf}
 use Rattle.stores.proofs.ClassWord.{minimised, below, above}
+use Rattle.stores.proofs.RuleTests.{rising-from}
 use Rattle.pairing.specs.Atoms.{classWord, fixed?, unfixed?}
 
 abbrev pub Minimised : Program → ℕ → Type 0
@@ -47,15 +48,10 @@ all-at P [] h i u = absurd (omega arith)
 all-at P (x ∷ l) h zero u = h .0
 all-at P (x ∷ l) h (suc i) u = all-at P l (h .1) i (omega arith)
 
-rising-low : (b : ℕ) (l : List ℕ) → Rising b l → (i : ℕ) → i < length l → b ≤ getD l i 0
-rising-low b [] h i u = absurd (omega arith)
-rising-low b (x ∷ l) h zero u = h .0
-rising-low b (x ∷ l) h (suc i) u = omega (arith, h .0, rising-low x l (h .1) i (omega arith))
-
 rising-at : (b : ℕ) (l : List ℕ) → Rising b l → (i j : ℕ) → i < j → j < length l → getD l i 0 ≤ getD l j 0
 rising-at b [] h i j m u = absurd (omega arith)
 rising-at b (x ∷ l) h zero zero m u = absurd (omega arith)
-rising-at b (x ∷ l) h zero (suc j) m u = rising-low x l (h .1) j (omega arith)
+rising-at b (x ∷ l) h zero (suc j) m u = rising-from x l (h .1) j (omega arith)
 rising-at b (x ∷ l) h (suc i) zero m u = absurd (omega arith)
 rising-at b (x ∷ l) h (suc i) (suc j) m u = rising-at x l (h .1) i j (omega arith) (omega arith)
 

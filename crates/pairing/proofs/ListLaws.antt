@@ -14,10 +14,6 @@ use Rattle.rules.proofs.Lists.{all-imp, all-app, all-filter, all-map, all-from}
 
 -- following numbers
 
-pub length-from : (s c : ℕ) → length (from s c) ≡ c
-length-from s zero = refl
-length-from s (suc c) = ap suc (length-from (suc s) c)
-
 pub from-append : (s c d : ℕ) → from s c ++ from (s + c) d ≡ from s (c + d)
 from-append s zero d = let e : s + 0 ≡ s = omega arith in let f : d ≡ 0 + d = omega arith in ap₂ from e f
 from-append s (suc c) d =

@@ -13,11 +13,11 @@ use Rattle.rules.specs.Sets.{has, In, Out}
 use Rattle.rules.specs.Rules.{Rule, Holds, Model}
 use Rattle.rules.specs.Preferred.{fixed, OfClass, Beats, Preferred}
 use Rattle.rules.proofs.Booleans.{stable, T-of, T-and, T-and-l, T-and-r, eq→eqb}
-use Rattle.rules.proofs.Lists.{all-both, all-any, any-or-none, from-all}
+use Rattle.rules.proofs.Lists.{all-both, all-any, any-or-none, from-all, length-from}
 use Rattle.stores.specs.Program.{Program}
 use Rattle.pairing.specs.Atoms.{Atom, original, N, S, D, E, U, originals, classWord, fixed?, unfixed?, declared}
 use Rattle.pairing.specs.Steps.{translation}
-use Rattle.pairing.proofs.ListLaws.{length-from, all-each, all-zip, any-zip}
+use Rattle.pairing.proofs.ListLaws.{all-each, all-zip, any-zip}
 use Rattle.pairing.proofs.Fit.{Fit, Minimised, Inside, minimised-unfixed}
 use Rattle.pairing.proofs.Asked.{Kept, Copied, Steps, to-steps, of-steps}
 use Rattle.pairing.proofs.Numbering.{Declared, of-declared}

@@ -20,9 +20,6 @@ use Rattle.output.specs.Emitted.{Emitted, InRange}
 use Rattle.output.proofs.Emitting.{Ahead}
 use Rattle.printing.specs.Printed.{digits, decimal, closing, refusedText, stateWord, stateLine, member, members, totalLine, shown, Shown}
 
-pub parts : (u v : List ℕ) → Ahead (u ++ v) u v
-parts u v = record { is = refl }
-
 -- decimal digits
 
 digits-short : (f x : ℕ) → length (digits f x) ≤ f
@@ -60,9 +57,6 @@ last-digit x h l =
 pub refused-opens : (f : Refusal) (line : ℕ) {n : ℕ} → n ≡ numberOf f → Ahead (refusedText f line) (40 ∷ 114 ∷ 101 ∷ 102 ∷ 117 ∷ 115 ∷ 101 ∷ 100 ∷ 32 ∷ []) (decimal n ++ (space ∷ (decimal line ++ closing)))
 unfolding refusedText
 refused-opens f line e = record { is = rw e }
-
-pub one-byte : (b : ℕ) (rest : List ℕ) → Ahead (b ∷ rest) (b ∷ []) rest
-one-byte b rest = record { is = refl }
 
 pub refused-short : (f : Refusal) (line : ℕ) → length (refusedText f line) ≤ 52
 unfolding refusedText

@@ -8,7 +8,7 @@ use lib.Dec.{T, eqb, eqb→eq}
 use lib.ListN.{length, take, drop, length-append, take-append-drop}
 use lib.Seq.{drop-nil, take-append-seam, drop-append-seam}
 use Rattle.rules.specs.Lists.{All, every, flat}
-use Rattle.rules.proofs.Booleans.{T-not-in, T-not-out, T-or}
+use Rattle.rules.proofs.Booleans.{T-not-in, T-not-out, T-or, is-true}
 use Rattle.rules.proofs.Lists.{all-app, all-imp, every-all}
 use mathlib.Core.Logic.{inr, _↔_}
 use Rattle.names.specs.Names.{nameClass}
@@ -20,10 +20,6 @@ use Rattle.lines.specs.Items.{delimiter?, run, itemsFrom, items, span}
 use Rattle.lines.specs.Forms.{Word, atoms, min, vary, fix, Form, declares, rules, broken, isName, begins, Cut, cut, none, cutNames, cutList, onCut, tagOf, headTag, bodyTag, notTag, listEnd, ruleEnd, closed, declaredForm, ruleForm, formOf}
 use Rattle.reader.proofs.LineText.{WholeLine, NoEnd, end-line, before-line}
 use Rattle.reader.proofs.NameText.{IsName, NoDelimiter, name-bytes}
-
-pub is-true : (b : Bool) → T b → b ≡ true
-is-true true h = refl
-is-true false h = absurd h
 
 -- the items at the front of a text
 

@@ -11,6 +11,7 @@ use lib.Seq.{drop-drop, length-take-le}
 use Rattle.kinds.specs.declared.limits.Kind.{Kind}
 use Rattle.kinds.specs.declared.refusals.Refusal.{Refusal}
 use Rattle.kinds.specs.declared.refusals.Refusal.the-variants.{Form as BrokenForm}
+use Rattle.rules.proofs.Lists.{part-sized}
 use Rattle.gathering.specs.declared.gathered.Gathered.{Gathered}
 use Rattle.gathering.specs.declared.gathered.Line.{Line}
 use Rattle.gathering.specs.declared.gathered.Line.the-variants.{Next, Fault}
@@ -22,7 +23,6 @@ use Rattle.lines.specs.Faults.{State, ruling?, stepForm}
 use Rattle.delivery.specs.Said.{Said, accepted, refused, onStep, readLines, start}
 use Rattle.gathering.specs.Gathered.{stateOf, Held, LineSays, LineIs}
 use Rattle.reader.specs.Gathering.{startCounts, passedOn, GatherSays, GatherIs}
-use Rattle.lines.proofs.Scanning.{part-sized}
 use Rattle.lines.proofs.LineBlocks.{line-le}
 use Rattle.gathering.proofs.HeldState.{held-is}
 

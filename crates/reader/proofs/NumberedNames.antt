@@ -9,13 +9,12 @@ use lib.Dec.{T}
 use lib.ListN.{length, getD}
 use lib.Seq.{append-snoc}
 use Rattle.rules.specs.Lists.{All, Any, Distinct, some}
-use Rattle.rules.proofs.Booleans.{T-or, T-or-out}
+use Rattle.rules.proofs.Booleans.{T-or, T-or-out, is-true}
 use Rattle.rules.proofs.Lists.{all-app, all-app-r, all-any, all-both, all-imp, all-map, some-any}
 use Rattle.name_store.specs.NameStore.{sameBytes}
 use Rattle.name_store.proofs.NameStores.{same-law}
 use Rattle.text.specs.Text.{named}
 use Rattle.lines.specs.Faults.{twice, numberOf}
-use Rattle.reader.proofs.FormText.{is-true}
 
 -- x is one of the names
 abbrev pub Declared : List (List ℕ) → List ℕ → Type 0

@@ -13,6 +13,7 @@ use Rattle.kinds.specs.declared.limits.Kind.the-variants.{Plain, Preference}
 use Rattle.kinds.specs.declared.refusals.Refusal.the-variants.{TextTooLong, Form as BrokenForm}
 use Rattle.rules.specs.Lists.{All, flat, from}
 use Rattle.rules.specs.Preferred.{varying, fixed}
+use Rattle.rules.proofs.Booleans.{is-true}
 use Rattle.name_store.specs.NameStore.{NamesForm, sameBytes}
 use Rattle.stores.specs.Program.{Program, Form, RuleForm}
 use Rattle.kinds.specs.Words.{minWord, varyWord, fixWord}
@@ -23,7 +24,6 @@ use Rattle.lines.specs.Forms.{atoms, begins, tagOf}
 use Rattle.lines.specs.Faults.{State, ruling?}
 use Rattle.delivery.specs.Said.{accepted, refused, start, readLines, said, programOf}
 use Rattle.reader.proofs.LineText.{joined-lines}
-use Rattle.reader.proofs.FormText.{is-true}
 use Rattle.reader.proofs.Progress.{state, AllSaid, lines-said, start-said, text-said}
 use Rattle.reader.proofs.WrittenLines.{Reads, counted, reads-then, reads-rules, reads-declarations}
 

@@ -12,7 +12,7 @@ use Rattle.kinds.specs.declared.limits.Kind.{Kind}
 use Rattle.kinds.specs.declared.limits.Kind.the-variants.{Plain, Preference}
 use Rattle.rules.specs.Lists.{sum}
 use Rattle.rules.specs.Rules.{occurrences}
-use Rattle.rules.proofs.Booleans.{T-and-l, T-and-r}
+use Rattle.rules.proofs.Booleans.{T-and-l, T-and-r, is-true}
 use Rattle.stores.specs.Program.{Program, Form}
 use Rattle.stores.specs.RuleStore.{encode, decode, ruleStore, isOf}
 use Rattle.name_store.specs.NameStore.{encodeNames, names?, NamesForm}
@@ -37,10 +37,6 @@ use Rattle.pairing.proofs.PlainForm.{plain-form}
 use Rattle.pairing.proofs.PlainNames.{plain-names, file-names}
 use Rattle.translation.specs.Answers.{translationText, storesTranslation, translateAnswer, translateOutput}
 use Rattle.rigtomato.specs.Demand3.{Handed, delivered, ReadsAs, Demand3, Demand3Holds}
-
-pub true-of : (b : Bool) → T b → b ≡ true
-true-of true t = refl
-true-of false t = absurd t
 
 pub never : {A : Type 0} → _≡_ {A = ℕ} 0 1 → A
 never z = absurd (omega arith)
@@ -104,7 +100,7 @@ module _ (p : Program) (form : Form p) (names : List (List ℕ)) (fit : NamesFor
     pub room-for : length (translationText p names) ≤ room
 
   pub named : p .kind ≡ Preference → names? Preference (p .atoms) (encodeNames names) ≡ true
-  named k = true-of _ (names-law Preference (p .atoms) (encodeNames names) .1 (names, record { form = subst (λ (c : Kind). NamesForm c (p .atoms) names) k fit; bytes = refl }))
+  named k = is-true _ (names-law Preference (p .atoms) (encodeNames names) .1 (names, record { form = subst (λ (c : Kind). NamesForm c (p .atoms) names) k fit; bytes = refl }))
 
   pub stores-text : storesTranslation (encode p) (encodeNames names) ≡ translationText p names
   unfolding storesTranslation

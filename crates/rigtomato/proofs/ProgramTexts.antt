@@ -3,7 +3,7 @@ use Prim.Native.Nat.{ℕ, _+_, _-_, _*_, _≤_, _<_}
 use native.Mathlib.Omega.{arith}
 use mathlib.Core.Path.{_≡_, refl, sym, ap, ap₂, _∙_}
 use mathlib.Core.Bool.{Bool, true, false, cond}
-use mathlib.Core.List.{List, [], _∷_, _++_}
+use mathlib.Core.List.{List, _++_}
 use lib.Dec.{T, leb}
 use lib.ListN.{length, take, drop, length-append}
 use borrow.Author.Tests.{le-leb, lt-leb, leb-true}
@@ -12,16 +12,16 @@ use Rattle.kinds.specs.declared.limits.Kind.{Kind}
 use Rattle.kinds.specs.declared.limits.Kind.the-variants.{Plain, Preference}
 use Rattle.kinds.specs.declared.refusals.Refusal.{Refusal}
 use Rattle.kinds.specs.declared.refusals.Refusal.the-variants.{TextTooLong, Output, RuleStore, NameStore, TooManyAtoms}
-use Rattle.rules.specs.Lists.{All, flat, sum}
-use Rattle.rules.specs.Rules.{Rule, occurrences}
+use Rattle.rules.specs.Lists.{flat, sum}
+use Rattle.rules.specs.Rules.{occurrences}
 use Rattle.rules.proofs.Lists.{all-imp}
 use Rattle.stores.specs.Program.{Program, Form}
 use Rattle.stores.specs.RuleStore.{encode, decode, ruleWords, ruleStore, isOf, wordCount}
 use Rattle.stores.specs.declared.rule_store.RuleStore.the-variants.{Of}
 use Rattle.names.specs.Names.{allowed}
-use Rattle.name_store.specs.NameStore.{nameBytes, encodeNames, names?, NamesForm}
-use Rattle.stores.proofs.RuleStores.{decode-encode, kind-answered, words-count}
-use Rattle.name_store.proofs.NameStores.{allowed-short, decode-names}
+use Rattle.name_store.specs.NameStore.{encodeNames, names?, NamesForm}
+use Rattle.stores.proofs.RuleStores.{decode-encode, kind-answered, words-count, rules-length}
+use Rattle.name_store.proofs.NameStores.{allowed-short, decode-names, encoded-length}
 use Rattle.writer.specs.declared.Written.{Written}
 use Rattle.writer.specs.declared.Written.the-variants.{Text, Refused as NotWritten}
 use Rattle.output.specs.Emitted.{over}
@@ -41,22 +41,11 @@ use Rattle.printing.proofs.PrintedLines.{refused-short}
 
 -- the longest stores
 
-rules-words : (rs : List (Rule ℕ)) → length (flat ruleWords rs) ≡ 3 * length rs + sum occurrences rs
-rules-words [] = refl
-rules-words (r ∷ rs) =
-    omega (
-      arith,
-      length-append (ruleWords r) (flat ruleWords rs),
-      length-append (r .head) (r .body ++ r .nots),
-      length-append (r .body) (r .nots),
-      rules-words rs,
-    )
-
 pub words-fit : (p : Program) → Form p → length (encode p) ≤ scratchWords
 unfolding encode
 words-fit p f =
     let a = length-append (p .words) (flat ruleWords (p .rules)) in
-    let b = rules-words (p .rules) in
+    let b = rules-length (p .rules) in
     let c = words-count (p .kind) (p .atoms) (p .classes) (p .words) (f .classes-form) in
     omega (arith, by-kind (p .kind) c (f .atoms-fit) (f .rules-fit) (f .occurrences-fit) a b)
   where
@@ -67,16 +56,11 @@ words-fit p f =
     by-kind Plain c n r o a b = omega arith
     by-kind Preference c n r o a b = omega arith
 
-names-bytes : (names : List (List ℕ)) → All (λ x. length x ≤ 18) names → length (encodeNames names) ≤ 19 * length names
-unfolding encodeNames
-names-bytes [] h = omega arith
-names-bytes (x ∷ names) h = omega (arith, length-append (nameBytes x) (flat nameBytes names), names-bytes names (h .1), h .0)
-
 pub bytes-fit : (p : Program) (names : List (List ℕ)) → Form p → NamesForm (p .kind) (p .atoms) names → length (encodeNames names) ≤ scratchBytes
 bytes-fit p names f g = by-kind (p .kind) (f .atoms-fit)
   where
     short : length (encodeNames names) ≤ 19 * p .atoms
-    short = omega (arith, names-bytes names (all-imp (λ x. T (allowed (p .kind) x)) (λ x. length x ≤ 18) (allowed-short (p .kind)) names (g .all-allowed)), g .count)
+    short = omega (arith, encoded-length names (all-imp (λ x. T (allowed (p .kind) x)) (λ x. length x ≤ 18) (allowed-short (p .kind)) names (g .all-allowed)), g .count)
 
     by-kind : (k : Kind) → p .atoms ≤ atomLimit k → length (encodeNames names) ≤ scratchBytes
     by-kind Plain l = omega (arith, short)

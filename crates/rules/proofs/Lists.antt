@@ -1,13 +1,17 @@
 -- How All, Any, the tests and Distinct go through the lists made from lists.
-use Prim.Native.Nat.{ℕ, zero, suc, _+_, _≤_, _<_}
-use mathlib.Core.Path.{_≡_, sym, subst}
+use Prim.Native.Nat.{ℕ, zero, suc, _+_, _-_, _≤_, _<_}
+use mathlib.Core.Path.{_≡_, refl, sym, ap, subst}
 use mathlib.Core.Logic.{_⊎_, inl, inr, _↔_}
 use mathlib.Core.List.{List, [], _∷_, _++_, map}
 use mathlib.Core.Bool.{Bool, true, false}
 use native.Mathlib.Omega.{arith}
 use native.Mathlib.Decide.{ℕ-discrete}
-use lib.Dec.{T}
-use Rattle.rules.specs.Lists.{All, Any, every, some, keep, filter, flat, from}
+use native.Mathlib.Nat.{add-sub-cancel-left}
+use lib.Dec.{T, eqb}
+use lib.ListN.{length, take, drop, length-drop}
+use lib.Seq.{take-all}
+use borrow.Author.Tests.{eq-eqb, ne-eqb}
+use Rattle.rules.specs.Lists.{All, Any, every, some, empty?, keep, filter, flat, from}
 use Rattle.rules.proofs.Booleans.{decide, T-and, T-and-l, T-and-r, T-or, T-or-out}
 
 module _ {A : Type 0} (P : A → Type 0) where
@@ -217,3 +221,24 @@ module _ {A : Type 0} (p : A → Bool) (P : A → Type 0) (law : (a : A) → T (
 
 pub every-from : (p : ℕ → Bool) (P : ℕ → Type 0) → ((a : ℕ) → T (p a) ↔ P a) → (s c : ℕ) → T (every p (from s c)) ↔ ((a : ℕ) → s ≤ a → a < s + c → P a)
 every-from p P law s c = let r = every-all p P law (from s c) in (λ h. from-all P s c (r .0 h), λ h. r .1 (all-from P s c h))
+
+-- lengths and parts
+
+pub length-from : (s c : ℕ) → length (from s c) ≡ c
+length-from s zero = refl
+length-from s (suc c) = ap suc (length-from (suc s) c)
+
+-- the part from a to a + n
+pub part-sized : {A : Type 0} (a n : ℕ) (l : List A) → take (a + n - a) l ≡ take n l
+part-sized a n l = rw add-sub-cancel-left
+
+-- a part to the end is what is left
+pub part-rest : {A : Type 0} (k : ℕ) (l : List A) → take (length l - k) (drop k l) ≡ drop k l
+part-rest k l = take-all (length l - k) (drop k l) (omega (arith, length-drop k l))
+
+pub none-left : {A : Type 0} (l : List A) (k : ℕ) → k ≤ length l → eqb k (length l) ≡ empty? (drop k l)
+none-left {A} l k h = go (drop k l) (length-drop k l)
+  where
+    go : (rest : List A) → length rest ≡ length l - k → eqb k (length l) ≡ empty? rest
+    go [] e = eq-eqb k (length l) (omega arith)
+    go (x ∷ rest) e = ne-eqb k (length l) (λ q. omega arith)

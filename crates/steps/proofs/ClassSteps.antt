@@ -8,8 +8,9 @@ use borrow.Author.Tests.{lt-leb}
 use lib.ListN.{length, length-append, length-map}
 use Rattle.rules.specs.Lists.{from}
 use Rattle.rules.specs.Preferred.{ofClass}
+use Rattle.rules.proofs.Lists.{length-from}
 use Rattle.stores.specs.Program.{Rising}
-use Rattle.pairing.proofs.ListLaws.{length-from, shifted}
+use Rattle.pairing.proofs.ListLaws.{shifted}
 use Rattle.text.specs.ClassRuns.{upTo, countWhile}
 use Rattle.output.specs.Emitted.{Emitted, InRange}
 use Rattle.text.proofs.ClassWords.{up-to-le, up-to-rises, class-run}

@@ -143,12 +143,6 @@ module _ (cs : List ℕ) (s u : ℕ) (h b : List ℕ) where
   unfolding lists3
   counted3 e = record { is = ap (λ (j : ℕ). (length h - j + 1) ∷ length b ∷ j ∷ (each (copyOf cs s) h ++ (u ∷ rest3))) (sym e) }
 
--- a run in front of the rest
-pub in-front : (u v : List ℕ) → Ahead (u ++ v) u v
-in-front u v = record { is = refl }
-
-pub one-in-front : (a : ℕ) (v : List ℕ) → Ahead (a ∷ v) (a ∷ []) v
-one-in-front a v = record { is = refl }
 
 pub few-fixed : (ws xs : List ℕ) → fixedAmong ws xs ≤ length xs
 unfolding fixedAmong

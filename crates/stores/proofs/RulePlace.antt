@@ -1,20 +1,19 @@
 -- The check of the rule that stands at `at` in the words, and of the rules one after another.
-use Rattle.rules.specs.Lists.{empty?}
 use Prim.Native.Nat.{ℕ, suc, _+_, _-_, _*_, _≤_, _<_}
 use mathlib.Core.Path.{_≡_, refl, sym, ap, ap₂, _∙_, subst}
 use mathlib.Core.Bool.{Bool, true, false, not, _&&_, cond}
 use mathlib.Core.List.{List}
 use native.Mathlib.Omega.{arith}
 use native.Mathlib.Nat.{add-zero}
-use native.Mathlib.Decide.{ℕ-discrete}
 use lib.Dec.{T, eqb}
-use lib.ListN.{length, getD, take, drop, length-drop, drop-of-length-le}
-use lib.Seq.{getD-drop, drop-drop, drop-cons}
-use borrow.Author.Tests.{not-true, not-false, eq-eqb, ne-eqb}
+use lib.ListN.{length, getD, take, drop, length-drop}
+use lib.Seq.{getD-drop, drop-drop}
+use borrow.Author.Tests.{not-true, not-false}
 use Rattle.kinds.specs.Limits.{occurrenceLimit, ruleLimit}
 use Rattle.kinds.specs.declared.limits.Kind.{Kind}
 use Rattle.kinds.specs.declared.limits.Kind.the-variants.{Plain, Preference}
 use Rattle.rules.specs.Rules.{Rule, rule}
+use Rattle.rules.proofs.Lists.{none-left}
 use Rattle.stores.specs.RuleStore.{Below, rules?, heads, bodies, nots, places, ruleAt, lists?, not?, rule?, ruleCheck}
 use Rattle.stores.specs.declared.rule_store.RuleCheck.{RuleCheck}
 use Rattle.stores.specs.declared.rule_store.RuleCheck.the-variants.{Next, Broken}
@@ -122,13 +121,6 @@ module _ (ws : List ℕ) (at : ℕ) where
         step : (t : Bool) → T t → Next (at + (3 + places (drop at ws))) (used + places (drop at ws)) ≡ cond t (Next (at + (3 + places (drop at ws))) (used + places (drop at ws))) Broken
         step true k = refl
         step false k = absurd k
-
-none-left : (ws : List ℕ) (at : ℕ) → at ≤ length ws → eqb at (length ws) ≡ empty? (drop at ws)
-none-left ws at h = step (ℕ-discrete at (length ws))
-  where
-    step : Dec (at ≡ length ws) → eqb at (length ws) ≡ empty? (drop at ws)
-    step (yes e) = let l : length ws ≤ at = omega arith in eq-eqb at (length ws) e ∙ ap empty? (sym (drop-of-length-le ws l))
-    step (no e) = ne-eqb at (length ws) e ∙ ap empty? (sym (drop-cons ws at 0 (omega arith)))
 
 -- i rules are passed, the next one stands at `at`, and each has had three stamps
 pub record Passing (words : List ℕ) (start : ℕ) (kind : Kind) (atoms rules : ℕ) (marks₀ marks : List ℕ) (at used i : ℕ) : Type 0 where

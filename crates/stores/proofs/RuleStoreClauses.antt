@@ -1,13 +1,14 @@
 -- Document 01's paragraph on the rule store, clause by clause: a store that is accepted, and the same with one thing wrong.
 use Prim.Native.Nat.{ℕ, _+_, _<_}
 use mathlib.Core.Path.{_≡_, refl}
-use mathlib.Core.Bool.{Bool, true, false}
+use mathlib.Core.Bool.{true, false}
 use mathlib.Core.List.{List, [], _∷_}
 use native.Mathlib.Omega.{arith}
-use lib.Dec.{T, leb→le}
+use lib.Dec.{leb→le}
 use lib.ListN.{replicate}
 use Rattle.kinds.specs.Limits.{ruleLimit, occurrenceLimit}
 use Rattle.kinds.specs.declared.limits.Kind.{Kind}
+use Rattle.rules.proofs.Booleans.{is-false}
 use Rattle.stores.specs.Program.{roleOf}
 use Rattle.stores.specs.RuleStore.{places, ruleAt, words?, list?, lists?, rule?, rules?, program?, store?}
 use Rattle.stores.proofs.RuleTests.{and-iff, rule-tested}
@@ -116,10 +117,6 @@ unfolding store? rules? rule? lists? list? ruleAt words?
 preference-rules = (refl, refl)
 
 -- the limits as laws
-
-is-false : (b : Bool) → (T b → ⊥) → b ≡ false
-is-false true h = absurd (h tt)
-is-false false h = refl
 
 past-rules : (kind : Kind) (n k r : ℕ) (ws : List ℕ) → ruleLimit kind < r → program? kind n k r ws ≡ false
 past-rules kind n k r ws h = is-false (program? kind n k r ws) (λ t. let s = simp and-iff at t in omega (arith, leb→le r (ruleLimit kind) (s .1 .0)))

@@ -60,10 +60,21 @@ unfolding rulesFrom
 rules-front [] = refl
 rules-front (r ∷ rs) = λ i. rule-front r (flat ruleWords rs) i ∷ (ap (rulesFrom (length rs)) (past-front r (flat ruleWords rs)) ∙ rules-front rs) i
 
-rules-count : (r : ℕ) (ws : List ℕ) → length (rulesFrom r ws) ≡ r
+pub rules-count : (r : ℕ) (ws : List ℕ) → length (rulesFrom r ws) ≡ r
 unfolding rulesFrom
 rules-count zero ws = refl
 rules-count (suc r) ws = ap suc (rules-count r (drop (3 + places ws) ws))
+
+pub rules-length : (rs : List (Rule ℕ)) → length (flat ruleWords rs) ≡ 3 * length rs + sum occurrences rs
+rules-length [] = refl
+rules-length (r ∷ rs) =
+    omega (
+      arith,
+      length-append (ruleWords r) (flat ruleWords rs),
+      length-append (r .head) (r .body ++ r .nots),
+      length-append (r .body) (r .nots),
+      rules-length rs,
+    )
 
 -- the class words
 

@@ -189,3 +189,9 @@ rule-law kind n used ws = (
       rule-tested kind n used ws .1
       (record { inside = h .inside; fits = h .fits; nots-fit = not-law kind ws (h .inside) .1 (h .form .no-nots); lists-fit = lists-law n (ruleAt ws) .1 (h .form .head-form, h .form .body-form, h .form .nots-form) }),
 )
+
+-- words that never fall are at least the bound
+pub rising-from : (b : ℕ) (ws : List ℕ) → Rising b ws → (i : ℕ) → i < length ws → b ≤ getD ws i 0
+rising-from b [] r i l = absurd (omega arith)
+rising-from b (x ∷ ws) r zero l = r .0
+rising-from b (x ∷ ws) r (suc i) l = omega (arith, rising-from x ws (r .1) i (omega arith), r .0)

@@ -11,6 +11,7 @@ use borrow.Author.Tests.{le-leb, leb-true, leb-false, eq-eqb, ne-eqb}
 use Rattle.rules.specs.Lists.{keep, filter, from}
 use Rattle.rules.specs.Preferred.{ofClass}
 use Rattle.stores.specs.Program.{Rising}
+use Rattle.stores.proofs.RuleTests.{rising-from}
 use Rattle.text.specs.ClassRuns.{upTo, countWhile}
 
 -- consecutive numbers in two parts
@@ -95,11 +96,6 @@ within w (x ∷ ws) (suc i) l = go (leb x w) (within w ws i) l
     go : (b : Bool) → (i < upTo w ws → getD ws i 0 ≤ w) → suc i < countWhile b (upTo w ws) → getD ws i 0 ≤ w
     go true f h = f (omega arith)
     go false f h = absurd (omega arith)
-
-rising-from : (b : ℕ) (ws : List ℕ) → Rising b ws → (i : ℕ) → i < length ws → b ≤ getD ws i 0
-rising-from b [] r i l = absurd (omega arith)
-rising-from b (x ∷ ws) r zero l = r .0
-rising-from b (x ∷ ws) r (suc i) l = omega (arith, rising-from x ws (r .1) i (omega arith), r .0)
 
 past : (w b : ℕ) (ws : List ℕ) → Rising b ws → (i : ℕ) → upTo w ws ≤ i → i < length ws → w < getD ws i 0
 unfolding upTo

@@ -1,4 +1,4 @@
--- The line of a rule, part by part, and the rules, one after the other.
+-- The line of a rule, part-sized by part-sized, and the rules, one after the other.
 use Prim.Native.Nat.{ℕ, suc, _+_, _-_, _≤_, _<_}
 use native.Mathlib.Nat.{add-sub-cancel-left}
 use native.Mathlib.Omega.{arith}
@@ -8,6 +8,7 @@ use lib.ListN.{length, take, drop, length-drop}
 use lib.Seq.{take-all, drop-drop}
 use Rattle.rules.specs.Lists.{All}
 use Rattle.rules.specs.Rules.{Rule}
+use Rattle.rules.proofs.Lists.{part-sized}
 use Rattle.stores.specs.RuleStore.{heads, bodies, nots, places, ruleAt, rulesFrom}
 use Rattle.kinds.specs.Words.{space, open-bracket, close-bracket, line-end, ruleWord, headWord, bodyWord, notWord}
 use Rattle.text.specs.Text.{openText, ruleLine, ruleText}
@@ -40,22 +41,19 @@ module _ (names : List (List ℕ)) where
   pub bodyRest : Rule ℕ → List ℕ
   bodyRest r = atomPart names beforeBody (r .body) ++ notRest r
 
-  -- the part of a list from a to a + n, as the code takes it
-  part : (a n : ℕ) (l : List ℕ) → take (a + n - a) l ≡ take n l
-  part a n l = rw add-sub-cancel-left
 
   module _ (ws : List ℕ) where
     pub head-ahead : Ahead (ruleItem names (ruleAt ws)) (atomPart names beforeHead (take (3 + heads ws - 3) (drop 3 ws))) (bodyRest (ruleAt ws))
     unfolding ruleItem ruleLine openText atomPart atomItems bodyRest notRest ruleAt
-    head-ahead = record { is = ap (λ (l : List ℕ). atomPart names beforeHead l ++ bodyRest (ruleAt ws)) (sym (part 3 (heads ws) (drop 3 ws))) }
+    head-ahead = record { is = ap (λ (l : List ℕ). atomPart names beforeHead l ++ bodyRest (ruleAt ws)) (sym (part-sized 3 (heads ws) (drop 3 ws))) }
 
     pub body-ahead : Ahead (bodyRest (ruleAt ws)) (atomPart names beforeBody (take (3 + heads ws + bodies ws - (3 + heads ws)) (drop (3 + heads ws) ws))) (notRest (ruleAt ws))
     unfolding bodyRest ruleAt
-    body-ahead = record { is = ap (λ (l : List ℕ). atomPart names beforeBody l ++ notRest (ruleAt ws)) (sym (part (3 + heads ws) (bodies ws) (drop (3 + heads ws) ws))) }
+    body-ahead = record { is = ap (λ (l : List ℕ). atomPart names beforeBody l ++ notRest (ruleAt ws)) (sym (part-sized (3 + heads ws) (bodies ws) (drop (3 + heads ws) ws))) }
 
     pub not-ahead : Ahead (notRest (ruleAt ws)) (atomPart names beforeNot (take (3 + heads ws + bodies ws + nots ws - (3 + heads ws + bodies ws)) (drop (3 + heads ws + bodies ws) ws))) afterNot
     unfolding notRest ruleAt
-    not-ahead = record { is = ap (λ (l : List ℕ). atomPart names beforeNot l ++ afterNot) (sym (part (3 + heads ws + bodies ws) (nots ws) (drop (3 + heads ws + bodies ws) ws))) }
+    not-ahead = record { is = ap (λ (l : List ℕ). atomPart names beforeNot l ++ afterNot) (sym (part-sized (3 + heads ws + bodies ws) (nots ws) (drop (3 + heads ws + bodies ws) ws))) }
 
 -- the atoms of each list are below n
 module _ {n : ℕ} {ws : List ℕ} (h : StoredRule n ws) where

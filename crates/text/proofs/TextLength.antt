@@ -2,7 +2,7 @@
 use Prim.Native.Nat.{ℕ, zero, suc, _+_, _*_, _≤_}
 use native.Mathlib.Omega.{arith}
 use native.Mathlib.Nat.{mul-le-mul}
-use mathlib.Core.Path.{_≡_, refl, ap}
+use mathlib.Core.Path.{_≡_}
 use mathlib.Core.Bool.{Bool, true, false}
 use mathlib.Core.List.{List, [], _∷_, _++_}
 use lib.Dec.{T, eqb}
@@ -13,7 +13,7 @@ use Rattle.kinds.specs.declared.limits.Kind.the-variants.{Plain, Preference}
 use Rattle.rules.specs.Lists.{All, keep, filter, sum, flat, from}
 use Rattle.rules.specs.Rules.{Rule, occurrences}
 use Rattle.rules.specs.Preferred.{ofClass, varying, fixed}
-use Rattle.rules.proofs.Lists.{all-imp}
+use Rattle.rules.proofs.Lists.{all-imp, length-from}
 use Rattle.stores.specs.Program.{Program, ClassesForm, Form}
 use Rattle.names.specs.Names.{allowed}
 use Rattle.name_store.specs.NameStore.{NamesForm}
@@ -58,12 +58,8 @@ filter-length p (x ∷ xs) = go (p x) (filter-length p xs)
     go true h = omega arith
     go false h = omega arith
 
-from-length : (s c : ℕ) → length (from s c) ≡ c
-from-length s zero = refl
-from-length s (suc c) = ap suc (from-length (suc s) c)
-
 class-length : (ws : List ℕ) (w : ℕ) → length (ofClass ws w) ≤ length ws
-class-length ws w = omega (arith, filter-length (λ a. eqb (getD ws a 0) w) (from 0 (length ws)), from-length 0 (length ws))
+class-length ws w = omega (arith, filter-length (λ a. eqb (getD ws a 0) w) (from 0 (length ws)), length-from 0 (length ws))
 
 module _ (p : Program) (names : List (List ℕ)) (short : Short names) where
   -- a class line, its word being of at most four bytes

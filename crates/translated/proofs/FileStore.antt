@@ -12,15 +12,15 @@ use Rattle.kinds.specs.declared.limits.Kind.{Kind}
 use Rattle.kinds.specs.declared.limits.Kind.the-variants.{Preference}
 use Rattle.rules.specs.Lists.{All, filter, flat, from, sum}
 use Rattle.rules.specs.Rules.{Rule, occurrences}
-use Rattle.rules.proofs.Lists.{all-filter, all-from, from-all}
+use Rattle.rules.proofs.Lists.{all-filter, all-from, from-all, length-from}
 use Rattle.stores.specs.Program.{Program, Form, ClassesForm, Rising}
 use Rattle.stores.specs.RuleStore.{ruleWords, encode, decode, wordCount, rulesFrom}
 use Rattle.stores.proofs.RuleTests.{rule-front, past-front}
+use Rattle.stores.proofs.RuleStores.{rules-length}
 use Rattle.pairing.specs.Atoms.{originals, classWord, fixed?, minimised?, minimisedAtoms, unfixedAtoms, fixedAtoms, declared}
 use Rattle.pairing.specs.Loops.{looped}
 use Rattle.pairing.specs.Translated.{translated, numbers}
 use Rattle.pairing.proofs.Fit.{Fit, Inside, fit-of}
-use Rattle.pairing.proofs.ListLaws.{length-from}
 use Rattle.pairing.proofs.SumLaws.{length-parts}
 use Rattle.pairing.proofs.Numbering.{count, minimised-first}
 use Rattle.pairing.proofs.Sums.{rules-sum}
@@ -34,7 +34,7 @@ use Rattle.steps.specs.Offsets.{offsetsOf, Small, FileFits, ClassesFit}
 use Rattle.translated.specs.PreferenceStore.{PreferenceStore}
 use Rattle.steps.specs.Roles.{Low, FirstMinimised, minimisedCount, unfixedCount}
 use Rattle.steps.specs.StepWords.{stepWords}
-use Rattle.translated.proofs.StoreWords.{all-steps, rules-length}
+use Rattle.translated.proofs.StoreWords.{all-steps}
 
 file-rules : (n : ℕ) (rs : List (Rule ℕ)) → All (Inside n) rs → sum occurrences rs ≤ occurrenceLimit Preference → FileRules n (length rs) (flat ruleWords rs)
 file-rules n [] h l = tt

@@ -1,11 +1,11 @@
 -- The words of all steps are those of the translated rules.
-use Prim.Native.Nat.{ℕ, suc, _+_, _-_, _*_}
+use Prim.Native.Nat.{ℕ, suc, _+_, _-_}
 use native.Mathlib.Omega.{arith}
 use mathlib.Core.Path.{_≡_, refl, sym, ap, ap₂, _∙_}
 use mathlib.Core.List.{List, [], _∷_, _++_, map, append-assoc}
-use lib.ListN.{length, getD, length-append}
-use Rattle.rules.specs.Lists.{flat, from, sum}
-use Rattle.rules.specs.Rules.{Rule, occurrences}
+use lib.ListN.{getD}
+use Rattle.rules.specs.Lists.{flat, from}
+use Rattle.rules.specs.Rules.{Rule}
 use Rattle.stores.specs.RuleStore.{ruleWords}
 use Rattle.pairing.specs.Loops.{loop1, loop2, loop3, loop4, loop5, loop6, loop789, loop10}
 use Rattle.pairing.proofs.ListLaws.{shifted}
@@ -125,14 +125,3 @@ pub steps-open : (ws : List ℕ) (rs : List (Rule ℕ)) (k m : ℕ) (o : Offsets
 unfolding stepWords
 steps-open ws rs k m o = record { is = refl }
 
--- a store has four words, a word for each atom of a preference file, three for each rule and one for each occurrence
-pub rules-length : (rs : List (Rule ℕ)) → length (flat ruleWords rs) ≡ 3 * length rs + sum occurrences rs
-rules-length [] = refl
-rules-length (r ∷ rs) =
-    omega (
-      arith,
-      length-append (r .head ++ (r .body ++ r .nots)) (flat ruleWords rs),
-      length-append (r .head) (r .body ++ r .nots),
-      length-append (r .body) (r .nots),
-      rules-length rs,
-    )

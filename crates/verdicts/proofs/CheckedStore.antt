@@ -17,11 +17,12 @@ use Rattle.rules.specs.Lists.{All, flat, from}
 use Rattle.rules.specs.Sets.{has}
 use Rattle.rules.specs.Rules.{Rule, occurrences, reduct, model?, firstBroken}
 use Rattle.rules.specs.Preferred.{fixed, ofClass}
-use Rattle.rules.proofs.Lists.{all-app, all-imp}
+use Rattle.rules.proofs.Lists.{all-app, all-imp, length-from}
 use Rattle.rules.proofs.Preferred.{all-of-class}
 use Rattle.stores.specs.Program.{Program, ClassesForm, RuleForm, NotForm}
 use Rattle.stores.specs.RuleStore.{ruleWords, encode, StoreOf, wordCount, places, rulesFrom, decode}
 use Rattle.stores.proofs.RuleTests.{past-front}
+use Rattle.stores.proofs.RuleStores.{words-count}
 use Rattle.walks.specs.Walk.{search, capped, stableWalk, preferredNeeds, stableNeeds, preferredVerdict, stableVerdict, candidates, firstState, cappedNext, nextVerdict}
 use Rattle.masks.specs.Masks.{maskOf, careOf, wantOf, filled, classMasks, firstM, modelM, preferredM, stableWalkM, gatherCare, gatherWant}
 use Rattle.walks.specs.declared.answers.Verdict.{Verdict}
@@ -45,10 +46,6 @@ class-mask-lt ws w = mask-lt (length ws) (ofClass ws w) (all-of-class ws w (λ a
 -- a list has as many entries as were taken
 pub taken-fits : (r : ℕ) (l : List ℕ) → r ≡ length (take r l) → r ≤ length l
 taken-fits r l e = omega (arith, length-take r l)
-
-length-from : (s c : ℕ) → length (from s c) ≡ c
-length-from s zero = refl
-length-from s (suc c) = ap suc (length-from (suc s) c)
 
 take-map : (f : ℕ → ℕ) (s k j : ℕ) → take k (map f (from s (k + j))) ≡ map f (from s k)
 take-map f s zero j = refl
@@ -96,10 +93,6 @@ module _ (ws : List ℕ) (kind : Kind) (n : ℕ) (few : n ≤ walkAtoms) where
 
 -- the words of a store, by its program
 
-word-count : (kind : Kind) (n k : ℕ) (ws : List ℕ) → ClassesForm kind n k ws → length ws ≡ wordCount kind n
-word-count Plain n k ws h = ap length (h .1)
-word-count Preference n k ws h = h .1
-
 module _ (ws : List ℕ) (p : Program) (s : StoreOf ws p) where
   pub has-header : 4 ≤ length ws
   unfolding encode
@@ -122,7 +115,7 @@ module _ (ws : List ℕ) (p : Program) (s : StoreOf ws p) where
   body = ap (drop 4) (sym (s .words))
 
   words-long : length (p .words) ≡ wordCount (p .kind) (p .atoms)
-  words-long = word-count (p .kind) (p .atoms) (p .classes) (p .words) (s .form .classes-form)
+  words-long = words-count (p .kind) (p .atoms) (p .classes) (p .words) (s .form .classes-form)
 
   pub room-for-words : 4 + wordCount (p .kind) (p .atoms) ≤ length ws
   room-for-words =

@@ -1,10 +1,10 @@
 -- What the writer answers and leaves, from what its parts did.
-use Prim.Native.Nat.{ℕ, _+_, _*_, _≤_, _<_}
+use Prim.Native.Nat.{ℕ, _+_, _≤_, _<_}
 use native.Mathlib.Nat.{zero-add}
 use native.Mathlib.Omega.{arith}
 use mathlib.Core.Path.{_≡_, sym, ap, _∙_, subst}
 use mathlib.Core.Bool.{Bool, true, false}
-use mathlib.Core.List.{List, [], _∷_, _++_}
+use mathlib.Core.List.{List, _++_}
 use lib.Dec.{T}
 use lib.ListN.{length, getD, take, drop, length-append}
 use lib.Seq.{take-at, length-take-le, sets-eq}
@@ -13,15 +13,14 @@ use Rattle.kinds.specs.Limits.{atomLimit}
 use Rattle.kinds.specs.declared.limits.Kind.{Kind}
 use Rattle.kinds.specs.declared.limits.Kind.the-variants.{Plain}
 use Rattle.kinds.specs.declared.refusals.Refusal.the-variants.{Output, RuleStore, NameStore}
-use Rattle.rules.specs.Lists.{All}
 use Rattle.rules.proofs.Lists.{all-imp}
+use Rattle.rules.proofs.Booleans.{is-true, is-false}
 use Rattle.names.specs.Names.{allowed}
 use Rattle.stores.specs.RuleStore.{StoreOf, decode, ruleStore, store?}
 use Rattle.name_store.specs.NameStore.{encodeNames, NamesOf, decodeNames, names?}
 use Rattle.name_store.specs.NameIndex.{Placed}
 use Rattle.stores.specs.declared.rule_store.RuleStore.the-variants.{Of, Refused as NoStore}
-use Rattle.name_store.proofs.NameChains.{bool-true, bool-false}
-use Rattle.name_store.proofs.NameStores.{allowed-short, decoded-names}
+use Rattle.name_store.proofs.NameStores.{allowed-short, decoded-names, encoded-length}
 use Rattle.stores.proofs.RuleStores.{store-law, of-kind, refused}
 use Rattle.stores.proofs.StoreHeader.{atoms-small}
 use Rattle.text.specs.Text.{textOf}
@@ -46,11 +45,6 @@ module _ {none none′ w : List ℕ} {size : ℕ} (e : Emitted none 0 w none′ 
         rw t (p .bytes ∙ sets-eq w d 0 c ∙ ap (λ (m : ℕ). w ++ drop m d) (zero-add (length w))),
       )
 
--- a name store of short names is short
-encoded-length : (names : List (List ℕ)) → All (λ x. length x ≤ 18) names → length (encodeNames names) ≤ 19 * length names
-unfolding encodeNames
-encoded-length [] h = omega arith
-encoded-length (x ∷ names) h = omega (arith, length-append x (encodeNames names), encoded-length names (h .1), h .0)
 
 -- two stores of the form
 module _ {rules names : List ℕ} (s : StoreOf rules (decode rules)) (m : NamesOf names (decode rules .kind) (decode rules .atoms) (decodeNames (decode rules .atoms) names)) where
@@ -121,14 +115,14 @@ module _ {rules names : List ℕ} (s : StoreOf rules (decode rules)) (m : NamesO
 module _ (rules names before : List ℕ) where
   pub no-store : ruleStore rules ≡ NoStore → (Refused RuleStore ≡ writeAnswer rules names (length before)) × (before ≡ writeOutput rules names before)
   unfolding writeAnswer writeOutput
-  no-store e = let t : store? rules ≡ false = bool-false (store? rules) (refused rules .0 e) in (rw t, rw t)
+  no-store e = let t : store? rules ≡ false = is-false (store? rules) (refused rules .0 e) in (rw t, rw t)
 
   module _ (kind : Kind) (e : ruleStore rules ≡ Of kind) where
     pub store-here : StoreOf rules (decode rules)
     store-here = of-kind rules kind e .0
 
     is-store : store? rules ≡ true
-    is-store = bool-true (store? rules) (store-law rules .1 (decode rules, store-here))
+    is-store = is-true (store? rules) (store-law rules .1 (decode rules, store-here))
 
     pub atoms-fit : getD rules 1 0 ≤ atomLimit Plain
     unfolding decode

@@ -1,6 +1,6 @@
-use Rattle.steps.proofs.RuleSteps.{counts-ahead, in-front, bodies-few}
+use Rattle.steps.proofs.RuleSteps.{counts-ahead, bodies-few}
 use Rattle.text.proofs.AtomItems.{last-run}
-use Rattle.output.proofs.Emitting.{start, turn, finish, range-begin, range-here}
+use Rattle.output.proofs.Emitting.{start, turn, finish, range-begin, range-here, in-front}
 use mathlib.Core.Path.{refl}
 use native.Mathlib.Omega.{arith}
 use borrow.Author.Needs.{needs}

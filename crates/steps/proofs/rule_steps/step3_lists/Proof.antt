@@ -1,6 +1,6 @@
-use Rattle.steps.proofs.RuleSteps.{counted3, in-front, one-in-front, few-fixed}
+use Rattle.steps.proofs.RuleSteps.{counted3, few-fixed}
 use Rattle.text.proofs.AtomItems.{last-run}
-use Rattle.output.proofs.Emitting.{start, turn, finish, range-begin, range-here}
+use Rattle.output.proofs.Emitting.{start, turn, finish, range-begin, range-here, in-front, one-in-front}
 use mathlib.Core.Path.{refl}
 use native.Mathlib.Omega.{arith}
 use borrow.Author.Needs.{needs}

@@ -1,8 +1,8 @@
 use mathlib.Core.Path.{sym, _∙_}
 use Rattle.numbering.proofs.HashedNames.{item-out, item-space, item-other}
 use borrow.Author.Needs.{needs}
-use Rattle.numbering.proofs.numbers.hashed_item_at.Statement.{statement}
-use Rattle.numbering.proofs.numbers.hashed_item_at.Tie as tie
+use Rattle.numbering.proofs.hashed_items.hashed_item_at.Statement.{statement}
+use Rattle.numbering.proofs.hashed_items.hashed_item_at.Tie as tie
 
 returns : tie.Need-returns
 returns c = sym (item-out _ _ (c .if1 .taken))

@@ -3,8 +3,8 @@ use mathlib.Core.Path.{sym, _∙_}
 use lib.ListN.{length}
 use Rattle.numbering.proofs.HashedNames.{Hashing, hashing, hash-out, hash-ends, hash-goes-on}
 use borrow.Author.Needs.{needs}
-use Rattle.numbering.proofs.numbers.hashed_run_at.Statement.{statement}
-use Rattle.numbering.proofs.numbers.hashed_run_at.Tie as tie
+use Rattle.numbering.proofs.hashed_items.hashed_run_at.Statement.{statement}
+use Rattle.numbering.proofs.hashed_items.hashed_run_at.Tie as tie
 
 abbrev Inv-loop : tie.InvT-loop
 Inv-loop s at i₀ hash₀ i hash = Hashing s at i hash
