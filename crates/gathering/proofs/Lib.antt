@@ -1,6 +1,4 @@
--- The laws of a line's step.
+-- The laws of the scratch stores and of a rule's step.
 pub mod KeptRules
 pub mod HeldState
 pub mod RuleSteps
-pub mod KeptAtoms
-pub mod DeclaredSteps

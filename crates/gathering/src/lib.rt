@@ -1,4 +1,3 @@
-// What each line adds to the scratch stores, or its lowest fault (document 01, "Who can be turned back").
-pub mod declared_line;
+// What the lines so far have given, and what a rule's line adds (document 01, "Who can be turned back").
 pub mod gathered;
 pub mod rule_line;

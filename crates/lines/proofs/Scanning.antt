@@ -92,8 +92,6 @@ no-item (b ∷ s) e = go (eqb b 32) e
     go true e = absurd (let z : _≡_ {A = ℕ} 0 1 = cc in omega arith)
     go false e = refl
 
-
-
 -- at each step of a walk over items
 module _ (s : List ℕ) (i : ℕ) {r : Item} (e : r ≡ itemOf (drop i s)) where
   pub items-end : r ≡ Stop → items (drop i s) ≡ []

@@ -1,13 +1,13 @@
 // The next state: the least preferred set from a start on.
 use kinds::limits::Kind;
 use kinds::limits::Preference;
+use masks::guard::Guard;
+use masks::guard::check_call;
 use masks::masks::fill_classes;
 use masks::masks::fill_rules;
 use masks::masks::first_broken;
 use masks::masks::wide;
-use verdicts::guard::Guard;
-use verdicts::guard::check_call;
-use verdicts::preferred::preferred_walk;
+use preferred_verdict::preferred::preferred_walk;
 use walks::answers::NextState;
 use walks::answers::Verdict;
 ghost use mathlib.Core.Path.{_≡_};

@@ -1,4 +1,4 @@
--- The laws of masks.
+-- The laws of masks, of subsets, and of a call's checks.
 pub mod Bits
 pub mod Stepping
 pub mod MaskBits
@@ -7,3 +7,8 @@ pub mod ClassMasks
 pub mod MaskLoops
 pub mod RowLaws
 pub mod ClassFill
+pub mod Subsets
+pub mod Steps
+pub mod VerdictMasks
+pub mod CheckedStore
+pub mod Guarding

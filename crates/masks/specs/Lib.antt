@@ -1,3 +1,4 @@
--- Rules and classes as masks.
+-- Rules and classes as masks, and the subsets of a set by number.
 pub mod Masks
 pub mod Rows
+pub mod Subsets

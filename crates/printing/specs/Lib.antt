@@ -1,3 +1,2 @@
 -- What the two programs print.
 pub mod Printed
-pub mod StoresPrinted

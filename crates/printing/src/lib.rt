@@ -1,3 +1,2 @@
-// What the two programs print (document 01, "Sheets of known states").
-pub mod listing;
+// The lines that the two programs print (document 01, "Sheets of known states").
 pub mod printing;

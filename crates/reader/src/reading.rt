@@ -1,5 +1,5 @@
 // The lines of a text, one after another, into the scratch stores.
-use gathering::declared_line;
+use declaring::declared_line;
 use gathering::gathered::Gathered;
 use gathering::gathered::Line;
 use gathering::rule_line;

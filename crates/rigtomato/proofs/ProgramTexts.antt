@@ -35,7 +35,7 @@ use Rattle.delivery.specs.Answers.{readAnswer, readRules, readNames, ruleWordsO
 use Rattle.reader.proofs.RoundTrip.{accepted-form}
 use Rattle.translation.specs.Answers.{translationText, storesTranslation, translateAnswer, translateOutput}
 use Rattle.printing.specs.Printed.{refusedText, wholeListing, sized, ofKind, onSaid, printed, translatePrinted, statesOf, statesPrinted}
-use Rattle.printing.specs.StoresPrinted.{writtenPrinted, storesTranslated, storesStates}
+use Rattle.listing.specs.StoresPrinted.{writtenPrinted, storesTranslated, storesStates}
 use Rattle.rigtomato.proofs.Demand3.{Filled, never, filled, reads-as, front, named, stores-text}
 use Rattle.printing.proofs.PrintedLines.{refused-short}
 

@@ -41,14 +41,14 @@ pub fn translate(rules: &[u16], names: &[u8], out: &mut [u8]) -> writer::Written
 pub fn preferred(rules: &[u16], set: u64, budget: u64) -> walks::answers::Verdict
     ensures { λ r. ⌜ r ≡ preferredAnswer (now (rules .entry)) set budget ⌝ }
 {
-    verdicts::preferred::preferred(rules, set, budget)
+    preferred_verdict::preferred::preferred(rules, set, budget)
 }
 
 // Whether a set of a plain store's atoms is stable.
 pub fn stable(rules: &[u16], set: u64, budget: u64) -> walks::answers::Verdict
     ensures { λ r. ⌜ r ≡ stableAnswer (now (rules .entry)) set budget ⌝ }
 {
-    verdicts::stable::stable(rules, set, budget)
+    stable_verdict::stable::stable(rules, set, budget)
 }
 
 // The least preferred set from a number on.

@@ -2,8 +2,8 @@
 use delivery::answers::Read;
 use kinds::limits::Kind;
 use kinds::refusals::Refusal;
+use listing::listing::show_states;
 use numbering::scratch::Scratch;
-use printing::listing::show_states;
 use printing::printing::show;
 use printing::printing::show_refused;
 use reader::read;
@@ -14,7 +14,7 @@ ghost use lib.ListN.{length};
 ghost use Rattle.kinds.specs.Limits.{streamLimit};
 ghost use Rattle.numbering.specs.Scratch.{scratchWords, scratchBytes};
 ghost use Rattle.printing.specs.Printed.{translatePrinted, statesPrinted, Shown};
-ghost use Rattle.printing.specs.StoresPrinted.{storesTranslated};
+ghost use Rattle.listing.specs.StoresPrinted.{storesTranslated};
 
 // What the translator prints on two stores.
 fn show_translation(rules: &[u16], names: &[u8], out: &mut [u8]) -> usize

@@ -18,8 +18,7 @@ use Rattle.output.proofs.Emitting.{Ahead, Emitting, start, turn, finish, range-
 use Rattle.steps.specs.declared.offsets.Offsets.{Offsets}
 use Rattle.steps.specs.Roles.{Low}
 use Rattle.steps.specs.StepWords.{each, single, words5, runWords5}
-use Rattle.steps.proofs.StepLaws.{run-next, run-ends}
-use Rattle.steps.proofs.RuleSteps.{each-single}
+use Rattle.steps.proofs.StepLaws.{run-next, run-ends, each-single}
 
 -- a class whose atoms are a run
 module _ (o : Offsets) (i first end : ℕ) where

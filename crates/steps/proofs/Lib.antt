@@ -1,5 +1,4 @@
 -- The laws of the steps.
 pub mod Roles
 pub mod StepLaws
-pub mod RuleSteps
 pub mod ClassSteps

@@ -16,6 +16,11 @@ use Rattle.steps.specs.declared.offsets.Offsets.{Offsets}
 use Rattle.steps.specs.Roles.{classOf, FirstMinimised}
 use Rattle.steps.proofs.Roles.{minimised-class}
 
+pub each-single : (xs : List ℕ) → each single xs ≡ xs
+unfolding each single
+each-single [] = refl
+each-single (x ∷ xs) = ap (λ (l : List ℕ). x ∷ l) (each-single xs)
+
 -- the words of a run of numbers
 module _ (g : ℕ → List ℕ) (i end : ℕ) where
   pub run-next : i < end → Ahead (each g (from i (end - i))) (g i) (each g (from (i + 1) (end - (i + 1))))

@@ -41,7 +41,6 @@ module _ (names : List (List ℕ)) where
   pub bodyRest : Rule ℕ → List ℕ
   bodyRest r = atomPart names beforeBody (r .body) ++ notRest r
 
-
   module _ (ws : List ℕ) where
     pub head-ahead : Ahead (ruleItem names (ruleAt ws)) (atomPart names beforeHead (take (3 + heads ws - 3) (drop 3 ws))) (bodyRest (ruleAt ws))
     unfolding ruleItem ruleLine openText atomPart atomItems bodyRest notRest ruleAt

@@ -124,4 +124,3 @@ module _ (ws : List ℕ) (rs : List (Rule ℕ)) (k m q : ℕ) (o : Offsets) (d-i
 pub steps-open : (ws : List ℕ) (rs : List (Rule ℕ)) (k m : ℕ) (o : Offsets) → Ahead (stepWords ws rs k m o) (fileWords ws rs o) (classWords ws k m o ++ lastWords k o)
 unfolding stepWords
 steps-open ws rs k m o = record { is = refl }
-

@@ -1,12 +1,12 @@
 // The rule store of the translation.
 use output::words::emit;
+use rule_steps::rule_steps::step2;
+use rule_steps::rule_steps::step3;
 use steps::class_steps::step5;
 use steps::classes::count_minimised;
 use steps::classes::count_unfixed;
 use steps::offsets::Offsets;
 use steps::offsets::numbered;
-use steps::rule_steps::step2;
-use steps::rule_steps::step3;
 use steps::steps::step1;
 use steps::steps::step4;
 use steps::steps::step6;

@@ -45,7 +45,6 @@ module _ {none none′ w : List ℕ} {size : ℕ} (e : Emitted none 0 w none′ 
         rw t (p .bytes ∙ sets-eq w d 0 c ∙ ap (λ (m : ℕ). w ++ drop m d) (zero-add (length w))),
       )
 
-
 -- two stores of the form
 module _ {rules names : List ℕ} (s : StoreOf rules (decode rules)) (m : NamesOf names (decode rules .kind) (decode rules .atoms) (decodeNames (decode rules .atoms) names)) where
   pub few-atoms : getD rules 1 0 ≤ atomLimit Plain

@@ -4,7 +4,7 @@ use native.Mathlib.Omega.{arith}
 use borrow.Author.Needs.{needs}
 use lib.Count.{ones}
 use Rattle.masks.specs.Masks.{preferredM}
-use Rattle.verdicts.proofs.AgreeingSets.{preferred-answered-mask, no-model, a-model}
+use Rattle.preferred_verdict.proofs.AgreeingSets.{preferred-answered-mask, no-model, a-model}
 use Rattle.lister.proofs.Candidates.{no-unit-left, is-state, is-broken, is-beaten, is-spent, is-refused}
 use Rattle.lister.proofs.next.candidate.Statement.{statement}
 use Rattle.lister.proofs.next.candidate.Tie as tie

@@ -4,7 +4,7 @@ use borrow.Author.Needs.{needs}
 use lib.Count.{ones}
 use Rattle.masks.specs.Masks.{preferredM}
 use Rattle.masks.proofs.MaskLoops.{shifted}
-use Rattle.verdicts.proofs.AgreeingSets.{preferred-answered-mask}
+use Rattle.preferred_verdict.proofs.AgreeingSets.{preferred-answered-mask}
 use Rattle.lister.proofs.Candidates.{Scanning, scan-begins, scan-goes-on, scan-stops, scan-ends}
 use Rattle.lister.proofs.next.next_masks.Statement.{statement}
 use Rattle.lister.proofs.next.next_masks.Tie as tie

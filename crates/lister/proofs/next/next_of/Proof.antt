@@ -2,7 +2,7 @@ use mathlib.Core.Path.{refl, sym, subst, _∙_}
 use Prim.Native.Nat.{ℕ, _≤_, _^_}
 use native.Mathlib.Omega.{arith}
 use borrow.Author.Needs.{needs}
-use Rattle.verdicts.proofs.CheckedStore.{PreferenceHeader, Ready, taken-fits, has-header, n-is, preference-atoms, preference-room, preference-rows, preference-rules, ready, care-length, want-length, class-length, free-fits, free-room, free-few, next-ready}
+use Rattle.masks.proofs.CheckedStore.{PreferenceHeader, Ready, taken-fits, has-header, n-is, preference-atoms, preference-room, preference-rows, preference-rules, ready, care-length, want-length, class-length, free-fits, free-room, free-few, next-ready}
 use Rattle.lister.proofs.next.next_of.Statement.{statement}
 use Rattle.lister.proofs.next.next_of.Tie as tie
 

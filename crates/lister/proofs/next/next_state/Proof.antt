@@ -5,7 +5,7 @@ use Rattle.stores.specs.RuleStore.{decode}
 use Rattle.walks.specs.Walk.{nextVerdict}
 use Rattle.walks.specs.Answers.{nextAnswer}
 use Rattle.walks.specs.declared.answers.NextState.the-variants.{Refused}
-use Rattle.verdicts.proofs.Guarding.{call-passes, answer-told, refusal-told, up-to-top, start-inside}
+use Rattle.masks.proofs.Guarding.{call-passes, answer-told, refusal-told, up-to-top, start-inside}
 use Rattle.lister.proofs.next.next_state.Statement.{statement}
 use Rattle.lister.proofs.next.next_state.Tie as tie
 

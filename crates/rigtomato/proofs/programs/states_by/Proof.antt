@@ -1,7 +1,7 @@
 use Rattle.rigtomato.proofs.ProgramTexts.{rules-part, names-part, refused-text, accepted-text, listed-stores}
 use Rattle.printing.proofs.PrintedLines.{shown-renamed}
 use Rattle.printing.specs.Printed.{statesPrinted}
-use Rattle.printing.specs.StoresPrinted.{storesStates}
+use Rattle.listing.specs.StoresPrinted.{storesStates}
 use native.Mathlib.Omega.{arith}
 use borrow.Author.Needs.{needs}
 use Rattle.rigtomato.proofs.programs.states_by.Statement.{statement}

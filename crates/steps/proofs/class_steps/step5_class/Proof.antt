@@ -1,7 +1,6 @@
 use Rattle.steps.proofs.ClassSteps.{run-counts}
-use Rattle.steps.proofs.RuleSteps.{in-front}
 use Rattle.text.proofs.AtomItems.{last-run}
-use Rattle.output.proofs.Emitting.{start, turn, finish, range-begin, range-here}
+use Rattle.output.proofs.Emitting.{start, turn, finish, range-begin, range-here, in-front}
 use mathlib.Core.Path.{refl}
 use borrow.Author.Needs.{needs}
 use Rattle.steps.proofs.class_steps.step5_class.Statement.{statement}

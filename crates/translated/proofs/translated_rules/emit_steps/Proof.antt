@@ -1,7 +1,6 @@
-use Rattle.steps.proofs.RuleSteps.{in-front}
 use Rattle.translated.proofs.StoreWords.{steps-open}
 use Rattle.text.proofs.AtomItems.{last-run}
-use Rattle.output.proofs.Emitting.{start, turn, finish, range-begin, range-here}
+use Rattle.output.proofs.Emitting.{start, turn, finish, range-begin, range-here, in-front}
 use mathlib.Core.Path.{refl}
 use borrow.Author.Needs.{needs}
 use Rattle.translated.proofs.translated_rules.emit_steps.Statement.{statement}

@@ -1,0 +1,248 @@
+-- The step that a declared line makes, one law for each answer.
+use Prim.Native.Nat.{ℕ, suc, _+_, _≤_, _<_}
+use native.Mathlib.Omega.{arith}
+use mathlib.Core.Path.{_≡_, refl, sym, ap, ap₂, _∙_, subst}
+use mathlib.Core.Bool.{Bool, true, false, not, _&&_, _||_}
+use mathlib.Core.List.{List, [], _∷_, _++_, append-nil}
+use lib.Dec.{T, leb}
+use lib.ListN.{length, drop, length-append, length-replicate}
+use lib.Seq.{sets, length-sets}
+use borrow.Author.Tests.{lt-leb, leb-true, not-false}
+use Rattle.kinds.specs.Limits.{atomLimit, classLimit}
+use Rattle.kinds.specs.declared.limits.Kind.{Kind}
+use Rattle.kinds.specs.declared.limits.Kind.the-variants.{Plain, Preference}
+use Rattle.kinds.specs.declared.refusals.Refusal.{Refusal}
+use Rattle.kinds.specs.declared.refusals.Refusal.the-variants.{Form as BrokenForm, Name, DeclaredTwice, Limit}
+use Rattle.rules.specs.Lists.{some, flat}
+use Rattle.rules.proofs.Lists.{all-app-r}
+use Rattle.rules.proofs.Booleans.{both-true}
+use Rattle.names.specs.Names.{allowed}
+use Rattle.name_store.specs.NameStore.{decodeNames}
+use Rattle.name_store.specs.NameIndex.{Indexed}
+use Rattle.stores.specs.RuleStore.{ruleWords, wordCount}
+use Rattle.name_store.proofs.NameStores.{allowed-short}
+use Rattle.lines.specs.declared.stage.Stage.{Stage}
+use Rattle.lines.specs.declared.stage.Stage.the-variants.{Declaring, Fixing, Ruling}
+use Rattle.lines.specs.declared.forms.Keyword.{Keyword}
+use Rattle.gathering.specs.declared.gathered.Gathered.{Gathered}
+use Rattle.gathering.specs.declared.gathered.Line.{Line}
+use Rattle.gathering.specs.declared.gathered.Line.the-variants.{Next}
+use Rattle.lines.specs.Items.{items}
+use Rattle.lines.specs.Forms.{Form, Word, atoms, min, vary, fix}
+use Rattle.lines.specs.Faults.{State, next, fault, expects, ruling?, classesAfter, classWords, twice, refusedName, first, declared, declare, stepForm}
+use Rattle.lines.specs.Shapes.{wordOf, Declared}
+use Rattle.numbering.specs.Entries.{Room, Stored, Short, AllEntered, SomeEntered, among}
+use Rattle.gathering.specs.Gathered.{storedWords, Filled, Held, LineSays, LineIs, firstLine, countsIf, withNames, keptNames, KeptNames, pastRefusal}
+use Rattle.gathering.proofs.HeldState.{fill-more, held-is, held-small, atoms-small}
+use Rattle.numbering.proofs.NewNames.{decoded}
+use Rattle.numbering.proofs.Entering.{twice-split, twice-apart}
+
+-- names that are taken are short
+pub taken-short : (kind : Kind) (xs : List (List ℕ)) → some (refusedName kind) xs ≡ false → Short xs
+taken-short kind [] e = tt
+taken-short kind (x ∷ xs) e = go (allowed kind x) refl e (taken-short kind xs)
+  where
+    go : (b : Bool) → allowed kind x ≡ b → (not b || some (refusedName kind) xs) ≡ false → (some (refusedName kind) xs ≡ false → Short xs) → (length x ≤ 18) × Short xs
+    go true p q r = (allowed-short kind x (subst T (sym p) tt), r q)
+    go false p q r = absurd (let z : _≡_ {A = ℕ} 0 1 = cc in omega arith)
+
+-- a declared line comes before the rules, and has a class word for each atom of a preference file
+expected : (kind : Kind) (stage : Stage) (w : Word) → expects kind stage w ≡ true → (ruling? stage ≡ false) × ((k c n : ℕ) → wordCount kind n + length (classWords w k c) ≡ wordCount kind (n + c))
+expected Plain Declaring atoms e = (refl, λ k c n. refl)
+expected Plain Declaring min e = absurd (let z : _≡_ {A = ℕ} 0 1 = cc in omega arith)
+expected Plain Declaring vary e = absurd (let z : _≡_ {A = ℕ} 0 1 = cc in omega arith)
+expected Plain Declaring fix e = absurd (let z : _≡_ {A = ℕ} 0 1 = cc in omega arith)
+expected Plain Fixing w e = absurd (let z : _≡_ {A = ℕ} 0 1 = cc in omega arith)
+expected Plain Ruling w e = absurd (let z : _≡_ {A = ℕ} 0 1 = cc in omega arith)
+expected Preference Declaring atoms e = absurd (let z : _≡_ {A = ℕ} 0 1 = cc in omega arith)
+expected Preference Declaring min e = (refl, λ k c n. ap (λ m. n + m) (length-replicate c (suc k)))
+expected Preference Declaring vary e = (refl, λ k c n. ap (λ m. n + m) (length-replicate c 17))
+expected Preference Declaring fix e = absurd (let z : _≡_ {A = ℕ} 0 1 = cc in omega arith)
+expected Preference Fixing atoms e = absurd (let z : _≡_ {A = ℕ} 0 1 = cc in omega arith)
+expected Preference Fixing min e = absurd (let z : _≡_ {A = ℕ} 0 1 = cc in omega arith)
+expected Preference Fixing vary e = absurd (let z : _≡_ {A = ℕ} 0 1 = cc in omega arith)
+expected Preference Fixing fix e = (refl, λ k c n. ap (λ m. n + m) (length-replicate c 18))
+expected Preference Ruling w e = absurd (let z : _≡_ {A = ℕ} 0 1 = cc in omega arith)
+
+class-room : (kind : Kind) (n : ℕ) → n ≤ atomLimit kind → 4 + wordCount kind n ≤ 36604
+class-room Plain n h = omega arith
+class-room Preference n h = omega arith
+
+module _ {kind : Kind} {st : State} {g : Gathered} {words bytes starts heads links marks : List ℕ} (h : Held kind st g words bytes starts heads links marks)
+    {l : List ℕ} {f : Form} {word : Keyword} {from count : ℕ} {refused : Bool} (p : Declared kind l f word from count refused) where
+  abbrev w : Word
+  w = wordOf word
+
+  abbrev xs : List (List ℕ)
+  xs = items (drop from l)
+
+  step-is : stepForm st f ≡ declare st w xs
+  step-is = ap (stepForm st) (p .form)
+
+  pub held-room : Room bytes starts links
+  held-room = record { bytes-long = h .bytes-room; starts-long = h .starts-room; links-long = h .links-room }
+
+  pub room-kept : {bytes′ starts′ links′ : List ℕ} → length bytes′ ≡ length bytes → length starts′ ≡ length starts → length links′ ≡ length links → Room bytes′ starts′ links′
+  room-kept b c k = record { bytes-long = b ∙ h .bytes-room; starts-long = c ∙ h .starts-room; links-long = k ∙ h .links-room }
+
+  pub held-stored : Stored (st .names) bytes starts heads links (g .atoms) (g .bytes)
+  held-stored = record { index = h .index; count = h .atoms-is; ends = h .bytes-is; short = h .short; few = held-small h .atoms }
+
+  module _ {r : Bool} (e : r ≡ expects kind (g .stage) w) where
+    is-expected : r ≡ expects (st .kind) (st .stage) w
+    is-expected = e ∙ (λ i. expects (sym (h .kind-is) i) (h .stage-is i) w)
+
+    names-refused : some (refusedName (st .kind)) xs ≡ refused
+    names-refused = ap (λ k. some (refusedName k) xs) (h .kind-is) ∙ sym (p .is-refused)
+
+    pub not-expected : not r ≡ true → stepForm st f ≡ fault BrokenForm
+    unfolding declare
+    not-expected d = step-is ∙ rw (sym is-expected, d)
+
+    module _ (d : not r ≡ false) where
+      pub name-refused : refused ≡ true → stepForm st f ≡ fault Name
+      unfolding declare
+      name-refused t = step-is ∙ rw (sym is-expected, d, names-refused, t)
+
+      module _ (t : refused ≡ false) where
+        pub all-short : Short xs
+        all-short = taken-short kind xs (sym (p .is-refused) ∙ t)
+
+        pub declared-twice : twice (st .names) xs ≡ true → stepForm st f ≡ fault DeclaredTwice
+        unfolding declare
+        declared-twice z = step-is ∙ rw (sym is-expected, d, names-refused, t, z)
+
+        abbrev over : Bool
+        over = not (leb (length (st .names) + length xs) (atomLimit (st .kind)) && leb (classesAfter w (st .classes)) classLimit)
+
+        step-counts : twice (st .names) xs ≡ false → stepForm st f ≡ first over Limit (next (declared st w xs))
+        unfolding declare
+        step-counts z = step-is ∙ rw (sym is-expected, d, names-refused, t, z)
+
+        -- more names than the store has room for
+        module _ {bytes′ starts′ heads′ links′ : List ℕ} {at : ℕ} (s : SomeEntered (st .names) l from bytes′ starts′ heads′ links′ at) (c : length starts′ ≡ length starts) where
+          abbrev held : List (List ℕ)
+          held = st .names ++ s .passed
+
+          names-are : decodeNames (length starts′) bytes′ ≡ held
+          names-are = ap (λ k. decodeNames k bytes′) (c ∙ h .starts-room ∙ sym (s .full)) ∙ decoded (s .index)
+
+          pub full-index : Indexed (decodeNames (length starts′) bytes′) bytes′ starts′ heads′ links′
+          full-index = subst (λ ns. Indexed ns bytes′ starts′ heads′ links′) (sym names-are) (s .index)
+
+          pub rest-short : Short (items (drop at l))
+          rest-short = all-app-r (λ x. length x ≤ 18) (s .passed) (items (drop at l)) (subst Short (sym (s .all)) all-short)
+
+          parts : twice (st .names) xs ≡ (some (among held) (items (drop at l)) || twice [] (items (drop at l)))
+          parts =
+              ap (twice (st .names)) (sym (s .all))
+              ∙ twice-split (st .names) (s .passed) (items (drop at l))
+              ∙ ap (λ b. b || twice held (items (drop at l))) (s .once)
+              ∙ ap (λ ns. twice ns (items (drop at l))) (sym (append-nil held))
+              ∙ twice-apart held [] (items (drop at l))
+
+          is-over : over ≡ true
+          is-over =
+              let many : atomLimit (st .kind) < length (st .names) + length xs =
+              omega (arith, s .full, s .more, length-append (st .names) (s .passed), ap length (sym (s .all)) ∙ length-append (s .passed) (items (drop at l)), atoms-small (st .kind)) in
+              rw (lt-leb (length (st .names) + length xs) (atomLimit (st .kind)) many)
+
+          pub past-room : {a : Refusal} → a ≡ pastRefusal (some (among (decodeNames (length starts′) bytes′)) (items (drop at l)) || twice [] (items (drop at l))) → stepForm st f ≡ fault a
+          past-room {a} k = go (twice (st .names) xs) refl (k ∙ ap pastRefusal (ap (λ ns. some (among ns) (items (drop at l)) || twice [] (items (drop at l))) names-are ∙ sym parts))
+            where
+              go : (b : Bool) → twice (st .names) xs ≡ b → a ≡ pastRefusal b → stepForm st f ≡ fault a
+              go true z q = declared-twice z ∙ ap fault (sym q)
+              go false z q = step-counts z ∙ rw is-over (ap fault (sym q))
+
+        -- every name is entered
+        module _ {bytes′ starts′ heads′ links′ : List ℕ} {n used : ℕ} (a : AllEntered (st .names) xs bytes′ starts′ heads′ links′ n used)
+            (b : length bytes′ ≡ length bytes) (c : length starts′ ≡ length starts) (k : length links′ ≡ length links) where
+          abbrev class-list : List ℕ
+          class-list = classWords w (st .classes) (length xs)
+
+          class-list-is : classWords w (g .classes) count ≡ class-list
+          class-list-is = ap₂ (classWords w) (h .classes-is) (p .is-count)
+
+          before-rules : ruling? (st .stage) ≡ false
+          before-rules = expected (st .kind) (st .stage) w (sym is-expected ∙ not-false r d) .0
+
+          no-rules : st .program-rules ≡ []
+          no-rules = h .no-rules before-rules
+
+          many : n ≡ g .atoms + length xs
+          many = omega (arith, a .stored .count, h .atoms-is, length-append (st .names) xs)
+
+          class-count : wordCount kind (g .atoms) + length class-list ≡ wordCount kind n
+          class-count =
+              subst (λ q. wordCount q (g .atoms) + length class-list ≡ wordCount q (g .atoms + length xs)) (h .kind-is) (expected (st .kind) (st .stage) w (sym is-expected ∙ not-false r d) .1 (st .classes) (length xs) (g .atoms))
+              ∙ ap (wordCount kind) (sym many)
+
+          counts-are : over ≡ not (leb n (atomLimit kind) && leb (classesAfter w (g .classes)) classLimit)
+          counts-are =
+              let total : length (st .names) + length xs ≡ n = omega (arith, a .stored .count, length-append (st .names) xs) in
+              λ i. not (leb (total i) (atomLimit (h .kind-is i)) && leb (classesAfter w (sym (h .classes-is) i)) classLimit)
+
+          stored-words : storedWords st ≡ st .words
+          stored-words = ap (λ rs. st .words ++ flat ruleWords rs) no-rules ∙ append-nil (st .words)
+
+          stored-after : storedWords st ++ class-list ≡ storedWords (declared st w xs)
+          stored-after =
+              ap (λ x. x ++ class-list) stored-words
+              ∙ sym (append-nil (st .words ++ class-list))
+              ∙ ap (λ rs. (st .words ++ class-list) ++ flat ruleWords rs) (sym no-rules)
+
+          fits-words : n ≤ atomLimit kind → g .words + length class-list ≤ length words
+          fits-words l = omega (arith, h .words-room, h .stored .ends, ap length stored-words, h .class-words, class-count, class-room kind n l)
+
+          abbrev end : ℕ
+          end = g .words + length (classWords w (g .classes) count)
+
+          written : {words₂ : List ℕ} → words₂ ≡ sets words (g .words) (classWords w (g .classes) count) → words₂ ≡ sets words (g .words) class-list
+          written q = q ∙ ap (sets words (g .words)) class-list-is
+
+          declared-held : n ≤ atomLimit kind → classesAfter w (g .classes) ≤ classLimit → {words₂ : List ℕ} → words₂ ≡ sets words (g .words) (classWords w (g .classes) count)
+              → Held kind (declared st w xs) (withNames g w n used end) words₂ bytes′ starts′ heads′ links′ marks
+          declared-held l m {words₂} q =
+              record {
+                kind-is = h .kind-is;
+                stage-is = refl;
+                classes-is = ap (classesAfter w) (h .classes-is);
+                atoms-is = a .stored .count;
+                rules-is = h .rules-is;
+                occurrences-is = h .occurrences-is;
+                class-words = length-append (st .words) class-list ∙ ap (λ x. x + length class-list) (h .class-words) ∙ class-count;
+                stored =
+                    subst (λ x. Filled words₂ 4 end x) stored-after
+                    (subst (λ x. Filled words₂ 4 (g .words + length x) (storedWords st ++ class-list)) (sym class-list-is)
+                    (subst (λ x. Filled x 4 (g .words + length class-list) (storedWords st ++ class-list)) (sym (written q)) (fill-more (h .stored) class-list (fits-words l))));
+                index = a .stored .index;
+                bytes-is = a .stored .ends;
+                short = a .stored .short;
+                atoms-fit = l;
+                rules-fit = h .rules-fit;
+                occurrences-fit = h .occurrences-fit;
+                classes-fit = m;
+                no-rules = λ z. no-rules;
+                marks-below = h .marks-below;
+                words-room = ap length q ∙ length-sets words (g .words) (classWords w (g .classes) count) ∙ h .words-room;
+                bytes-room = b ∙ h .bytes-room;
+                starts-room = c ∙ h .starts-room;
+                links-room = k ∙ h .links-room;
+                marks-room = h .marks-room;
+              }
+
+          pub declared-line : {words₂ : List ℕ} {o : Line} → KeptNames kind g w count n used words words₂ o → LineIs kind st f words₂ bytes′ starts′ heads′ links′ marks o
+          unfolding keptNames
+          declared-line {words₂} {o} s = record { says = go (leb n (atomLimit kind) && leb (classesAfter w (g .classes)) classLimit) refl (step-counts (a .once) ∙ ap (λ x. first x Limit (next (declared st w xs))) counts-are) (s .answer) (s .words) }
+            where
+              go : (x : Bool) → (leb n (atomLimit kind) && leb (classesAfter w (g .classes)) classLimit) ≡ x → stepForm st f ≡ first (not x) Limit (next (declared st w xs))
+                  → o ≡ firstLine (not x) Limit (Next (withNames g w n used end))
+                  → words₂ ≡ sets words (g .words) (countsIf o (classWords w (g .classes) count))
+                  → LineSays kind st f words₂ bytes′ starts′ heads′ links′ marks o
+              go false q z y v = subst (LineSays kind st f words₂ bytes′ starts′ heads′ links′ marks) (sym y) z
+              go true q z y v =
+                  let within = both-true (leb n (atomLimit kind)) (leb (classesAfter w (g .classes)) classLimit) q in
+                  let held = declared-held (leb-true n (atomLimit kind) (within .0)) (leb-true (classesAfter w (g .classes)) classLimit (within .1)) (v ∙ ap (λ j. sets words (g .words) (countsIf j (classWords w (g .classes) count))) y) in
+                  let is = held-is held in
+                  subst (LineSays kind st f words₂ bytes′ starts′ heads′ links′ marks) (sym y)
+                  (z ∙ ap next is, subst (λ j. Held kind j (withNames g w n used end) words₂ bytes′ starts′ heads′ links′ marks) is held)

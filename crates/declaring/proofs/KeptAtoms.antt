@@ -1,0 +1,98 @@
+-- A declared line whose names are in order: the counts, and its class words in the scratch.
+use Prim.Native.Nat.{ℕ, _+_, _^_, _≤_, _<_, zero-le}
+use native.Mathlib.Numerals.{add-one}
+use native.Mathlib.Omega.{arith}
+use mathlib.Core.Path.{_≡_, refl, sym, ap, _∙_}
+use mathlib.Core.Bool.{Bool, true, false, not, _&&_, _||_}
+use mathlib.Core.List.{List, [], _∷_}
+use lib.Dec.{leb}
+use lib.ListN.{replicate, length-replicate, replicate-append-replicate}
+use borrow.Author.Tests.{lt-leb, le-leb}
+use Rattle.kinds.specs.Limits.{atomLimit, classLimit}
+use Rattle.kinds.specs.declared.limits.Kind.{Kind}
+use Rattle.kinds.specs.declared.refusals.Refusal.the-variants.{DeclaredTwice, Limit}
+use Rattle.output.specs.Emitted.{Emitted, InRange}
+use Rattle.output.proofs.Emitting.{none, then, renamed}
+use Rattle.gathering.specs.declared.gathered.Gathered.{Gathered}
+use Rattle.gathering.specs.declared.gathered.Line.the-variants.{Next, Fault}
+use Rattle.lines.specs.declared.forms.Keyword.{Keyword}
+use Rattle.lines.specs.declared.forms.Keyword.the-variants.{Atoms, Min, Vary, Fix}
+use Rattle.lines.specs.declared.stage.Stage.{Stage}
+use Rattle.lines.specs.Forms.{Word}
+use Rattle.lines.specs.Faults.{stageAfter, classesAfter, classWords}
+use Rattle.lines.specs.Shapes.{wordOf}
+use Rattle.gathering.specs.Gathered.{keptNames, KeptNames, pastRefusal}
+
+module _ (kind : Kind) (atoms classes : ℕ) {limit : ℕ} (e : limit ≡ atomLimit kind) where
+  pub atoms-over : limit < atoms → false ≡ (leb atoms (atomLimit kind) && leb classes classLimit)
+  atoms-over l = let f = lt-leb atoms (atomLimit kind) (omega arith) in rw f
+
+  pub atoms-in : atoms ≤ limit → leb classes classLimit ≡ (leb atoms (atomLimit kind) && leb classes classLimit)
+  atoms-in l = let f = le-leb atoms (atomLimit kind) (omega arith) in rw f
+
+-- one class more
+pub min-classes : (classes : ℕ) {word : Keyword} → word ≡ Min → classes + 1 ≡ classesAfter (wordOf word) classes
+min-classes classes e = add-one classes ∙ ap (λ w. classesAfter (wordOf w) classes) (sym e)
+
+-- copies of a word
+pub record Copying (before : List ℕ) (at w count : ℕ) (now : List ℕ) (end i : ℕ) : Type 0 where
+  pub range : at + count < 2 ^ 63
+  pub few : i ≤ count
+  pub written : Emitted before at (replicate i w) now end
+
+pub copying : (d : List ℕ) (at w count : ℕ) → at + count < 2 ^ 63 → Copying d at w count d at 0
+copying d at w count h = record { range = h; few = zero-le; written = none }
+
+module _ {before : List ℕ} {at w count : ℕ} {now : List ℕ} {end i : ℕ} (c : Copying before at w count now end i) where
+  pub copy-range : i < count → InRange end (w ∷ [])
+  copy-range l = record { below = omega (arith, c .range, c .written .place, length-replicate i w) }
+
+  pub copied : count ≤ i → Emitted before at (replicate count w) now end
+  copied l = let e : i ≡ count = omega (arith, c .few) in renamed (c .written) (ap (λ n. replicate n w) e)
+
+  pub copy-again : i < count → {now′ : List ℕ} {end′ : ℕ} → Emitted now end (w ∷ []) now′ end′ → Copying before at w count now′ end′ (i + 1)
+  copy-again l p = record { range = c .range; few = omega arith; written = renamed (then (c .written) p) (replicate-append-replicate i 1 w) }
+
+-- the class words of each word
+module _ (classes count : ℕ) {before : List ℕ} {at : ℕ} {word : Keyword} where
+  pub no-class-words : word ≡ Atoms → Emitted before at (classWords (wordOf word) classes count) before at
+  no-class-words e = renamed none (ap (λ w. classWords (wordOf w) classes count) (sym e))
+
+  module _ {after : List ℕ} {end : ℕ} where
+    pub min-words : word ≡ Min → Emitted before at (replicate count (classes + 1)) after end → Emitted before at (classWords (wordOf word) classes count) after end
+    min-words e p = renamed p (ap (replicate count) (add-one classes) ∙ ap (λ w. classWords (wordOf w) classes count) (sym e))
+
+    pub vary-words : word ≡ Vary → Emitted before at (replicate count 17) after end → Emitted before at (classWords (wordOf word) classes count) after end
+    vary-words e p = renamed p (ap (λ w. classWords (wordOf w) classes count) (sym e))
+
+    pub fix-words : word ≡ Fix → Emitted before at (replicate count 18) after end → Emitted before at (classWords (wordOf word) classes count) after end
+    fix-words e p = renamed p (ap (λ w. classWords (wordOf w) classes count) (sym e))
+
+-- the answer
+module _ (kind : Kind) (g : Gathered) (w : Word) (count atoms used : ℕ) (before : List ℕ) {classes : ℕ} (c : classes ≡ classesAfter w (g .classes)) {fits : Bool} (e : fits ≡ (leb atoms (atomLimit kind) && leb classes classLimit)) where
+  is-fits : fits ≡ (leb atoms (atomLimit kind) && leb (classesAfter w (g .classes)) classLimit)
+  is-fits = e ∙ ap (λ k. leb atoms (atomLimit kind) && leb k classLimit) c
+
+  pub names-over : not fits ≡ true → KeptNames kind g w count atoms used before before (Fault Limit)
+  unfolding keptNames
+  names-over d = record { answer = rw (sym is-fits, d); words = refl }
+
+  pub names-kept : not fits ≡ false → {stage : Stage} → stage ≡ stageAfter w → {after : List ℕ} {end : ℕ} → Emitted before (g .words) (classWords w (g .classes) count) after end
+      → KeptNames kind g w count atoms used before after (Next (record { stage = stage; classes = classes; atoms = atoms; rules = g .rules; occurrences = g .occurrences; words = end; bytes = used }))
+  unfolding keptNames
+  names-kept d s p =
+      record {
+        answer = rw (sym is-fits, d) (λ i. Next (record { stage = s i; classes = c i; atoms = atoms; rules = g .rules; occurrences = g .occurrences; words = p .place i; bytes = used }));
+        words = p .bytes;
+      }
+
+-- past the room
+pub past-known : {a : Bool} (b : Bool) {q : Bool} → q ≡ a → q ≡ true → DeclaredTwice ≡ pastRefusal (a || b)
+past-known b e d = rw (sym e ∙ d)
+
+module _ {a b q : Bool} (e : q ≡ a) (d : q ≡ false) {t : Bool} (f : t ≡ b) where
+  pub past-twice : t ≡ true → DeclaredTwice ≡ pastRefusal (a || b)
+  past-twice g = rw (sym e ∙ d, sym f ∙ g)
+
+  pub past-count : t ≡ false → Limit ≡ pastRefusal (a || b)
+  past-count g = rw (sym e ∙ d, sym f ∙ g)

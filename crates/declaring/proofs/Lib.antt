@@ -1,0 +1,3 @@
+-- The laws of a declaring line's step.
+pub mod KeptAtoms
+pub mod DeclaredSteps

@@ -1,0 +1,38 @@
+use Rattle.lines.specs.Shapes.{wordOf}
+use Rattle.declaring.proofs.KeptAtoms.{names-over, names-kept}
+use borrow.Author.Needs.{needs}
+use Rattle.declaring.proofs.declared_line.keep_names.Statement.{statement}
+use Rattle.declaring.proofs.declared_line.keep_names.Tie as tie
+
+classes-after-requires : tie.Need-classes-after-requires
+classes-after-requires c κs = search needs
+
+names-fit-requires : tie.Need-names-fit-requires
+names-fit-requires c κs = search needs
+
+returns : tie.Need-returns
+returns c = names-over (c .before .before .before .before .args .kind) (c .before .before .before .before .args .gathered) (wordOf (c .before .before .before .before .args .word)) (c .before .before .before .before .args .count) _ _ _ (c .before .before .classes-after .ensures) (c .before .names-fit .ensures) (c .if1 .taken)
+
+stage-after-requires : tie.Need-stage-after-requires
+stage-after-requires c κs = search needs
+
+put-class-words-requires : tie.Need-put-class-words-requires
+put-class-words-requires c κs = search needs
+
+same-length : tie.Need-same-length
+same-length c = search needs
+
+returns-2 : tie.Need-returns-2
+returns-2 c = names-kept (c .before .before .before .before .before .before .before .before .before .args .kind) (c .before .before .before .before .before .before .before .before .before .args .gathered) (wordOf (c .before .before .before .before .before .before .before .before .before .args .word)) (c .before .before .before .before .before .before .before .before .before .args .count) _ _ _ (c .before .before .before .before .before .before .before .classes-after .ensures) (c .before .before .before .before .before .before .names-fit .ensures) (c .before .before .before .before .before .if1 .left) (c .before .before .before .before .stage-after .ensures) (c .before .before .put-class-words .ensures)
+
+pub keep-names-spec : {M : Type 1} → statement M
+keep-names-spec =
+    tie.close
+    (tie.spec
+    classes-after-requires
+    names-fit-requires
+    returns
+    stage-after-requires
+    put-class-words-requires
+    same-length
+    returns-2)

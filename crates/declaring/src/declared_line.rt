@@ -1,0 +1,229 @@
+// A line that declares atoms, against what the lines before have given.
+use gathering::gathered::Gathered;
+use gathering::gathered::Line;
+use kinds::limits::Kind;
+use kinds::limits::Preference;
+use kinds::refusals::Refusal;
+use lines::forms::Keyword;
+use lines::stage::Stage;
+use numbering::entries;
+use numbering::entries::Entered;
+use output::words::push;
+ghost use mathlib.Core.Path.{_≡_};
+ghost use Prim.Native.Nat.{_+_, _^_, _≤_, _<_};
+ghost use mathlib.Core.Bool.{_&&_, _||_};
+ghost use mathlib.Core.List.{[]};
+ghost use lib.Dec.{leb};
+ghost use lib.ListN.{length, drop, replicate};
+ghost use Rattle.kinds.specs.Limits.{atomLimit, classLimit, textLimit};
+ghost use Rattle.rules.specs.Lists.{some};
+ghost use Rattle.name_store.specs.NameStore.{decodeNames};
+ghost use Rattle.name_store.specs.NameIndex.{Indexed, buckets};
+ghost use Rattle.output.specs.Emitted.{Emitted};
+ghost use Rattle.lines.specs.Items.{items};
+ghost use Rattle.lines.specs.Forms.{formOf};
+ghost use Rattle.lines.specs.Faults.{expects, stageAfter, classesAfter, classWords, twice};
+ghost use Rattle.lines.specs.Shapes.{wordOf, Declared};
+ghost use Rattle.numbering.specs.Entries.{Room, Short, among};
+ghost use Rattle.gathering.specs.Gathered.{stateOf, Held, LineIs, pastRefusal, KeptNames};
+
+fn is_expected(kind: Kind, stage: Stage, word: Keyword) -> bool
+    ensures { λ r. ⌜ r ≡ expects kind stage (wordOf word) ⌝ }
+{
+    match kind {
+        Kind::Plain => match stage {
+            Stage::Declaring => match word {
+                Keyword::Atoms => true,
+                Keyword::Min => false,
+                Keyword::Vary => false,
+                Keyword::Fix => false,
+            },
+            Stage::Fixing => false,
+            Stage::Ruling => false,
+        },
+        Kind::Preference => match stage {
+            Stage::Declaring => match word {
+                Keyword::Atoms => false,
+                Keyword::Min => true,
+                Keyword::Vary => true,
+                Keyword::Fix => false,
+            },
+            Stage::Fixing => match word {
+                Keyword::Atoms => false,
+                Keyword::Min => false,
+                Keyword::Vary => false,
+                Keyword::Fix => true,
+            },
+            Stage::Ruling => false,
+        },
+    }
+}
+
+fn stage_after(word: Keyword) -> Stage
+    ensures { λ r. ⌜ r ≡ stageAfter (wordOf word) ⌝ }
+{
+    match word {
+        Keyword::Atoms => Stage::Ruling,
+        Keyword::Min => Stage::Declaring,
+        Keyword::Vary => Stage::Fixing,
+        Keyword::Fix => Stage::Ruling,
+    }
+}
+
+fn classes_after(word: Keyword, classes: usize) -> usize
+    requires { ⌜ classes < 2 ^ 62 ⌝ }
+    ensures { λ r. ⌜ r ≡ classesAfter (wordOf word) classes ⌝ }
+{
+    match word {
+        Keyword::Atoms => classes,
+        Keyword::Min => classes + 1,
+        Keyword::Vary => classes,
+        Keyword::Fix => classes,
+    }
+}
+
+// Writes a word so many times.
+fn put_copies(w: u16, count: usize, words: &mut [u16], at: usize) -> usize
+    requires { ⌜ at + count < 2 ^ 63 ⌝ }
+    ensures { λ r. ⌜ Emitted (now (words .entry)) at (replicate count w) (now (words .exit)) r ⌝ }
+{
+    let mut end = at;
+    let mut i: usize = 0;
+    while i < count {
+        end = push(w, words, end);
+        i += 1;
+    }
+    end
+}
+
+// The class words of a line's atoms.
+fn put_class_words(
+    word: Keyword,
+    classes: usize,
+    count: usize,
+    words: &mut [u16],
+    at: usize,
+) -> usize
+    requires { ⌜ (classes < 65535) × (at + count < 2 ^ 63) ⌝ }
+    ensures { λ r. ⌜ Emitted (now (words .entry)) at (classWords (wordOf word) classes count) (now (words .exit)) r ⌝ }
+{
+    match word {
+        Keyword::Atoms => at,
+        Keyword::Min => put_copies((classes + 1) as u16, count, words, at),
+        Keyword::Vary => put_copies(17, count, words, at),
+        Keyword::Fix => put_copies(18, count, words, at),
+    }
+}
+
+fn names_fit(kind: Kind, atoms: usize, classes: usize) -> bool
+    ensures { λ r. ⌜ r ≡ (leb atoms (atomLimit kind) && leb classes classLimit) ⌝ }
+{
+    if kind.atoms() < atoms {
+        return false;
+    }
+    classes <= Preference::CLASSES
+}
+
+// A line whose names are all entered.
+fn keep_names(
+    kind: Kind,
+    gathered: Gathered,
+    word: Keyword,
+    count: usize,
+    atoms: usize,
+    used: usize,
+    words: &mut [u16],
+) -> Line
+    requires { ⌜ (gathered .classes ≤ classLimit) × (gathered .words + count < 2 ^ 63) ⌝ }
+    ensures { λ r. ⌜ KeptNames kind gathered (wordOf word) count atoms used (now (words .entry)) (now (words .exit)) r ⌝ }
+{
+    let before = gathered.classes;
+    let classes = classes_after(word, before);
+    let fits = names_fit(kind, atoms, classes);
+    if !fits {
+        return Line::Fault(Refusal::Limit);
+    }
+    let stage = stage_after(word);
+    let rules = gathered.rules;
+    let occurrences = gathered.occurrences;
+    let at = gathered.words;
+    let end = put_class_words(word, before, count, words, at);
+    Line::Next(Gathered {
+        stage,
+        classes,
+        atoms,
+        rules,
+        occurrences,
+        words: end,
+        bytes: used,
+    })
+}
+
+// The refusal of a line with more names than there is room for: a name that stands twice comes before the count.
+fn past_limit(
+    line: &[u8],
+    at: usize,
+    bytes: &mut [u8],
+    starts: &mut [u16],
+    heads: &mut [u16],
+    links: &mut [u16],
+) -> Refusal
+    requires { ⌜ (at ≤ length (now line)) × Short (items (drop at (now line))) ⌝ }
+    requires { ⌜ Room (now bytes) (now starts) (now links) × (buckets ≤ length (now heads)) ⌝ }
+    requires { ⌜ Indexed (decodeNames (length (now starts)) (now bytes)) (now bytes) (now starts) (now heads) (now links) ⌝ }
+    ensures { λ r. ⌜ r ≡ pastRefusal (some (among (decodeNames (length (now (starts .entry))) (now (bytes .entry)))) (items (drop at (now (line .entry)))) || twice [] (items (drop at (now (line .entry))))) ⌝ }
+{
+    if entries::any_known(line, at, bytes, starts, heads, links) {
+        return Refusal::DeclaredTwice;
+    }
+    if entries::any_twice(line, at, bytes, starts, heads, links) {
+        return Refusal::DeclaredTwice;
+    }
+    Refusal::Limit
+}
+
+// A line of the form that declares atoms, its names at the place that the form gives. The marks are only carried along.
+pub fn declare_atoms(
+    line: &[u8],
+    kind: Kind,
+    gathered: Gathered,
+    word: Keyword,
+    from: usize,
+    count: usize,
+    refused: bool,
+    words: &mut [u16],
+    bytes: &mut [u8],
+    starts: &mut [u16],
+    firsts: &mut [u16],
+    links: &mut [u16],
+    marks: &[u16],
+) -> Line
+    requires { ⌜ Declared kind (now line) (formOf (now line)) word from count refused ⌝ }
+    requires { ⌜ length (now line) ≤ textLimit ⌝ }
+    requires { ⌜ Held kind (stateOf kind gathered (now words) (now bytes)) gathered (now words) (now bytes) (now starts) (now firsts) (now links) (now marks) ⌝ }
+    ensures { λ r. ⌜ LineIs kind (stateOf kind gathered (now (words .entry)) (now (bytes .entry))) (formOf (now (line .entry))) (now (words .exit)) (now (bytes .exit)) (now (starts .exit)) (now (firsts .exit)) (now (links .exit)) (now (marks .entry)) r ⌝ }
+{
+    let stage = gathered.stage;
+    let expected = is_expected(kind, stage, word);
+    if !expected {
+        return Line::Fault(Refusal::Form);
+    }
+    if refused {
+        return Line::Fault(Refusal::Name);
+    }
+    let before = gathered.atoms;
+    let filled = gathered.bytes;
+    match entries::enter_names(line, from, bytes, starts, firsts, links, before, filled) {
+        Entered::All { atoms, bytes: used } => keep_names(
+            kind,
+            gathered,
+            word,
+            count,
+            atoms,
+            used,
+            words,
+        ),
+        Entered::Full { at } => Line::Fault(past_limit(line, at, bytes, starts, firsts, links)),
+        Entered::Twice => Line::Fault(Refusal::DeclaredTwice),
+    }
+}

@@ -1,0 +1,3 @@
+-- The laws of the listing.
+pub mod ListedStates
+pub mod StoredStates

@@ -1,0 +1,261 @@
+-- The lister's loop: what stands written, and what is left to list.
+use Prim.Native.Nat.{ℕ, zero, suc, _+_, _-_, _*_, _^_, _≤_, _<_}
+use native.Mathlib.Numerals.{add-one}
+use native.Mathlib.Omega.{arith}
+use mathlib.Core.Path.{_≡_, refl, sym, ap, ap₂, _∙_, subst}
+use mathlib.Core.Bool.{Bool, true, false, cond}
+use mathlib.Core.Logic.{⊎-elim}
+use mathlib.Core.List.{List, [], _∷_, _++_, append-assoc}
+use lib.Dec.{T, leb}
+use lib.ListN.{length, getD, take, drop, length-append}
+use lib.Pow.{pow-mono}
+use types.Run.{OneOf}
+use denote.Enum.Declared.{tagOf}
+use borrow.Author.Tests.{le-leb, leb-true, leb-false}
+use Rattle.kinds.specs.Limits.{streamLimit, walkAtoms, budgetLimit}
+use Rattle.kinds.specs.declared.limits.Kind.{Kind}
+use Rattle.kinds.specs.declared.limits.Kind.the-variants.{Preference}
+use Rattle.kinds.specs.declared.refusals.Refusal.{Refusal}
+use Rattle.kinds.specs.declared.refusals.Refusal.the-variants.{Output}
+use Rattle.rules.specs.Lists.{All}
+use Rattle.rules.specs.Sets.{has}
+use Rattle.rules.proofs.Lists.{all-imp}
+use Rattle.stores.specs.Program.{Program, ClassesForm}
+use Rattle.stores.specs.RuleStore.{decode}
+use Rattle.names.specs.Names.{allowed}
+use Rattle.stores.proofs.RuleStores.{of-kind}
+use Rattle.name_store.proofs.NamePlaces.{length-decode}
+use Rattle.name_store.proofs.NameStores.{allowed-short}
+use Rattle.text.specs.Text.{item}
+use Rattle.text.specs.Items.{storedNames}
+use Rattle.output.specs.Emitted.{Emitted, InRange}
+use Rattle.output.proofs.Emitting.{none, then, renamed, same-length}
+use Rattle.walks.specs.Walk.{nextVerdict}
+use Rattle.walks.specs.Answers.{nextAnswer}
+use Rattle.walks.specs.declared.answers.NextState.{NextState}
+use Rattle.walks.specs.declared.answers.NextState.the-variants.{State, Nothing, Spent, Refused}
+use Rattle.walks.proofs.answers.NextState.{the-type}
+use Rattle.walks.proofs.Listing.{next-state}
+use Rattle.printing.specs.Printed.{closing, stateLine, member, members, totalLine, spentLine, onNext, listing, wholeListing, sized, refusedText}
+use Rattle.listing.specs.StoresPrinted.{Listable, lastLine, Limited, storesListing}
+use Rattle.printing.proofs.PrintedLines.{member-next, members-end, state-opens, total-short, front-fits, written-front}
+
+-- a state's line is short
+
+name-short : (names : List (List ℕ)) → All (λ x. length x ≤ 18) names → (a : ℕ) → length (getD names a []) ≤ 18
+name-short [] h a = omega arith
+name-short (x ∷ names) h zero = h .0
+name-short (x ∷ names) h (suc a) = name-short names (h .1) a
+
+module _ (names : List (List ℕ)) (short : All (λ x. length x ≤ 18) names) (s : ℕ) where
+  member-short : (a : ℕ) → length (member names s a) ≤ 19
+  unfolding member
+  member-short a = go (has s a)
+    where
+      go : (b : Bool) → length (cond b (item (getD names a [])) []) ≤ 19
+      go true = omega (arith, name-short names short a)
+      go false = omega arith
+
+  members-short : (c i n : ℕ) → n - i ≡ c → length (members names s i n) ≤ 19 * c
+  members-short zero i n e = omega (arith, ap length (members-end names s i n (omega arith)))
+  members-short (suc c) i n e =
+      omega (
+        arith,
+        ap length (member-next names s i n (omega arith) .is) ∙ length-append (member names s i) (members names s (i + 1) n),
+        member-short i,
+        members-short c (i + 1) n (omega arith),
+      )
+
+  state-short : length names ≤ walkAtoms → length (stateLine names s) ≤ 1148
+  state-short few =
+      omega (
+        arith,
+        ap length (state-opens names s (length names) refl .is),
+        length-append (members names s 0 (length names)) closing,
+        members-short (length names) 0 (length names) (omega arith),
+      )
+
+-- the next state of a store that can be listed
+
+module _ {rules names starts : List ℕ} (h : Listable rules names starts) where
+  abbrev program : Program
+  program = decode rules
+
+  words-count : length (program .words) ≡ program .atoms
+  words-count =
+      let o = of-kind rules Preference (h .store) in
+      let c : ClassesForm Preference (program .atoms) (program .classes) (program .words) = subst (λ (k : Kind). ClassesForm k (program .atoms) (program .classes) (program .words)) (o .1) (o .0 .form .classes-form) in
+      c .1
+
+  answer-is : (start : ℕ) → start ≤ 2 ^ program .atoms → nextAnswer rules start budgetLimit ≡ nextVerdict (program .words) (program .rules) start budgetLimit
+  unfolding nextAnswer
+  answer-is start l = rw (h .store, le-leb (program .atoms) walkAtoms (h .few), le-leb start (2 ^ program .atoms) l)
+
+  found-at : (start s u : ℕ) → start ≤ 2 ^ program .atoms → nextVerdict (program .words) (program .rules) start budgetLimit ≡ State s u → (start ≤ s) × (s < 2 ^ program .atoms)
+  found-at start s u l e =
+      let k = next-state (program .words) (program .rules) start (rw words-count l) budgetLimit s u .0 e in
+      (k .1 .above, rw words-count at (k .0))
+
+  all-short : All (λ x. length x ≤ 18) (storedNames names starts)
+  all-short = all-imp (λ x. T (allowed Preference x)) (λ x. length x ≤ 18) (allowed-short Preference) (storedNames names starts) (h .all-allowed)
+
+  pub few-starts : length starts ≤ walkAtoms
+  few-starts = omega (arith, h .few, h .count)
+
+  pub state-range : (next s : ℕ) → next ≤ streamLimit → InRange next (stateLine (storedNames names starts) s)
+  state-range next s l = record { below = omega (arith, state-short (storedNames names starts) all-short s (omega (arith, few-starts, length-decode (length starts) names))) }
+
+pub record Listing (rules names starts before now : List ℕ) (next start count : ℕ) : Type 0 where
+  pub able : Listable rules names starts
+  pub inside : start ≤ 2 ^ decode rules .atoms
+  pub counted : count ≤ start
+  pub left : ℕ
+  pub enough : 2 ^ decode rules .atoms < start + left
+  pub written : List ℕ
+  pub so : Emitted before 0 written now next
+  pub all : written ++ listing left (decode rules) (storedNames names starts) start count ≡ storesListing rules names starts
+
+pub begins : {rules names starts : List ℕ} (out : List ℕ) → Listable rules names starts → Listing rules names starts out out 0 0 0
+unfolding storesListing wholeListing
+begins {rules} {names} {starts} out h = record {
+  able = h;
+  inside = omega arith;
+  counted = omega arith;
+  left = suc (2 ^ decode rules .atoms);
+  enough = omega arith;
+  written = [];
+  so = none;
+  all = refl;
+}
+
+other-lines : (found : NextState) (more : ℕ → List ℕ) (c : ℕ) → OneOf (1 ∷ 2 ∷ 3 ∷ []) (tagOf the-type found) → onNext found more (totalLine c) spentLine ≡ lastLine found c
+unfolding lastLine
+other-lines (State s u) more c k = absurd (⊎-elim (λ (e : _≡_ {A = ℕ} 0 1). omega arith) (λ q. ⊎-elim (λ (e : _≡_ {A = ℕ} 0 2). omega arith) (λ (e : _≡_ {A = ℕ} 0 3). omega arith) q) k)
+other-lines (Nothing u) more c k = refl
+other-lines (Spent u) more c k = refl
+other-lines (Refused f) more c k = refl
+
+module _ {found : NextState} (c : ℕ) where
+  pub last-state : {s u : ℕ} → found ≡ State s u → [] ≡ lastLine found c
+  unfolding lastLine
+  last-state e = rw e
+
+  pub last-total : {u : ℕ} → found ≡ Nothing u → totalLine c ≡ lastLine found c
+  unfolding lastLine
+  last-total e = rw e
+
+  pub last-spent : {u : ℕ} → found ≡ Spent u → spentLine ≡ lastLine found c
+  unfolding lastLine
+  last-spent e = rw e
+
+  pub last-refused : {f : Refusal} → found ≡ Refused f → [] ≡ lastLine found c
+  unfolding lastLine
+  last-refused e = rw e
+
+last-short : (found : NextState) (c : ℕ) → length (lastLine found c) ≤ 29
+unfolding lastLine
+last-short (State s u) c = omega arith
+last-short (Nothing u) c = total-short c
+last-short (Spent u) c = omega arith
+last-short (Refused f) c = omega arith
+
+module _ {rules names starts before now : List ℕ} {next start count : ℕ} (h : Listing rules names starts before now next start count) where
+  abbrev rest : ℕ → List ℕ
+  rest left = listing left (decode rules) (storedNames names starts) start count
+
+  abbrev more : ℕ → List ℕ
+  more s = stateLine (storedNames names starts) s ++ listing (h .left - 1) (decode rules) (storedNames names starts) (suc s) (suc count)
+
+  abbrev verdict : NextState
+  verdict = nextVerdict (decode rules .words) (decode rules .rules) start budgetLimit
+
+  unfolded : rest (h .left) ≡ onNext verdict more (totalLine count) spentLine
+  unfolding listing
+  unfolded =
+      let k = h .inside in
+      let l = h .enough in
+      let e : h .left ≡ suc (h .left - 1) = omega arith in
+      ap rest e
+
+  -- the listing so far already passes the size
+  pub passed : streamLimit < next → Limited (storesListing rules names starts) before now next
+  passed l =
+      let e = ap length (sym (h .all)) ∙ length-append (h .written) (rest (h .left)) in
+      record { fits = λ k. absurd (omega (arith, e, h .so .place)); past = λ k. l }
+
+  module _ {found : NextState} (e : found ≡ nextAnswer rules start budgetLimit) where
+    found-is : found ≡ verdict
+    found-is = e ∙ answer-is (h .able) start (h .inside)
+
+    -- there is no further state, or the budget is spent
+    pub ended : {now′ : List ℕ} {next′ : ℕ} → OneOf (1 ∷ 2 ∷ 3 ∷ []) (tagOf the-type found) → Emitted now next (lastLine found count) now′ next′ → Limited (storesListing rules names starts) before now′ next′
+    ended k p =
+        let last : rest (h .left) ≡ lastLine found count = unfolded ∙ ap (λ (v : NextState). onNext v more (totalLine count) spentLine) (sym found-is) ∙ other-lines found more count k in
+        let whole = renamed (then (h .so) p) (ap (λ (l : List ℕ). h .written ++ l) (sym last) ∙ h .all) in
+        record { fits = λ l. whole; past = λ l. omega (arith, whole .place) }
+
+    module _ {s u : ℕ} (f : found ≡ State s u) where
+      at-state : (start ≤ s) × (s < 2 ^ decode rules .atoms)
+      at-state = found-at (h .able) start s u (h .inside) (sym found-is ∙ f)
+
+      pub state-small : s < 2 ^ 60
+      state-small =
+          let k : 2 ^ decode rules .atoms ≤ 2 ^ 60 = pow-mono (h .able .few) in
+          omega (arith, at-state .1)
+
+      pub count-small : count < 2 ^ 60
+      count-small = omega (arith, state-small, at-state .0, h .counted)
+
+      pub falls : 2 ^ decode rules .atoms - (s + 1) < 2 ^ decode rules .atoms - start
+      falls = omega (arith, at-state .0, at-state .1)
+
+      pub listed : {now′ : List ℕ} {next′ : ℕ} → Emitted now next (stateLine (storedNames names starts) s) now′ next′ → Listing rules names starts before now′ next′ (s + 1) (count + 1)
+      listed p =
+          let a = at-state .0 in
+          let b = at-state .1 in
+          let k = h .enough in
+          let step : rest (h .left) ≡ more s = unfolded ∙ ap (λ (v : NextState). onNext v more (totalLine count) spentLine) (sym found-is ∙ f) in
+          record {
+            able = h .able;
+            inside = omega arith;
+            counted = omega (arith, h .counted);
+            left = h .left - 1;
+            enough = omega arith;
+            written = h .written ++ stateLine (storedNames names starts) s;
+            so = then (h .so) p;
+            all =
+                ap₂ (λ (x y : ℕ). (h .written ++ stateLine (storedNames names starts) s) ++ listing (h .left - 1) (decode rules) (storedNames names starts) x y) (add-one s) (add-one count)
+                ∙ append-assoc (h .written) (stateLine (storedNames names starts) s) (listing (h .left - 1) (decode rules) (storedNames names starts) (suc s) (suc count))
+                ∙ ap (λ (l : List ℕ). h .written ++ l) (sym step)
+                ∙ h .all;
+          }
+
+  pub length-kept : length now ≡ length before
+  length-kept = same-length (h .so)
+
+  pub last-range : (found : NextState) → next ≤ streamLimit → InRange next (lastLine found count)
+  last-range found l = record { below = omega (arith, last-short found count) }
+
+-- the text against the size of an output
+
+module _ {text before after : List ℕ} {size : ℕ} (h : Limited text before after size) where
+  pub too-long : streamLimit < size → refusedText Output 0 ≡ sized text
+  too-long l = go (leb (length text) streamLimit) refl
+    where
+      go : (b : Bool) → leb (length text) streamLimit ≡ b → refusedText Output 0 ≡ cond b text (refusedText Output 0)
+      go true e = absurd (omega (arith, leb-true (length text) streamLimit e, h .fits (leb-true (length text) streamLimit e) .place))
+      go false e = refl
+
+  module _ (l : size ≤ streamLimit) (room : length before ≡ streamLimit) where
+    short : length text ≤ streamLimit
+    short = go (leb (length text) streamLimit) refl
+      where
+        go : (b : Bool) → leb (length text) streamLimit ≡ b → length text ≤ streamLimit
+        go true e = leb-true (length text) streamLimit e
+        go false e = absurd (omega (arith, h .past (leb-false (length text) streamLimit e)))
+
+    pub all-fits : size - 0 ≤ length after
+    all-fits = front-fits (h .fits short) (omega (arith, short))
+
+    pub all-is : take (size - 0) (drop 0 after) ≡ sized text
+    all-is = written-front (h .fits short) (omega (arith, short)) ∙ sym (ap (λ (b : Bool). cond b text (refusedText Output 0)) (le-leb (length text) streamLimit short))

@@ -1,0 +1,74 @@
+use Rattle.output.proofs.Emitting.{same-length as emitted-length}
+use mathlib.Core.Path.{_∙_}
+use Rattle.listing.proofs.ListedStates.{Listing, begins, passed, ended, state-small, count-small, falls, listed, state-range, few-starts, last-range, length-kept}
+use Rattle.stores.specs.RuleStore.{decode}
+use native.Mathlib.Omega.{arith}
+use Prim.Native.Nat.{_-_, _^_}
+use borrow.Author.Needs.{needs}
+use Rattle.listing.proofs.listing.emit_listing.Statement.{statement}
+use Rattle.listing.proofs.listing.emit_listing.Tie as tie
+
+abbrev Inv-loop : tie.InvT-loop
+Inv-loop rules names starts out₀ next₀ start₀ count₀ out next start count = Listing rules names starts out₀ out next start count
+
+abbrev μ-loop : tie.MeasureT-loop
+μ-loop rules names starts out₀ next₀ start₀ count₀ out next start count = 2 ^ decode rules .atoms - start
+
+loop-holds : tie.Need-loop-holds Inv-loop μ-loop
+loop-holds c = begins _ (c .before .before .before .before .pre)
+
+next-state-requires : tie.Need-next-state-requires Inv-loop μ-loop
+next-state-requires c κs = search needs
+
+enum-known-found : tie.Need-enum-known-found Inv-loop μ-loop
+enum-known-found c = search needs
+
+emit-last-requires : tie.Need-emit-last-requires Inv-loop μ-loop
+emit-last-requires c κs = last-range (c .before .before .before .before .loop .inv) _ (c .before .before .before .loop-test .taken)
+
+same-length : tie.Need-same-length Inv-loop μ-loop
+same-length c = emitted-length (c .before .before .emit-last .ensures) ∙ length-kept (c .before .before .before .before .before .before .before .loop .inv)
+
+returns : tie.Need-returns Inv-loop μ-loop
+returns c = ended (c .before .before .before .before .before .before .before .loop .inv) (c .before .before .before .before .before .next-state .ensures) (c .before .before .before .before .match .keys2) (c .before .before .emit-last .ensures)
+
+emit-state-requires : tie.Need-emit-state-requires Inv-loop μ-loop
+emit-state-requires c κs = (c .before .before .before .before .before .before .loop .inv .able .placed, few-starts (c .before .before .before .before .before .before .loop .inv .able), state-range (c .before .before .before .before .before .before .loop .inv .able) _ _ (c .before .before .before .before .before .loop-test .taken))
+
+add-start : tie.Need-add-start Inv-loop μ-loop
+add-start c = omega (arith, state-small (c .before .before .before .before .before .before .before .before .before .loop .inv) (c .before .before .before .before .before .before .before .next-state .ensures) (c .before .before .before .before .before .found .given .1))
+
+add-count : tie.Need-add-count Inv-loop μ-loop
+add-count c = omega (arith, count-small (c .before .before .before .before .before .before .before .before .before .loop .inv) (c .before .before .before .before .before .before .before .next-state .ensures) (c .before .before .before .before .before .found .given .1))
+
+loop-less : tie.Need-loop-less Inv-loop μ-loop
+loop-less c = falls (c .before .before .before .before .before .before .before .before .before .loop .inv) (c .before .before .before .before .before .before .before .next-state .ensures) (c .before .before .before .before .before .found .given .1)
+
+loop-again : tie.Need-loop-again Inv-loop μ-loop
+loop-again c = listed (c .before .before .before .before .before .before .before .before .before .loop .inv) (c .before .before .before .before .before .before .before .next-state .ensures) (c .before .before .before .before .before .found .given .1) (c .before .before .emit-state .ensures)
+
+same-length-2 : tie.Need-same-length-2 Inv-loop μ-loop
+same-length-2 c = length-kept (c .before .loop .inv)
+
+returns-2 : tie.Need-returns-2 Inv-loop μ-loop
+returns-2 c = passed (c .before .loop .inv) (c .loop-test .left)
+
+pub emit-listing-spec : {M : Type 1} → statement M
+emit-listing-spec =
+    tie.close
+    (tie.spec
+    Inv-loop
+    μ-loop
+    loop-holds
+    next-state-requires
+    enum-known-found
+    emit-last-requires
+    same-length
+    returns
+    emit-state-requires
+    add-start
+    add-count
+    loop-less
+    loop-again
+    same-length-2
+    returns-2)

@@ -1,0 +1,2 @@
+-- What is printed of two stores.
+pub mod StoresPrinted

@@ -1,0 +1,20 @@
+use borrow.Author.Needs.{needs}
+use Rattle.preferred_verdict.proofs.AgreeingSets.{no-model, a-model}
+use Rattle.preferred_verdict.proofs.preferred.preferred_masks.Statement.{statement}
+use Rattle.preferred_verdict.proofs.preferred.preferred_masks.Tie as tie
+
+first-broken-requires : tie.Need-first-broken-requires
+first-broken-requires c κs = search needs
+
+returns : tie.Need-returns
+returns c = no-model _ _ _ _ _ _ _ _ (c .before .first-broken .ensures) (c .if1 .taken)
+
+preferred-walk-requires : tie.Need-preferred-walk-requires
+preferred-walk-requires c κs = search needs
+
+returns-2 : tie.Need-returns-2
+returns-2 c = a-model _ _ _ _ _ _ _ _ _ (c .before .before .first-broken .ensures) (c .before .if1 .left) (c .preferred-walk .ensures)
+
+pub preferred-masks-spec : {M : Type 1} → statement M
+preferred-masks-spec =
+    tie.close (tie.spec first-broken-requires returns preferred-walk-requires returns-2)

@@ -1,0 +1,2 @@
+// The preferred verdict over a rule store (document 01, "Verdicts").
+pub mod preferred;

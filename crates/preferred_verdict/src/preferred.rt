@@ -1,0 +1,165 @@
+// The preferred verdict: the walk over all sets that agree on the fixed atoms.
+use kinds::limits::Kind;
+use kinds::limits::Preference;
+use masks::guard::Guard;
+use masks::guard::check_call;
+use masks::masks::fill_classes;
+use masks::masks::fill_rules;
+use masks::masks::first_broken;
+use masks::masks::least;
+use masks::masks::wide;
+use walks::answers::Verdict;
+ghost use mathlib.Core.Path.{_≡_};
+ghost use Prim.Native.Nat.{_+_, _<_, _≤_, _^_};
+ghost use lib.Count.{ones};
+ghost use lib.ListN.{length};
+ghost use Rattle.kinds.specs.Limits.{walkAtoms};
+ghost use Rattle.kinds.specs.declared.limits.Kind.the-variants.{Preference as KindPreference};
+ghost use Rattle.stores.specs.RuleStore.{StoreOf, decode};
+ghost use Rattle.walks.specs.Walk.{capped, preferredVerdict};
+ghost use Rattle.masks.specs.Masks.{sparesM, lackingM, beatsM, preferredWalkM, preferredM};
+ghost use Rattle.walks.specs.Answers.{preferredAnswer};
+
+// Whether at the first class on which the two differ `set` has a part of what `of` has.
+fn spares(classes: &[u64], set: u64, of: u64) -> bool
+    ensures { λ r. ⌜ r ≡ sparesM of set (now (classes .entry)) ⌝ }
+{
+    let mut i = 0;
+    while i < classes.len() {
+        let c = classes[i];
+        let a = set & c;
+        if a != of & c {
+            return a & of == a;
+        }
+        i += 1;
+    }
+    false
+}
+
+// The atoms of the first class that `of` lacks: a set that has one of them does not beat it.
+fn lacking(classes: &[u64], of: u64) -> u64
+    ensures { λ r. ⌜ r ≡ lackingM of (now (classes .entry)) ⌝ }
+{
+    if classes.len() == 0 {
+        return 0;
+    }
+    let c = classes[0];
+    c ^ (c & of)
+}
+
+// Whether `set`, which agrees with `of` on the fixed atoms, beats it.
+fn beats(care: &[u64], want: &[u64], classes: &[u64], lacked: u64, set: u64, of: u64) -> bool
+    requires { ⌜ length (now want) ≡ length (now care) ⌝ }
+    requires { ⌜ lacked ≡ lackingM of (now classes) ⌝ }
+    ensures { λ r. ⌜ r ≡ beatsM (now (care .entry)) (now (want .entry)) (now (classes .entry)) of set ⌝ }
+{
+    if set & lacked != 0 {
+        return false;
+    }
+    if spares(classes, set, of) {
+        return first_broken(care, want, set) == care.len();
+    }
+    false
+}
+
+// The walk over the sets that agree with `set` on the fixed atoms, of which `free` atoms are none.
+// A set s stands as y, which is s with all fixed atoms in; the next y is (y + 1) | fixed.
+pub fn preferred_walk(
+    care: &[u64],
+    want: &[u64],
+    classes: &[u64],
+    fixed: u64,
+    free: u32,
+    set: u64,
+    budget: u64,
+) -> Verdict
+    requires { ⌜ length (now want) ≡ length (now care) ⌝ }
+    requires { ⌜ free + ones fixed ≤ 60 ⌝ }
+    requires { ⌜ fixed < 2 ^ (free + ones fixed) ⌝ }
+    ensures { λ r. ⌜ r ≡ capped budget (preferredWalkM (now (care .entry)) (now (want .entry)) (now (classes .entry)) fixed (free + ones fixed) set) ⌝ }
+{
+    let total = 1u64 << free;
+    let last = least(total, budget);
+    let d = fixed ^ (fixed & set);
+    let lacked = lacking(classes, set);
+    let mut y = fixed;
+    let mut units: u64 = 0;
+    while units < last {
+        units += 1;
+        let s = y ^ d;
+        if beats(care, want, classes, lacked, s, set) {
+            return Verdict::Beaten {
+                set: s,
+                units: units,
+            };
+        }
+        y = (y + 1) | fixed;
+    }
+    if units < total {
+        return Verdict::Spent { units: budget };
+    }
+    Verdict::Yes { units: units }
+}
+
+// The preferred verdict over masks.
+pub fn preferred_masks(
+    care: &[u64],
+    want: &[u64],
+    classes: &[u64],
+    fixed: u64,
+    free: u32,
+    set: u64,
+    budget: u64,
+) -> Verdict
+    requires { ⌜ length (now want) ≡ length (now care) ⌝ }
+    requires { ⌜ free + ones fixed ≤ 60 ⌝ }
+    requires { ⌜ fixed < 2 ^ (free + ones fixed) ⌝ }
+    ensures { λ r. ⌜ r ≡ capped budget (preferredM (now (care .entry)) (now (want .entry)) (now (classes .entry)) fixed (free + ones fixed) set) ⌝ }
+{
+    let broken = first_broken(care, want, set);
+    if broken != care.len() {
+        return Verdict::Broken {
+            rule: broken as u64,
+        };
+    }
+    preferred_walk(care, want, classes, fixed, free, set, budget)
+}
+
+// The preferred verdict over the words of a checked preference store.
+fn preferred_of(words: &[u16], set: u64, budget: u64) -> Verdict
+    requires { ⌜ StoreOf (now words) (decode (now words)) ⌝ }
+    requires { ⌜ decode (now words) .atoms ≤ walkAtoms ⌝ }
+    requires { ⌜ decode (now words) .kind ≡ KindPreference ⌝ }
+    ensures { λ r. ⌜ r ≡ preferredVerdict (decode (now (words .entry)) .words) (decode (now (words .entry)) .rules) set budget ⌝ }
+{
+    let n = wide(words[1]);
+    let k = wide(words[2]);
+    let rules = wide(words[3]);
+    let start = 4 + n;
+    let mut classes = [0u64; Preference::CLASSES];
+    let mut care = [0u64; Preference::RULES];
+    let mut want = [0u64; Preference::RULES];
+    let fixed = fill_classes(words, n, &mut classes);
+    fill_rules(words, start, rules, 0, &mut care, &mut want);
+    let free = n as u32 - u64::count_ones(fixed);
+    preferred_masks(
+        &care[..rules],
+        &want[..rules],
+        &classes[..k],
+        fixed,
+        free,
+        set,
+        budget,
+    )
+}
+
+// Whether `set` is preferred, by the rules of a preference store.
+pub fn preferred(words: &[u16], set: u64, budget: u64) -> Verdict
+    ensures { λ r. ⌜ r ≡ preferredAnswer (now (words .entry)) set budget ⌝ }
+{
+    let guard = check_call(words, Kind::Preference, set, 0, budget);
+    match guard {
+        Guard::Passed => preferred_of(words, set, budget),
+        Guard::Refused { refusal } => Verdict::Refused { refusal: refusal },
+    }
+}

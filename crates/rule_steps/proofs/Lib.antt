@@ -1,0 +1,2 @@
+-- The laws of the steps over the rules.
+pub mod RuleSteps

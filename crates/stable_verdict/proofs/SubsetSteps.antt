@@ -1,0 +1,130 @@
+-- The table of steps: what the loop that fills it keeps, and what the walk reads in it.
+use Prim.Native.Nat.{ℕ, suc, _+_, _-_, _*_, _%_, _^_, _≤_, _<_}
+use mathlib.Core.Path.{_≡_, sym, ap, _∙_, subst}
+use mathlib.Core.List.{List}
+use native.Mathlib.Decide.{ℕ-discrete}
+use native.Mathlib.Omega.{arith}
+use lib.Pow.{pow-pos}
+use lib.Bits.{bitAnd, and-le-r}
+use lib.Count.{ones, trailingZeros, ones-le}
+use lib.ListN.{length, getD, set, length-set}
+use lib.Seq.{getD-set-same, getD-set-other}
+use Rattle.masks.specs.Subsets.{rank, NextSub, stepOf, StepTable}
+use Rattle.masks.proofs.MaskLoops.{shifted}
+use Rattle.masks.proofs.Subsets.{Lowest, lowest, zeros-lt, step-pos, next-sub, rank-lt, rank-top}
+
+-- the lowest atom of a set, as the shift of a u64 computes it
+abbrev pub lowAtom : ℕ → ℕ
+lowAtom x = (1 * 2 ^ trailingZeros 64 x) % 2 ^ 64
+
+module _ (m : ℕ) where
+  -- the steps of j atoms stand, `below` has these atoms and `left` the others
+  pub record Filled (steps : List ℕ) (left below j : ℕ) : Type 0 where
+    pub fits : m < 2 ^ 60
+    pub total : below + left ≡ m
+    pub count : j + ones left ≡ ones m
+    pub room : length steps ≡ 60
+    pub rest : (i : ℕ) → stepOf 64 m (j + i) ≡ stepOf 64 left i - below
+    pub done : (i : ℕ) → i < j → getD steps i 0 ≡ stepOf 64 m i
+
+  pub steps-begin : (steps : List ℕ) → m < 2 ^ 60 → length steps ≡ 60 → Filled steps m 0 0
+  steps-begin steps h r = record {
+    fits = h;
+    total = omega arith;
+    count = omega arith;
+    room = r;
+    rest = λ i. let e : 0 + i ≡ i = omega arith in ap (stepOf 64 m) e ∙ (omega arith);
+    done = λ i l. absurd (omega arith);
+  }
+
+  module _ (steps : List ℕ) (left below j : ℕ) (st : Filled steps left below j) where
+    pub steps-end : left ≡ 0 → StepTable m steps
+    unfolding ones
+    steps-end e =
+        let z : ones left ≡ 0 = ap ones e in
+        let c = st .count in
+        let r = st .room in
+        record { room = omega (arith, ones-le 60 m (st .fits)); holds = λ i l. st .done i (omega arith) }
+
+    module _ (ne : left ≡ 0 → ⊥) where
+      small : left < 2 ^ 60
+      small = let t = st .total in let f = st .fits in omega arith
+
+      low : Lowest 64 left (trailingZeros 64 left)
+      low = lowest 64 left (omega arith) (let s = small in omega arith)
+
+      pub zeros-small : trailingZeros 64 left < 60
+      zeros-small = zeros-lt 64 60 left (omega arith) small
+
+      atom-is : lowAtom left ≡ 2 ^ trailingZeros 64 left
+      atom-is = shifted (trailingZeros 64 left) (omega (arith, zeros-small))
+
+      pub atom-within : lowAtom left ≤ left
+      atom-within = omega (arith, atom-is, low .within)
+
+      pub left-falls : left - lowAtom left < left
+      left-falls = omega (arith, atom-is, pow-pos (trailingZeros 64 left))
+
+      more : j < ones m
+      more = omega (arith, low .fewer, st .count)
+
+      pub place-small : j < 60
+      place-small = omega (arith, more, ones-le 60 m (st .fits))
+
+      pub steps-room : j < length steps
+      steps-room = omega (arith, place-small, st .room)
+
+      here : stepOf 64 m j ≡ lowAtom left - below
+      here =
+          let e : j ≡ j + 0 = omega arith in
+          ap (stepOf 64 m) e ∙ st .rest 0 ∙ ap (λ (x : ℕ). x - below) (low .first ∙ sym atom-is)
+
+      pub atom-above : below ≤ lowAtom left
+      atom-above = let f = st .fits in omega (arith, here, step-pos 64 m j (omega arith) more)
+
+      pub below-fits : below + lowAtom left < 2 ^ 64
+      below-fits = let f = st .fits in let t = st .total in omega (arith, atom-within)
+
+      pub steps-go-on : Filled (set steps j (lowAtom left - below)) (left - lowAtom left) (below + lowAtom left) (j + 1)
+      steps-go-on = record {
+        fits = st .fits;
+        total = let t = st .total in omega (arith, atom-within);
+        count = let e : ones (left - lowAtom left) ≡ ones (left - 2 ^ trailingZeros 64 left) = ap (λ (x : ℕ). ones (left - x)) atom-is in omega (arith, low .fewer, st .count);
+        room = length-set steps j (lowAtom left - below) ∙ st .room;
+        rest = λ i.
+            let e : j + 1 + i ≡ j + suc i = omega arith in
+            let q : stepOf 64 left (suc i) ≡ stepOf 64 (left - lowAtom left) i - lowAtom left = low .later i ∙ ap (λ (x : ℕ). stepOf 64 (left - x) i - x) (sym atom-is) in
+            ap (stepOf 64 m) e ∙ st .rest (suc i) ∙ ap (λ (x : ℕ). x - below) q ∙ (omega arith);
+        done = λ i l. at i l (ℕ-discrete i j);
+      }
+        where
+          at : (i : ℕ) → i < j + 1 → Dec (i ≡ j) → getD (set steps j (lowAtom left - below)) i 0 ≡ stepOf 64 m i
+          at i l (yes e) =
+              ap (λ (x : ℕ). getD (set steps j (lowAtom left - below)) x 0) e
+              ∙ getD-set-same steps j (lowAtom left - below) 0 steps-room ∙ sym here ∙ ap (stepOf 64 m) (sym e)
+          at i l (no ne) = getD-set-other steps j i (lowAtom left - below) 0 ne ∙ st .done i (omega arith)
+
+-- the step read after a proper subset s of m, by the place of the next one
+pub record StepRead (m s place : ℕ) (steps : List ℕ) : Type 0 where
+  pub small : trailingZeros 64 place < 60
+  pub stands : trailingZeros 64 place < length steps
+  pub fits : s + getD steps (trailingZeros 64 place) 0 < 2 ^ 64
+  pub next : NextSub m s (s + getD steps (trailingZeros 64 place) 0)
+
+module _ (m s place : ℕ) (steps : List ℕ) (t : StepTable m steps) (fits : m < 2 ^ 60) (inside : bitAnd s m ≡ s) (ne : s ≡ m → ⊥) (e : rank 64 m s + 1 ≡ place) where
+  few : trailingZeros 64 place < ones m
+  few = zeros-lt 64 (ones m) place (omega arith) (omega (arith, rank-lt 64 m s (omega arith) inside ne, rank-top 64 m (omega arith)))
+
+  next : NextSub m s (s + getD steps (trailingZeros 64 place) 0)
+  next =
+      subst (λ (x : ℕ). NextSub m s (s + x))
+      (ap (λ (u : ℕ). stepOf 64 m (trailingZeros 64 u)) e ∙ sym (t .holds (trailingZeros 64 place) few))
+      (next-sub m s (omega arith) inside ne)
+
+  pub step-read : StepRead m s place steps
+  step-read = record {
+    small = omega (arith, few, ones-le 60 m fits);
+    stands = omega (arith, few, t .room);
+    fits = let i = next .inside in omega (arith, and-le-r (s + getD steps (trailingZeros 64 place) 0) m);
+    next = next;
+  }

@@ -1,0 +1,2 @@
+// The stable verdict over a rule store (document 01, "Verdicts").
+pub mod stable;

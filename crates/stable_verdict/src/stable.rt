@@ -1,0 +1,136 @@
+// The stable verdict: the walk over the proper subsets.
+use kinds::limits::Kind;
+use kinds::limits::Plain;
+use kinds::limits::Walk;
+use masks::guard::Guard;
+use masks::guard::check_call;
+use masks::masks::fill_rules;
+use masks::masks::first_broken;
+use masks::masks::gather;
+use masks::masks::least;
+use masks::masks::wide;
+use walks::answers::Verdict;
+ghost use mathlib.Core.Path.{_≡_};
+ghost use Prim.Native.Nat.{_<_, _≤_, _^_};
+ghost use lib.Dec.{eqb};
+ghost use lib.ListN.{length};
+ghost use Rattle.kinds.specs.Limits.{walkAtoms};
+ghost use Rattle.kinds.specs.declared.limits.Kind.the-variants.{Plain as KindPlain};
+ghost use Rattle.stores.specs.RuleStore.{StoreOf, decode};
+ghost use Rattle.walks.specs.Walk.{capped, stableVerdict};
+ghost use Rattle.masks.specs.Masks.{modelM, stableWalkM};
+ghost use Rattle.masks.specs.Subsets.{rank, StepTable};
+ghost use Rattle.walks.specs.Answers.{stableAnswer};
+
+// How many proper subsets a set has.
+fn proper_subsets(set: u64) -> u64
+    requires { ⌜ set < 2 ^ 60 ⌝ }
+    ensures { λ r. ⌜ r ≡ rank 64 set set ⌝ }
+{
+    (1u64 << u64::count_ones(set)) - 1
+}
+
+// Fills what leads to the next subset where the j lowest atoms of `set` are in and the next is out: that one goes in and they go out.
+fn fill_steps(set: u64, steps: &mut [u64])
+    requires { ⌜ set < 2 ^ 60 ⌝ }
+    requires { ⌜ length (now steps) ≡ walkAtoms ⌝ }
+    ensures { λ _. ⌜ StepTable set (now (steps .exit)) ⌝ }
+{
+    let mut left = set;
+    let mut below: u64 = 0;
+    let mut j = 0;
+    while left != 0 {
+        let atom = 1u64 << u64::trailing_zeros(left);
+        steps[j] = atom - below;
+        below += atom;
+        left -= atom;
+        j += 1;
+    }
+}
+
+// The number of a rule that is broken at `set`, or the number of rules.
+// Rule `first` is looked at first: the rule that one subset breaks, the next mostly breaks too.
+fn some_broken(care: &[u64], want: &[u64], set: u64, first: usize) -> usize
+    requires { ⌜ length (now want) ≡ length (now care) ⌝ }
+    ensures { λ r. ⌜ eqb r (length (now (care .entry))) ≡ modelM (now (care .entry)) (now (want .entry)) set ⌝ }
+{
+    if first < care.len() {
+        if set & care[first] == want[first] {
+            return first;
+        }
+    }
+    first_broken(care, want, set)
+}
+
+// Tries the proper subsets of `set` by rising number; the trailing zeros of a subset's place tell its step.
+fn walk_subsets(care: &[u64], want: &[u64], set: u64, steps: &[u64], budget: u64) -> Verdict
+    requires { ⌜ length (now want) ≡ length (now care) ⌝ }
+    requires { ⌜ set < 2 ^ 60 ⌝ }
+    requires { ⌜ StepTable set (now steps) ⌝ }
+    ensures { λ r. ⌜ r ≡ capped budget (stableWalkM (now (care .entry)) (now (want .entry)) set) ⌝ }
+{
+    let proper = proper_subsets(set);
+    let last = least(proper, budget);
+    let mut s: u64 = 0;
+    let mut units: u64 = 0;
+    let mut broken = 0;
+    while units < last {
+        units += 1;
+        broken = some_broken(care, want, s, broken);
+        if broken == care.len() {
+            return Verdict::Beaten {
+                set: s,
+                units: units,
+            };
+        }
+        let j = u64::trailing_zeros(units) as usize;
+        s += steps[j];
+    }
+    if units < proper {
+        return Verdict::Spent { units: budget };
+    }
+    Verdict::Yes { units: units }
+}
+
+fn stable_walk(care: &[u64], want: &[u64], set: u64, budget: u64) -> Verdict
+    requires { ⌜ length (now want) ≡ length (now care) ⌝ }
+    requires { ⌜ set < 2 ^ 60 ⌝ }
+    ensures { λ r. ⌜ r ≡ capped budget (stableWalkM (now (care .entry)) (now (want .entry)) set) ⌝ }
+{
+    let mut steps = [0u64; Walk::ATOMS];
+    fill_steps(set, &mut steps);
+    walk_subsets(care, want, set, &steps, budget)
+}
+
+// The stable verdict over the words of a checked plain store.
+fn stable_of(words: &[u16], set: u64, budget: u64) -> Verdict
+    requires { ⌜ StoreOf (now words) (decode (now words)) ⌝ }
+    requires { ⌜ decode (now words) .atoms ≤ walkAtoms ⌝ }
+    requires { ⌜ decode (now words) .kind ≡ KindPlain ⌝ }
+    requires { ⌜ set < 2 ^ decode (now words) .atoms ⌝ }
+    ensures { λ r. ⌜ r ≡ stableVerdict (decode (now (words .entry)) .rules) set budget ⌝ }
+{
+    let rules = wide(words[3]);
+    let mut care = [0u64; Plain::RULES];
+    let mut want = [0u64; Plain::RULES];
+    fill_rules(words, 4, rules, set, &mut care, &mut want);
+    let broken = first_broken(&care[..rules], &want[..rules], set);
+    if broken != rules {
+        return Verdict::Broken {
+            rule: broken as u64,
+        };
+    }
+    let kept = gather(&mut care, &mut want, rules);
+    stable_walk(&care[..kept], &want[..kept], set, budget)
+}
+
+// Whether `set` is stable, by the rules of a plain store.
+pub fn stable(words: &[u16], set: u64, budget: u64) -> Verdict
+    ensures { λ r. ⌜ r ≡ stableAnswer (now (words .entry)) set budget ⌝ }
+{
+    let guard = check_call(words, Kind::Plain, set, 0, budget);
+    match guard {
+        Guard::Passed => stable_of(words, set, budget),
+        Guard::Refused { refusal } => Verdict::Refused { refusal: refusal },
+    }
+}

@@ -1,0 +1,2 @@
+// The check of a whole rule store (refusal 10).
+pub mod store_forms;

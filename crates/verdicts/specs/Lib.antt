@@ -1,2 +1,0 @@
--- The next subset of a set.
-pub mod Subsets
