@@ -36,7 +36,8 @@ use Rattle.walks.specs.declared.answers.NextState.{NextState}
 use Rattle.walks.specs.declared.answers.NextState.the-variants.{State, Nothing, Spent, Refused}
 use Rattle.walks.proofs.answers.NextState.{the-type}
 use Rattle.walks.proofs.Listing.{next-state}
-use Rattle.printing.specs.Printed.{closing, stateLine, member, members, totalLine, spentLine, onNext, listing, wholeListing, sized, refusedText}
+use Rattle.printing.specs.Printed.{closing, stateLine, member, members, totalLine, spentLine, refusedText}
+use Rattle.listing.specs.Listed.{onNext, listing, wholeListing, sized}
 use Rattle.listing.specs.StoresPrinted.{Listable, lastLine, Limited, storesListing}
 use Rattle.printing.proofs.PrintedLines.{member-next, members-end, state-opens, total-short, front-fits, written-front}
 

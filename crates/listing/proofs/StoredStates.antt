@@ -20,7 +20,8 @@ use Rattle.stores.proofs.RuleStores.{of-kind}
 use Rattle.name_store.proofs.NameStores.{decoded-names}
 use Rattle.name_store.proofs.NameEntries.{length-filled, filled}
 use Rattle.text.specs.Items.{storedNames}
-use Rattle.printing.specs.Printed.{refusedText, sized, statesOf}
+use Rattle.printing.specs.Printed.{refusedText}
+use Rattle.listing.specs.Listed.{sized, statesOf}
 use Rattle.listing.specs.StoresPrinted.{Listable, storesListing, storesStates}
 
 not-true : (b : Bool) → not b ≡ true → b ≡ false

@@ -1,2 +1,3 @@
--- What is printed of two stores.
+-- The listing of a program, and what is printed of two stores.
+pub mod Listed
 pub mod StoresPrinted

@@ -1,4 +1,4 @@
--- What the two programs print on two stores.
+-- What the lister prints on two stores.
 use Prim.Native.Nat.{ℕ, _≤_, _<_}
 use mathlib.Core.Path.{_≡_}
 use mathlib.Core.Bool.{cond}
@@ -16,11 +16,9 @@ use Rattle.name_store.specs.NameStore.{names?, decodeNames}
 use Rattle.name_store.specs.NameIndex.{Placed}
 use Rattle.output.specs.Emitted.{Emitted}
 use Rattle.text.specs.Items.{storedNames}
-use Rattle.writer.specs.declared.Written.{Written}
-use Rattle.writer.specs.declared.Written.the-variants.{Text, Refused}
-use Rattle.translation.specs.Answers.{storesTranslation, translateAnswer}
 use Rattle.walks.specs.declared.answers.NextState.{NextState}
-use Rattle.printing.specs.Printed.{refusedText, totalLine, spentLine, onNext, wholeListing, statesOf}
+use Rattle.printing.specs.Printed.{refusedText, totalLine, spentLine}
+use Rattle.listing.specs.Listed.{onNext, wholeListing, statesOf}
 
 -- a preference store of at most 60 atoms with its names, and the table of their places
 pub record Listable (rules names starts : List ℕ) : Type 0 where
@@ -48,12 +46,3 @@ storesStates rules names =
     cond (isOf Preference (ruleStore rules))
     (cond (names? Preference (decode rules .atoms) names) (statesOf (decode rules) (decodeNames (decode rules .atoms) names)) (refusedText NameStore 0))
     (refusedText RuleStore 0)
-
--- the text that was written, or the refusal
-abbrev pub writtenPrinted : Written → List ℕ → List ℕ
-writtenPrinted (Text bytes) text = text
-writtenPrinted (Refused f) text = refusedText f 0
-
--- what the translator prints on two stores
-unfoldable pub storesTranslated : List ℕ → List ℕ → List ℕ
-storesTranslated rules names = writtenPrinted (translateAnswer rules names streamLimit) (storesTranslation rules names)

@@ -1,2 +1,2 @@
--- What the two programs print.
+-- The lines that the two programs print.
 pub mod Printed

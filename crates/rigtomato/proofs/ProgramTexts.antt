@@ -34,8 +34,10 @@ use Rattle.delivery.specs.Said.{Said, accepted, refused, said, programOf}
 use Rattle.delivery.specs.Answers.{readAnswer, readRules, readNames, ruleWordsOf, nameBytesOf, answerOf}
 use Rattle.reader.proofs.RoundTrip.{accepted-form}
 use Rattle.translation.specs.Answers.{translationText, storesTranslation, translateAnswer, translateOutput}
-use Rattle.printing.specs.Printed.{refusedText, wholeListing, sized, ofKind, onSaid, printed, translatePrinted, statesOf, statesPrinted}
-use Rattle.listing.specs.StoresPrinted.{writtenPrinted, storesTranslated, storesStates}
+use Rattle.printing.specs.Printed.{refusedText}
+use Rattle.listing.specs.Listed.{wholeListing, sized, statesOf}
+use Rattle.rigtomato.specs.Programs.{ofKind, onSaid, printed, translatePrinted, statesPrinted, writtenPrinted, storesTranslated}
+use Rattle.listing.specs.StoresPrinted.{storesStates}
 use Rattle.rigtomato.proofs.Demand3.{Filled, never, filled, reads-as, front, named, stores-text}
 use Rattle.printing.proofs.PrintedLines.{refused-short}
 

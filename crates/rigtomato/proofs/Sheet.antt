@@ -12,7 +12,9 @@ use Rattle.pairing.specs.Atoms.{declared}
 use Rattle.pairing.specs.Steps.{step1, step2, step3, step4, step5, step6, step7, step8, step9, step10, translation}
 use Rattle.pairing.specs.Translated.{translatedRules}
 use Rattle.walks.specs.Walk.{preferredWalk, candidates, search, capped, preferredNeeds, preferredVerdict, firstState, cappedNext, nextVerdict}
-use Rattle.printing.specs.Printed.{digits, stateLine, totalLine, listing, wholeListing, printed, statesOf, statesPrinted}
+use Rattle.printing.specs.Printed.{digits, stateLine, totalLine}
+use Rattle.listing.specs.Listed.{listing, wholeListing, statesOf}
+use Rattle.rigtomato.specs.Programs.{printed, statesPrinted}
 use Rattle.rigtomato.specs.Sheet.{fileA, oneClass, lampFirst, darkFixed, nothing, emptyRule, oneRule, listingA, Sheet}
 
 pub sheet : Sheet

@@ -10,7 +10,8 @@ ghost use Rattle.writer.specs.Answers.{writeAnswer, writeOutput};
 ghost use Rattle.delivery.specs.Answers.{readAnswer, readRules, readNames};
 ghost use Rattle.translation.specs.Answers.{translateAnswer, translateOutput};
 ghost use Rattle.walks.specs.Answers.{preferredAnswer, stableAnswer, nextAnswer};
-ghost use Rattle.printing.specs.Printed.{translatePrinted, statesPrinted, shown};
+ghost use Rattle.printing.specs.Printed.{shown};
+ghost use Rattle.rigtomato.specs.Programs.{translatePrinted, statesPrinted};
 
 // A text of either kind into its two stores.
 pub fn read(text: &[u8], rules: &mut [u16], names: &mut [u8]) -> delivery::answers::Read

@@ -1,6 +1,6 @@
 use Rattle.rigtomato.proofs.ProgramTexts.{rules-part, names-part, refused-text, accepted-text, listed-stores}
 use Rattle.printing.proofs.PrintedLines.{shown-renamed}
-use Rattle.printing.specs.Printed.{statesPrinted}
+use Rattle.rigtomato.specs.Programs.{statesPrinted}
 use Rattle.listing.specs.StoresPrinted.{storesStates}
 use native.Mathlib.Omega.{arith}
 use borrow.Author.Needs.{needs}

@@ -1,7 +1,6 @@
 use Rattle.rigtomato.proofs.ProgramTexts.{rules-part, names-part, refused-text, accepted-text, translated-stores}
 use Rattle.printing.proofs.PrintedLines.{shown-renamed}
-use Rattle.printing.specs.Printed.{translatePrinted}
-use Rattle.listing.specs.StoresPrinted.{storesTranslated}
+use Rattle.rigtomato.specs.Programs.{translatePrinted, storesTranslated}
 use native.Mathlib.Omega.{arith}
 use borrow.Author.Needs.{needs}
 use Rattle.rigtomato.proofs.programs.translate_by.Statement.{statement}

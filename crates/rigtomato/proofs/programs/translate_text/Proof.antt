@@ -1,6 +1,6 @@
 use Rattle.rigtomato.proofs.ProgramTexts.{long-text}
 use Rattle.printing.proofs.PrintedLines.{shown-renamed}
-use Rattle.printing.specs.Printed.{translatePrinted}
+use Rattle.rigtomato.specs.Programs.{translatePrinted}
 use borrow.Author.Needs.{needs}
 use Rattle.rigtomato.proofs.programs.translate_text.Statement.{statement}
 use Rattle.rigtomato.proofs.programs.translate_text.Tie as tie

@@ -1,0 +1,40 @@
+-- The listing of a program's preferred states (document 01, "Sheets of known states").
+use Prim.Native.Nat.{ℕ, zero, suc, _^_}
+use mathlib.Core.Bool.{cond}
+use mathlib.Core.List.{List, [], _++_}
+use lib.Dec.{leb}
+use lib.ListN.{length}
+use Rattle.kinds.specs.Limits.{streamLimit, walkAtoms, budgetLimit}
+use Rattle.kinds.specs.declared.refusals.Refusal.the-variants.{Output, TooManyAtoms}
+use Rattle.stores.specs.Program.{Program}
+use Rattle.walks.specs.declared.answers.NextState.{NextState}
+use Rattle.walks.specs.declared.answers.NextState.the-variants.{State, Nothing, Spent, Refused}
+use Rattle.walks.specs.Walk.{nextVerdict}
+use Rattle.printing.specs.Printed.{refusedText, stateLine, totalLine, spentLine}
+
+abbrev pub onNext : NextState → (ℕ → List ℕ) → List ℕ → List ℕ → List ℕ
+onNext (State s u) more total spent = more s
+onNext (Nothing u) more total spent = total
+onNext (Spent u) more total spent = spent
+onNext (Refused f) more total spent = []
+
+-- the states from the start on, the largest budget for each next; then their number, `c` of them before, or `(spent)` in its place
+unfoldable pub listing : ℕ → Program → List (List ℕ) → ℕ → ℕ → List ℕ
+listing zero p names start c = []
+listing (suc left) p names start c =
+    onNext (nextVerdict (p .words) (p .rules) start budgetLimit)
+    (λ s. stateLine names s ++ listing left p names (suc s) (suc c))
+    (totalLine c)
+    spentLine
+
+-- at most 2^n states, and one more step to see that there is none left
+unfoldable pub wholeListing : Program → List (List ℕ) → List ℕ
+wholeListing p names = listing (suc (2 ^ p .atoms)) p names 0 0
+
+-- a text past the size of an output is refused
+abbrev pub sized : List ℕ → List ℕ
+sized text = cond (leb (length text) streamLimit) text (refusedText Output 0)
+
+-- over 60 atoms are refused
+unfoldable pub statesOf : Program → List (List ℕ) → List ℕ
+statesOf p names = cond (leb (p .atoms) walkAtoms) (sized (wholeListing p names)) (refusedText TooManyAtoms 0)
