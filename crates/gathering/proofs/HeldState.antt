@@ -1,7 +1,7 @@
 -- The scratch decodes to the state that it holds, and a list written behind what is filled.
-use Prim.Native.Nat.{ℕ, suc, _+_, _≤_}
+use Prim.Native.Nat.{ℕ, _+_, _≤_}
 use native.Mathlib.Omega.{arith}
-use mathlib.Core.Path.{_≡_, refl, sym, ap, ap₂, _∙_}
+use mathlib.Core.Path.{_≡_, sym, ap, ap₂, _∙_}
 use mathlib.Core.List.{List, [], _∷_, _++_, append-assoc, append-nil}
 use lib.ListN.{length, take, drop, length-append}
 use lib.Seq.{take-at, drop-at, drop-drop, sets}
@@ -13,7 +13,7 @@ use Rattle.rules.specs.Rules.{Rule, occurrences}
 use Rattle.name_store.specs.NameStore.{encodeNames, decodeNames}
 use Rattle.stores.specs.RuleStore.{ruleWords, wordCount, rulesFrom}
 use Rattle.name_store.specs.NameIndex.{Indexed}
-use Rattle.stores.proofs.RuleTests.{rule-front, past-front}
+use Rattle.stores.proofs.RuleStores.{rules-front}
 use Rattle.name_store.proofs.NameStores.{decode-front}
 use Rattle.name_store.proofs.NameEntries.{length-filled, filled}
 use Rattle.output.proofs.Emitting.{sets-seam}
@@ -21,16 +21,6 @@ use Rattle.gathering.specs.declared.gathered.Gathered.{Gathered}
 use Rattle.lines.specs.Faults.{State}
 use Rattle.gathering.specs.Gathered.{stateOf, storedWords, Filled, Held}
 use Rattle.gathering.proofs.KeptRules.{rules-small, occurrences-small}
-
--- decoding what stands at the front
-
-pub rules-front : (rs : List (Rule ℕ)) (rest : List ℕ) → rulesFrom (length rs) (flat ruleWords rs ++ rest) ≡ rs
-unfolding rulesFrom
-rules-front [] rest = refl
-rules-front (r ∷ rs) rest =
-    let t = flat ruleWords rs ++ rest in
-    ap (rulesFrom (suc (length rs))) (append-assoc (ruleWords r) (flat ruleWords rs) rest)
-    ∙ ap₂ _∷_ (rule-front r t) (ap (rulesFrom (length rs)) (past-front r t) ∙ rules-front rs rest)
 
 -- what is filled
 

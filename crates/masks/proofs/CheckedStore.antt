@@ -17,7 +17,7 @@ use Rattle.rules.specs.Lists.{All, flat, from}
 use Rattle.rules.specs.Sets.{has}
 use Rattle.rules.specs.Rules.{Rule, occurrences, reduct, model?, firstBroken}
 use Rattle.rules.specs.Preferred.{fixed, ofClass}
-use Rattle.rules.proofs.Lists.{all-app, all-imp, length-from}
+use Rattle.rules.proofs.Lists.{all-app, all-imp, length-from, all-at}
 use Rattle.rules.proofs.Preferred.{all-of-class}
 use Rattle.stores.specs.Program.{Program, ClassesForm, RuleForm, NotForm}
 use Rattle.stores.specs.RuleStore.{ruleWords, encode, StoreOf, wordCount, places, rulesFrom, decode}
@@ -29,7 +29,7 @@ use Rattle.walks.specs.declared.answers.Verdict.{Verdict}
 use Rattle.walks.specs.declared.answers.Verdict.the-variants.{Broken}
 use Rattle.walks.specs.declared.answers.NextState.{NextState}
 use Rattle.masks.specs.Rows.{Row, Rows}
-use Rattle.masks.proofs.ClassMasks.{no-class, all-at}
+use Rattle.masks.proofs.ClassMasks.{no-class}
 use Rattle.masks.proofs.RuleMasks.{first-mask, model-mask, same-nots}
 use Rattle.masks.proofs.VerdictMasks.{preferred-mask, stable-walk-mask, gather-walk}
 use Rattle.masks.proofs.RowLaws.{front}
@@ -78,7 +78,7 @@ module _ (ws : List ℕ) (kind : Kind) (n : ℕ) (few : n ≤ walkAtoms) where
           let b : length (r .body ++ r .nots) ≡ length (r .body) + length (r .nots) = length-append (r .body) (r .nots) in
           let i : k - (at + 3) < length (r .head ++ (r .body ++ r .nots)) = omega arith in
           let z : at + suc (suc (suc (k - (at + 3)))) ≡ k = omega arith in
-          let g : getD (r .head ++ (r .body ++ r .nots)) (k - (at + 3)) 0 < n = all-at (λ a. a < n) (r .head ++ (r .body ++ r .nots)) (k - (at + 3)) all-below i in
+          let g : getD (r .head ++ (r .body ++ r .nots)) (k - (at + 3)) 0 < n = all-at (λ a. a < n) 0 (r .head ++ (r .body ++ r .nots)) all-below (k - (at + 3)) i in
           let h : getD ws k 0 ≡ getD (r .head ++ (r .body ++ r .nots)) (k - (at + 3)) 0 = ap (λ (j : ℕ). getD ws j 0) (sym z) ∙ at-place (k - (at + 3)) i in
           omega arith
 

@@ -3,7 +3,7 @@ use Prim.Native.Nat.{ℕ, zero, suc, _+_, _-_, _≤_, _<_}
 use mathlib.Core.Path.{_≡_, refl, sym, ap, _∙_, subst}
 use mathlib.Core.Logic.{_↔_}
 use mathlib.Core.Bool.{Bool, true, false, not, cond, _&&_, _||_}
-use mathlib.Core.List.{List, [], _∷_}
+use mathlib.Core.List.{List, []}
 use native.Mathlib.Omega.{arith}
 use lib.Dec.{T, eqb, eqb→eq}
 use lib.ListN.{length, getD}
@@ -12,6 +12,7 @@ use Rattle.rules.specs.Lists.{All, filter, from}
 use Rattle.rules.specs.Sets.{has}
 use Rattle.rules.specs.Preferred.{ofClass, same?, agree?, within?, spares?}
 use Rattle.rules.proofs.Booleans.{bool-ext, T-imp, T-imp-out}
+use Rattle.rules.proofs.Lists.{all-at}
 use Rattle.stores.specs.Program.{roleOf, RoleForm}
 use Rattle.stores.proofs.ClassWord.{minimised}
 use Rattle.masks.specs.Masks.{maskOf, classMasks, agreeM, withinM, sparesM}
@@ -75,10 +76,6 @@ module _ (ws : List ℕ) (s m : ℕ) where
       ap (λ (n : ℕ). spares? ws (from 1 n) s m) e ∙ fewer 1 k (classLimit - k) (λ c a b. h c (omega arith) (omega arith)) ∙ spares-mask 1 k
 
 -- no word names a class above k
-pub all-at : (P : ℕ → Type 0) (ws : List ℕ) (i : ℕ) → All P ws → i < length ws → P (getD ws i 0)
-all-at P [] i h l = absurd (omega arith)
-all-at P (w ∷ ws) zero h l = h .0
-all-at P (w ∷ ws) (suc i) h l = all-at P ws i (h .1) (omega arith)
 
 pub no-class : (ws : List ℕ) (k c : ℕ) → All (λ w. RoleForm k (roleOf w)) ws → k < c → c ≤ classLimit → ofClass ws c ≡ []
 no-class ws k c h l u =
@@ -87,6 +84,6 @@ no-class ws k c h l u =
   where
     other : (a : ℕ) → a < length ws → getD ws a 0 ≡ c → ⊥
     other a b e =
-        let f : RoleForm k (roleOf c) = subst (λ (w : ℕ). RoleForm k (roleOf w)) e (all-at (λ w. RoleForm k (roleOf w)) ws a h b) in
+        let f : RoleForm k (roleOf c) = subst (λ (w : ℕ). RoleForm k (roleOf w)) e (all-at (λ w. RoleForm k (roleOf w)) 0 ws h a b) in
         let g : c ≤ k = subst (RoleForm k) (sym (minimised c (omega arith) u)) f in
         omega arith

@@ -12,6 +12,7 @@ use lib.ListN.{length, getD}
 use borrow.Author.Tests.{eqb-true, eqb-false}
 use Rattle.rules.specs.Lists.{All, Distinct, some}
 use Rattle.rules.proofs.Booleans.{T-or, is-true, is-false}
+use Rattle.rules.proofs.Lists.{all-at}
 use Rattle.name_store.specs.NameStore.{decodeNames, sameBytes}
 use Rattle.name_store.specs.NameIndex.{foundFrom, found, nameHash, hashes, lastWith, Indexed}
 use Rattle.name_store.specs.declared.index.Found.the-variants.{At, Missing}
@@ -57,11 +58,6 @@ last-ext f g h (suc i) e = ap₂ (λ (a b : ℕ). cond (eqb a h) (suc i) b) (e i
 
 -- what `found` says
 
-all-at : {A : Type 0} (P : A → Type 0) (d : A) (xs : List A) (j : ℕ) → All P xs → j < length xs → P (getD xs j d)
-all-at P d [] j a l = absurd (omega arith)
-all-at P d (x ∷ xs) zero a l = a .0
-all-at P d (x ∷ xs) (suc j) a l = all-at P d xs j (a .1) (omega arith)
-
 module _ (x : List ℕ) where
   skip : (i : ℕ) (y : List ℕ) (names : List (List ℕ)) → (y ≡ x → ⊥) → foundFrom i x (y ∷ names) ≡ foundFrom (suc i) x names
   unfolding foundFrom
@@ -77,7 +73,7 @@ module _ (x : List ℕ) where
   found-at i [] j d l e = absurd (omega arith)
   found-at i (y ∷ names) zero d l e = ap (λ b. cond b (At i) (foundFrom (suc i) x names)) (is-true (sameBytes y x) (same-law y x .1 e)) ∙ ap At (sym (add-zero i))
   found-at i (y ∷ names) (suc j) d l e =
-      let other : y ≢ getD names j [] = all-at (λ z. y ≢ z) [] names j (d .0) (omega arith) in
+      let other : y ≢ getD names j [] = all-at (λ z. y ≢ z) [] names (d .0) j (omega arith) in
       let s : suc i + j ≡ i + suc j = omega arith in
       skip i y names (λ k. other (k ∙ sym e)) ∙ found-at (suc i) names j (d .1) (omega arith) e ∙ ap At s
 

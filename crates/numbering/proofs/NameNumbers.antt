@@ -96,7 +96,7 @@ one-undeclared : (names seen : List (List ℕ)) (x : List ℕ) (xs : List (List 
 one-undeclared names [] x xs e = rw e
 one-undeclared names (y ∷ seen) x xs e = rw (one-undeclared names seen x xs e) (or-true (undeclared names y))
 
--- marks
+-- one more at the end
 
 some-last : {A : Type 0} (p : A → Bool) (xs : List A) (x : A) → some p (xs ++ (x ∷ [])) ≡ (p x || some p xs)
 some-last p [] x = refl

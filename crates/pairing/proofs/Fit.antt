@@ -14,7 +14,7 @@ use Rattle.rules.specs.Lists.{All, Distinct, sum}
 use Rattle.rules.specs.Rules.{Rule, occurrences}
 use Rattle.rules.specs.Preferred.{varying, fixed}
 use Rattle.rules.proofs.Booleans.{decide, T-not-in}
-use Rattle.rules.proofs.Lists.{all-imp}
+use Rattle.rules.proofs.Lists.{all-imp, all-at}
 use Rattle.stores.specs.Program.{Program, Form, ClassesForm, RuleForm, RoleForm, Rising, roleOf}
 use Rattle.stores.proofs.ClassWord.{minimised, below, above}
 use Rattle.stores.proofs.RuleTests.{rising-from}
@@ -42,11 +42,6 @@ pub record Fit (p : Program) : Type 0 where
   pub atoms-fit : p .atoms ≤ atomLimit Preference
   pub rules-fit : length (p .rules) ≤ ruleLimit Preference
   pub occurrences-fit : sum occurrences (p .rules) ≤ occurrenceLimit Preference
-
-all-at : (P : ℕ → Type 0) (l : List ℕ) → All P l → (i : ℕ) → i < length l → P (getD l i 0)
-all-at P [] h i u = absurd (omega arith)
-all-at P (x ∷ l) h zero u = h .0
-all-at P (x ∷ l) h (suc i) u = all-at P l (h .1) i (omega arith)
 
 rising-at : (b : ℕ) (l : List ℕ) → Rising b l → (i j : ℕ) → i < j → j < length l → getD l i 0 ≤ getD l j 0
 rising-at b [] h i j m u = absurd (omega arith)
@@ -93,7 +88,7 @@ fit-of p e f =
     }
   where
     words : ClassesForm Preference (p .atoms) (p .classes) (p .words) → (a : ℕ) → a < length (p .words) → Word (p .classes) (classWord p a)
-    words c a l = word (p .classes) (classWord p a) (all-at (λ w. RoleForm (p .classes) (roleOf w)) (p .words) (c .2) a l)
+    words c a l = word (p .classes) (classWord p a) (all-at (λ w. RoleForm (p .classes) (roleOf w)) 0 (p .words) (c .2) a l)
 
 -- an atom is fixed or not
 pub fixed-or : (p : Program) (a : ℕ) → T (fixed? p a) ⊎ T (unfixed? p a)

@@ -10,16 +10,9 @@ use lib.ListN.{length, getD, take, length-append}
 use lib.Seq.{getD-append-seam}
 use Rattle.rules.specs.Lists.{All, Any, Distinct, keep, filter, flat, from}
 use Rattle.rules.proofs.Booleans.{T-of}
-use Rattle.rules.proofs.Lists.{all-imp, all-app, all-filter, all-map, all-from}
+use Rattle.rules.proofs.Lists.{all-imp, all-app, all-filter, all-map, all-from, distinct-map}
 
 -- following numbers
-
-pub from-append : (s c d : ℕ) → from s c ++ from (s + c) d ≡ from s (c + d)
-from-append s zero d = let e : s + 0 ≡ s = omega arith in let f : d ≡ 0 + d = omega arith in ap₂ from e f
-from-append s (suc c) d =
-    let e : s + suc c ≡ suc s + c = omega arith in
-    let f : suc (c + d) ≡ suc c + d = omega arith in
-    ap (λ (l : List ℕ). s ∷ l) (ap (λ (b : ℕ). from (suc s) c ++ from b d) e ∙ from-append (suc s) c d) ∙ ap (from s) f
 
 pub shifted : (b s c : ℕ) → map (λ (a : ℕ). b + a) (from s c) ≡ from (b + s) c
 shifted b s zero = refl
@@ -130,16 +123,8 @@ distinct-from s zero = tt
 distinct-from s (suc c) = (all-from (λ y. s ≢ y) (suc s) c (λ a l u. omega arith), distinct-from (suc s) c)
 
 module _ {A B : Type 0} (f : A → B) where
-  -- f tells the entries of l apart
-  pub distinct-map : (P : A → Type 0) → ((a b : A) → P a → P b → f a ≡ f b → a ≡ b) → (l : List A) → All P l → Distinct l → Distinct (map f l)
-  distinct-map P i [] q h = tt
-  distinct-map P i (x ∷ l) q h = (
-    all-map (λ y. f x ≢ y) f l (all-zip P (λ b. x ≢ b) (λ b. f x ≢ f b) (λ b g j e. j (i x b (q .0) g e)) l (q .1) (h .0)),
-    distinct-map P i l (q .1) (h .1),
-  )
-
   pub distinct-inj : ((a b : A) → f a ≡ f b → a ≡ b) → (l : List A) → Distinct l → Distinct (map f l)
-  distinct-inj i l h = distinct-map (λ a. Unit {0}) (λ a b p q. i a b) l (all-each (λ a. Unit {0}) (λ a. tt) l) h
+  distinct-inj i l h = distinct-map f (λ a. Unit {0}) (λ a b p q. i a b) l (all-each (λ a. Unit {0}) (λ a. tt) l) h
 
   -- y is f of nothing
   abbrev pub NoImage : B → Type 0

@@ -10,11 +10,11 @@ use Rattle.kinds.specs.Limits.{classLimit}
 use Rattle.rules.specs.Lists.{All, from}
 use Rattle.rules.specs.Preferred.{fixed}
 use Rattle.rules.proofs.Booleans.{eq→eqb, T-not-in, T-not-out}
-use Rattle.rules.proofs.Lists.{length-from}
+use Rattle.rules.proofs.Lists.{length-from, from-append}
 use Rattle.stores.specs.Program.{Program}
 use Rattle.pairing.specs.Atoms.{Atom, original, N, S, D, E, U, originals, classWord, minimised?, fixed?, unfixed?, minimisedAtoms, unfixedAtoms, declared, place}
 use Rattle.pairing.proofs.Quantified.{Each·simp}
-use Rattle.pairing.proofs.ListLaws.{from-append, shifted, map-eq, filter-first, found}
+use Rattle.pairing.proofs.ListLaws.{shifted, map-eq, filter-first, found}
 use Rattle.pairing.proofs.Fit.{Fit, Minimised}
 
 module _ (p : Program) where

@@ -3,7 +3,7 @@ use Prim.Native.Nat.{ℕ, zero, suc, _+_, _*_, _≤_, _<_}
 use native.Mathlib.Omega.{arith}
 use native.Mathlib.Decide.{ℕ-discrete}
 use mathlib.Core.Path.{_≡_, refl, sym, ap, _∙_}
-use mathlib.Core.List.{List, [], _∷_, _++_, map}
+use mathlib.Core.List.{List, [], _∷_, map}
 use mathlib.Core.Bool.{Bool, true, false, not}
 use mathlib.Core.Logic.{_⊎_, inl, inr}
 use lib.Dec.{T, eqb, eqb→eq}
@@ -11,13 +11,10 @@ use lib.ListN.{length, length-append}
 use Rattle.rules.specs.Lists.{All, keep, filter, flat, from, sum}
 use Rattle.rules.proofs.Booleans.{eq→eqb}
 use Rattle.rules.proofs.Sets.{digit}
+use Rattle.rules.proofs.Lists.{sum-app}
 use Rattle.pairing.proofs.ListLaws.{all-each}
 
 module _ {A : Type 0} where
-  pub sum-app : (f : A → ℕ) (xs ys : List A) → sum f (xs ++ ys) ≡ sum f xs + sum f ys
-  sum-app f [] ys = omega arith
-  sum-app f (x ∷ xs) ys = omega (arith, sum-app f xs ys)
-
   pub sum-add : (f g : A → ℕ) (l : List A) → sum (λ a. f a + g a) l ≡ sum f l + sum g l
   sum-add f g [] = omega arith
   sum-add f g (x ∷ l) = omega (arith, sum-add f g l)

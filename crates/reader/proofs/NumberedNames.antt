@@ -10,7 +10,7 @@ use lib.ListN.{length, getD}
 use lib.Seq.{append-snoc}
 use Rattle.rules.specs.Lists.{All, Any, Distinct, some}
 use Rattle.rules.proofs.Booleans.{T-or, T-or-out, is-true}
-use Rattle.rules.proofs.Lists.{all-app, all-app-r, all-any, all-both, all-imp, all-map, some-any}
+use Rattle.rules.proofs.Lists.{all-app, all-app-r, all-any, all-imp, some-any, all-at, distinct-map}
 use Rattle.name_store.specs.NameStore.{sameBytes}
 use Rattle.name_store.proofs.NameStores.{same-law}
 use Rattle.text.specs.Text.{named}
@@ -43,20 +43,6 @@ module _ {A : Type 0} where
   distinct-before : (old : List A) (x : A) (xs : List A) → Distinct (old ++ (x ∷ xs)) → All (λ y. y ≢ x) old
   distinct-before [] x xs d = tt
   distinct-before (y ∷ old) x xs d = (all-app-r (λ z. y ≢ z) old (x ∷ xs) (d .0) .0, distinct-before old x xs (d .1))
-
-  pub all-at : (P : A → Type 0) (l : List A) (i : ℕ) (d : A) → All P l → i < length l → P (getD l i d)
-  all-at P [] i d h k = absurd (omega arith)
-  all-at P (x ∷ l) zero d h k = h .0
-  all-at P (x ∷ l) (suc i) d h k = all-at P l i d (h .1) (omega arith)
-
-pub distinct-map : {A B : Type 0} (f : A → B) (P : A → Type 0)
-    → ((a b : A) → P a → P b → f a ≡ f b → a ≡ b)
-    → (l : List A) → All P l → Distinct l → Distinct (map f l)
-distinct-map f P inj [] h d = tt
-distinct-map f P inj (x ∷ l) h d = (
-  all-map (λ z. f x ≢ z) f l (all-imp (λ a. P a × (x ≢ a)) (λ a. f x ≢ f a) (λ a k e. k .1 (inj x a (h .0) (k .0) e)) l (all-both P (λ a. x ≢ a) l (h .1) (d .0))),
-  distinct-map f P inj l (h .1) (d .1),
-)
 
 pub twice-free : (old xs : List (List ℕ)) → Distinct old → (T (twice old xs) → ⊥) → Distinct (old ++ xs)
 unfolding twice
@@ -112,7 +98,7 @@ number-of-name [] a d h = absurd (omega arith)
 number-of-name (y ∷ ys) zero d h = ap (λ b. cond b 0 (suc (numberOf ys y))) (is-true (sameBytes y y) (same-law y y .1 refl))
 number-of-name (y ∷ ys) (suc a) d h =
     let x = getD ys a [] in
-    is-no-other x y (suc (numberOf ys x)) (all-at (λ z. y ≢ z) ys a [] (d .0) (omega arith)) ∙ ap suc (number-of-name ys a (d .1) (omega arith))
+    is-no-other x y (suc (numberOf ys x)) (all-at (λ z. y ≢ z) [] ys (d .0) a (omega arith)) ∙ ap suc (number-of-name ys a (d .1) (omega arith))
 
 pub declared-at : (names : List (List ℕ)) (a : ℕ) → a < length names → Declared names (getD names a [])
 declared-at [] a h = absurd (omega arith)

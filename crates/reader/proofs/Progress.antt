@@ -11,10 +11,10 @@ use Rattle.kinds.specs.Limits.{atomLimit, classLimit}
 use Rattle.kinds.specs.declared.limits.Kind.{Kind}
 use Rattle.kinds.specs.declared.limits.Kind.the-variants.{Plain, Preference}
 use Rattle.kinds.specs.declared.refusals.Refusal.the-variants.{Form as BrokenForm}
-use Rattle.rules.specs.Lists.{All, flat, from, sum}
+use Rattle.rules.specs.Lists.{All, flat, from}
 use Rattle.rules.specs.Rules.{Rule, occurrences}
 use Rattle.rules.specs.Preferred.{varying, fixed}
-use Rattle.rules.proofs.Lists.{all-app, all-imp, all-from, all-map}
+use Rattle.rules.proofs.Lists.{all-app, all-imp, all-from, all-map, sum-app}
 use Rattle.names.specs.Names.{allowed}
 use Rattle.name_store.specs.NameStore.{NamesForm}
 use Rattle.stores.specs.Program.{Form, RoleForm, roleOf, ListForm, NotForm, RuleForm}
@@ -99,10 +99,6 @@ module _ {A B : Type 0} where
   flat-same : (f g : A → List B) (l : List A) → All (λ a. f a ≡ g a) l → flat f l ≡ flat g l
   flat-same f g [] h = refl
   flat-same f g (x ∷ l) h = ap₂ _++_ (h .0) (flat-same f g l (h .1))
-
-pub sum-app : {A : Type 0} (f : A → ℕ) (l m : List A) → sum f (l ++ m) ≡ sum f l + sum f m
-sum-app f [] m = omega arith
-sum-app f (x ∷ l) m = omega (arith, sum-app f l m)
 
 from-snoc : (s c t : ℕ) → t ≡ s + c → from s (suc c) ≡ from s c ++ (t ∷ [])
 from-snoc s zero t e = ap (λ i. i ∷ []) (omega arith)

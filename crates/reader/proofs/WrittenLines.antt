@@ -16,7 +16,7 @@ use Rattle.kinds.specs.declared.limits.Kind.the-variants.{Plain, Preference}
 use Rattle.rules.specs.Lists.{All, Distinct, flat, from, sum}
 use Rattle.rules.specs.Rules.{Rule, rule, occurrences}
 use Rattle.rules.specs.Preferred.{varying, fixed}
-use Rattle.rules.proofs.Lists.{all-imp, all-map}
+use Rattle.rules.proofs.Lists.{all-imp, all-map, all-at, sum-app}
 use Rattle.names.specs.declared.forms.NameClass.{NameClass}
 use Rattle.names.specs.declared.forms.NameClass.the-variants.{House, Generated, TooLong, Wrong}
 use Rattle.names.specs.Names.{nameClass, takes, allowed}
@@ -33,10 +33,10 @@ use Rattle.delivery.specs.Said.{onStep, readLines}
 use Rattle.reader.proofs.LineText.{WholeLine, lines-cons}
 use Rattle.reader.proofs.NameText.{IsName}
 use Rattle.reader.proofs.FormText.{wordOf, list-form, list-whole, rule-line-form, rule-whole}
-use Rattle.reader.proofs.NumberedNames.{Declared, all-at, declared-at, numbers-of-names, names-differ, free-twice}
+use Rattle.reader.proofs.NumberedNames.{Declared, declared-at, numbers-of-names, names-differ, free-twice}
 use Rattle.reader.proofs.ClassParts.{chosen, is, upTo, classNames, class-chosen, chosen-none, chosen-every, all-chosen, distinct-chosen, length-chosen, chosen-words, Next, chosen-next, role-parts}
 use Rattle.reader.proofs.LineSteps.{Declares, declare-says, Listed, Adds, rule-says}
-use Rattle.reader.proofs.Progress.{state, sum-app}
+use Rattle.reader.proofs.Progress.{state}
 
 -- reading the text leads from one state to the other, whatever follows
 pub record Reads (st : State) (text : List ℕ) (after : State) : Type 0 where
@@ -98,7 +98,7 @@ not-filled Preference names xs h t = subst (λ l. T (filled Preference (named na
 
 listed : {kind : Kind} {n : ℕ} {names : List (List ℕ)} (xs : List ℕ) → NamesForm kind n names → ListForm (length names) xs → Listed kind names (named names xs)
 listed {kind} {n} {names} xs f h = record {
-  all-allowed = all-map (λ x. T (allowed kind x)) (λ a. getD names a []) xs (all-imp (λ a. a < length names) (λ a. T (allowed kind (getD names a []))) (λ a l. all-at (λ x. T (allowed kind x)) names a [] (f .all-allowed) l) xs (h .0));
+  all-allowed = all-map (λ x. T (allowed kind x)) (λ a. getD names a []) xs (all-imp (λ a. a < length names) (λ a. T (allowed kind (getD names a []))) (λ a l. all-at (λ x. T (allowed kind x)) [] names (f .all-allowed) a l) xs (h .0));
   all-declared = all-map (Declared names) (λ a. getD names a []) xs (all-imp (λ a. a < length names) (λ a. Declared names (getD names a [])) (declared-at names) xs (h .0));
   different = names-differ names (f .different) xs (h .0) (h .1);
 }

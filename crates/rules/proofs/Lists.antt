@@ -1,17 +1,17 @@
 -- How All, Any, the tests and Distinct go through the lists made from lists.
 use Prim.Native.Nat.{ℕ, zero, suc, _+_, _-_, _≤_, _<_}
-use mathlib.Core.Path.{_≡_, refl, sym, ap, subst}
-use mathlib.Core.Logic.{_⊎_, inl, inr, _↔_}
+use mathlib.Core.Path.{_≡_, refl, sym, ap, ap₂, _∙_, subst}
+use mathlib.Core.Logic.{_⊎_, inl, inr, _↔_, _≢_}
 use mathlib.Core.List.{List, [], _∷_, _++_, map}
 use mathlib.Core.Bool.{Bool, true, false}
 use native.Mathlib.Omega.{arith}
 use native.Mathlib.Decide.{ℕ-discrete}
 use native.Mathlib.Nat.{add-sub-cancel-left}
 use lib.Dec.{T, eqb}
-use lib.ListN.{length, take, drop, length-drop}
+use lib.ListN.{length, getD, take, drop, length-drop}
 use lib.Seq.{take-all}
 use borrow.Author.Tests.{eq-eqb, ne-eqb}
-use Rattle.rules.specs.Lists.{All, Any, every, some, empty?, keep, filter, flat, from}
+use Rattle.rules.specs.Lists.{All, Any, Distinct, every, some, empty?, keep, filter, sum, flat, from}
 use Rattle.rules.proofs.Booleans.{decide, T-and, T-and-l, T-and-r, T-or, T-or-out}
 
 module _ {A : Type 0} (P : A → Type 0) where
@@ -242,3 +242,28 @@ none-left {A} l k h = go (drop k l) (length-drop k l)
     go : (rest : List A) → length rest ≡ length l - k → eqb k (length l) ≡ empty? rest
     go [] e = eq-eqb k (length l) (omega arith)
     go (x ∷ rest) e = ne-eqb k (length l) (λ q. omega arith)
+
+pub all-at : {A : Type 0} (P : A → Type 0) (d : A) (xs : List A) → All P xs → (i : ℕ) → i < length xs → P (getD xs i d)
+all-at P d [] h i l = absurd (omega arith)
+all-at P d (x ∷ xs) h zero l = h .0
+all-at P d (x ∷ xs) h (suc i) l = all-at P d xs (h .1) i (omega arith)
+
+-- f tells the entries of l apart
+pub distinct-map : {A B : Type 0} (f : A → B) (P : A → Type 0) → ((a b : A) → P a → P b → f a ≡ f b → a ≡ b) → (l : List A) → All P l → Distinct l → Distinct (map f l)
+distinct-map f P i [] h d = tt
+distinct-map f P i (x ∷ l) h d = (
+  all-map (λ y. f x ≢ y) f l (all-imp (λ a. P a × (x ≢ a)) (λ a. f x ≢ f a) (λ a k e. k .1 (i x a (h .0) (k .0) e)) l (all-both P (λ a. x ≢ a) l (h .1) (d .0))),
+  distinct-map f P i l (h .1) (d .1),
+)
+
+pub sum-app : {A : Type 0} (f : A → ℕ) (xs ys : List A) → sum f (xs ++ ys) ≡ sum f xs + sum f ys
+sum-app f [] ys = omega arith
+sum-app f (x ∷ xs) ys = omega (arith, sum-app f xs ys)
+
+-- following numbers in two parts
+pub from-append : (s c d : ℕ) → from s c ++ from (s + c) d ≡ from s (c + d)
+from-append s zero d = let e : s + 0 ≡ s = omega arith in let f : d ≡ 0 + d = omega arith in ap₂ from e f
+from-append s (suc c) d =
+    let e : s + suc c ≡ suc s + c = omega arith in
+    let f : suc (c + d) ≡ suc c + d = omega arith in
+    ap (λ (l : List ℕ). s ∷ l) (ap (λ (b : ℕ). from (suc s) c ++ from b d) e ∙ from-append (suc s) c d) ∙ ap (from s) f

@@ -1,9 +1,9 @@
 -- The test of a rule store says that the words are the store of a program, and that program is the decoded one.
 use Prim.Native.Nat.{ℕ, zero, suc, _+_, _*_, _≤_}
-use mathlib.Core.Path.{_≡_, refl, sym, ap, _∙_, subst}
+use mathlib.Core.Path.{_≡_, refl, sym, ap, ap₂, _∙_, subst}
 use mathlib.Core.Bool.{Bool, true, false, _&&_, cond}
 use mathlib.Core.Logic.{_↔_}
-use mathlib.Core.List.{List, [], _∷_, _++_}
+use mathlib.Core.List.{List, [], _∷_, _++_, append-assoc, append-nil}
 use native.Mathlib.Omega.{arith}
 use lib.Dec.{T, leb, leb→le, le→leb, eqb→eq}
 use lib.ListN.{length, take, drop, getD, length-append, length-take, take-append-drop}
@@ -55,10 +55,16 @@ rules-encoded kind n used (r ∷ rs) h f =
     let rest = rules-encoded kind n (used + occurrences r) rs (h .1) (omega arith) in
     simp and-iff (here, subst (λ (l : List ℕ). T (rules? kind n (used + occurrences r) (length rs) l)) (sym (past-front r t)) rest)
 
-rules-front : (rs : List (Rule ℕ)) → rulesFrom (length rs) (flat ruleWords rs) ≡ rs
+pub rules-front : (rs : List (Rule ℕ)) (rest : List ℕ) → rulesFrom (length rs) (flat ruleWords rs ++ rest) ≡ rs
 unfolding rulesFrom
-rules-front [] = refl
-rules-front (r ∷ rs) = λ i. rule-front r (flat ruleWords rs) i ∷ (ap (rulesFrom (length rs)) (past-front r (flat ruleWords rs)) ∙ rules-front rs) i
+rules-front [] rest = refl
+rules-front (r ∷ rs) rest =
+    let t = flat ruleWords rs ++ rest in
+    ap (rulesFrom (suc (length rs))) (append-assoc (ruleWords r) (flat ruleWords rs) rest)
+    ∙ ap₂ _∷_ (rule-front r t) (ap (rulesFrom (length rs)) (past-front r t) ∙ rules-front rs rest)
+
+rules-whole : (rs : List (Rule ℕ)) → rulesFrom (length rs) (flat ruleWords rs) ≡ rs
+rules-whole rs = ap (rulesFrom (length rs)) (sym (append-nil (flat ruleWords rs))) ∙ rules-front rs []
 
 pub rules-count : (r : ℕ) (ws : List ℕ) → length (rulesFrom r ws) ≡ r
 unfolding rulesFrom
@@ -164,7 +170,7 @@ decode-encode p f =
     let e : length (p .words) ≡ c = words-count (p .kind) (p .atoms) (p .classes) (p .words) (f .classes-form) in
     decode-header (kindWord (p .kind)) (p .atoms) (p .classes) (length (p .rules)) (p .words ++ t)
     ∙ ap (λ (k : Kind). programFrom k (p .atoms) (p .classes) (length (p .rules)) (p .words ++ t)) (word-kind (p .kind))
-    ∙ λ i. record { kind = p .kind; atoms = p .atoms; classes = p .classes; words = take-at (p .words) t c e i; rules = (ap (rulesFrom (length (p .rules))) (drop-at (p .words) t c e) ∙ rules-front (p .rules)) i }
+    ∙ λ i. record { kind = p .kind; atoms = p .atoms; classes = p .classes; words = take-at (p .words) t c e i; rules = (ap (rulesFrom (length (p .rules))) (drop-at (p .words) t c e) ∙ rules-whole (p .rules)) i }
 
 pub decoded : (ws : List ℕ) → T (store? ws) → StoreOf ws (decode ws)
 unfolding store?

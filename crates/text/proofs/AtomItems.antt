@@ -1,20 +1,15 @@
 -- The names of atoms, one after the other.
-use Prim.Native.Nat.{ℕ, zero, suc, _+_, _-_, _≤_, _<_}
+use Prim.Native.Nat.{ℕ, suc, _+_, _-_, _≤_, _<_}
 use native.Mathlib.Numerals.{add-one}
 use native.Mathlib.Omega.{arith}
 use mathlib.Core.Path.{_≡_, refl, sym, ap, _∙_}
 use mathlib.Core.List.{List, [], _∷_, _++_, append-nil}
 use lib.ListN.{length, getD, drop, drop-of-length-le}
 use lib.Seq.{drop-cons}
-use Rattle.rules.specs.Lists.{All, from}
+use Rattle.rules.specs.Lists.{from}
 use Rattle.kinds.specs.Words.{close-bracket, line-end}
 use Rattle.text.specs.Items.{atomItem, atomItems, atomLine}
 use Rattle.output.proofs.Emitting.{Ahead}
-
-pub all-at : {A : Type 0} (P : A → Type 0) (d : A) (xs : List A) → All P xs → (i : ℕ) → i < length xs → P (getD xs i d)
-all-at P d [] h i l = absurd (omega arith)
-all-at P d (x ∷ xs) h zero l = h .0
-all-at P d (x ∷ xs) h (suc i) l = all-at P d xs (h .1) i (omega arith)
 
 module _ (names : List (List ℕ)) where
   -- one atom: a space, then its name

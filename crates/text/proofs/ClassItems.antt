@@ -12,6 +12,7 @@ use lib.ListN.{length, getD}
 use borrow.Author.Tests.{leb-true, eqb-true}
 use Rattle.rules.specs.Lists.{from}
 use Rattle.rules.specs.Preferred.{varying, fixed, ofClass}
+use Rattle.rules.proofs.Lists.{all-at}
 use Rattle.stores.specs.Program.{RoleForm, roleOf}
 use Rattle.stores.specs.declared.roles.Role.the-variants.{Minimised, Varying, Fixed, Unknown}
 use Rattle.kinds.specs.Words.{open-bracket, close-bracket, line-end, minWord, varyWord, fixWord}
@@ -20,7 +21,6 @@ use Rattle.text.specs.ClassRuns.{ClassWordsOf, upTo}
 use Rattle.output.specs.Emitted.{Emitted, InRange}
 use Rattle.text.specs.Items.{atomItems, atomLine, classItem, minItems, classItems}
 use Rattle.output.proofs.Emitting.{Ahead, Emitting, start, turn, finish, range-here}
-use Rattle.text.proofs.AtomItems.{all-at}
 use Rattle.text.proofs.ClassWords.{up-to-le, up-to-rises, within, stops, class-run}
 
 -- a class up to k, varying or fixed

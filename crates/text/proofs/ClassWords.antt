@@ -10,20 +10,10 @@ use lib.ListN.{length, getD}
 use borrow.Author.Tests.{le-leb, leb-true, leb-false, eq-eqb, ne-eqb}
 use Rattle.rules.specs.Lists.{keep, filter, from}
 use Rattle.rules.specs.Preferred.{ofClass}
+use Rattle.rules.proofs.Lists.{from-append}
 use Rattle.stores.specs.Program.{Rising}
 use Rattle.stores.proofs.RuleTests.{rising-from}
 use Rattle.text.specs.ClassRuns.{upTo, countWhile}
-
--- consecutive numbers in two parts
-from-append : (s a b : ℕ) → from s (a + b) ≡ from s a ++ from (s + a) b
-from-append s zero b =
-    let e : zero + b ≡ b = omega arith in
-    let f : s ≡ s + zero = omega arith in
-    ap (from s) e ∙ ap (λ (k : ℕ). from k b) f
-from-append s (suc a) b =
-    let e : suc a + b ≡ suc (a + b) = omega arith in
-    let f : suc s + a ≡ s + suc a = omega arith in
-    ap (from s) e ∙ ap (λ (l : List ℕ). s ∷ l) (from-append (suc s) a b ∙ ap (λ (k : ℕ). from (suc s) a ++ from k b) f)
 
 filter-append : (p : ℕ → Bool) (xs ys : List ℕ) → filter p (xs ++ ys) ≡ filter p xs ++ filter p ys
 filter-append p [] ys = refl
@@ -56,9 +46,9 @@ module _ (p : ℕ → Bool) where
       let z : 0 + a ≡ a = omega arith in
       let y : a + (b - a) ≡ b = omega arith in
       ap (λ (k : ℕ). filter p (from 0 k)) e
-      ∙ ap (filter p) (from-append 0 a (b - a + (n - b)) ∙ ap (λ (k : ℕ). from 0 a ++ from k (b - a + (n - b))) z)
+      ∙ ap (filter p) (sym (from-append 0 a (b - a + (n - b))) ∙ ap (λ (k : ℕ). from 0 a ++ from k (b - a + (n - b))) z)
       ∙ filter-append p (from 0 a) (from a (b - a + (n - b)))
-      ∙ ap₂ (λ (x : List ℕ) (q : List ℕ). x ++ filter p q) (filter-none 0 a (λ i k m. before i (omega arith))) (from-append a (b - a) (n - b) ∙ ap (λ (k : ℕ). from a (b - a) ++ from k (n - b)) y)
+      ∙ ap₂ (λ (x : List ℕ) (q : List ℕ). x ++ filter p q) (filter-none 0 a (λ i k m. before i (omega arith))) (sym (from-append a (b - a) (n - b)) ∙ ap (λ (k : ℕ). from a (b - a) ++ from k (n - b)) y)
       ∙ filter-append p (from a (b - a)) (from b (n - b))
       ∙ ap₂ (λ (x z : List ℕ). x ++ z) (filter-every a (b - a) (λ i k m. inside i k (omega arith))) (filter-none b (n - b) (λ i k m. after i k (omega arith)))
       ∙ append-nil (from a (b - a))

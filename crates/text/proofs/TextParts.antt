@@ -7,13 +7,14 @@ use mathlib.Core.Bool.{Bool, _&&_, cond}
 use mathlib.Core.List.{List, [], _∷_, _++_, map}
 use lib.Dec.{T, leb}
 use lib.ListN.{length, getD, take, drop, length-drop, length-take}
-use lib.Seq.{take-all, drop-drop}
+use lib.Seq.{drop-drop}
 use borrow.Author.Tests.{eq-eqb, ne-eqb}
 use Rattle.kinds.specs.Limits.{atomLimit, ruleLimit}
 use Rattle.kinds.specs.declared.limits.Kind.{Kind}
 use Rattle.kinds.specs.declared.limits.Kind.the-variants.{Plain, Preference}
 use Rattle.rules.specs.Lists.{from}
 use Rattle.rules.proofs.Booleans.{T-and-l, T-and-r}
+use Rattle.rules.proofs.Lists.{part-rest}
 use Rattle.stores.specs.Program.{Program, ClassesForm}
 use Rattle.stores.specs.RuleStore.{encode, StoreOf, decode, kindOf, wordCount, places, ruleAt, rulesFrom, classes?, rule?, rules?, program?, store?}
 use Rattle.stores.proofs.RuleTests.{rule-law}
@@ -81,10 +82,6 @@ module _ {rules names starts : List ℕ} (h : Sources rules names starts) where
   unfolding decode
   counted = h .count
 
-  -- what the code hands on as the words from p on
-  rest : (p : ℕ) → take (length rules - p) (drop p rules) ≡ drop p rules
-  rest p = take-all (length rules - p) (drop p rules) (omega (arith, length-drop p rules))
-
   module _ (kind : Kind) (k : kindOf (getD rules 0 0) ≡ kind) where
     abbrev words : ℕ
     words = wordCount kind (getD rules 1 0)
@@ -109,14 +106,14 @@ module _ {rules names starts : List ℕ} (h : Sources rules names starts) where
         let c = classes? kind (getD rules 1 0) (getD rules 2 0) (drop 4 rules) in
         let few = leb (getD rules 3 0) (ruleLimit kind) in
         let u : T r = T-and-r c r (T-and-r few (c && r) (T-and-r (leb (getD rules 1 0) (atomLimit kind)) (few && (c && r)) t)) in
-        subst (λ (l : List ℕ). StoredRules (length starts) (getD rules 3 0) l) (drop-drop words 4 rules ∙ sym (rest (4 + words)))
+        subst (λ (l : List ℕ). StoredRules (length starts) (getD rules 3 0) l) (drop-drop words 4 rules ∙ sym (part-rest (4 + words) rules))
         (subst (λ (m : ℕ). StoredRules m (getD rules 3 0) (drop words (drop 4 rules))) (sym counted) (stored-rules kind (getD rules 1 0) 0 (getD rules 3 0) (drop words (drop 4 rules)) u))
 
     parts : (declared : List ℕ) → declarations kind (programOf kind rules) nameList ≡ declared → Ahead (sourceText rules names starts) declared (ruleItems nameList (rulesFrom (getD rules 3 0) ruleWordsFrom))
     unfolding textOf ruleItems
     parts declared e =
         record {
-          is = text-of-kind ∙ ap₂ (λ (d l : List ℕ). d ++ ruleItems nameList (rulesFrom (getD rules 3 0) l)) e (sym (rest (4 + words)));
+          is = text-of-kind ∙ ap₂ (λ (d l : List ℕ). d ++ ruleItems nameList (rulesFrom (getD rules 3 0) l)) e (sym (part-rest (4 + words) rules));
         }
 
   -- a plain program

@@ -1,5 +1,4 @@
 use Rattle.steps.proofs.Roles.{CountingFixed, fixed-begins, fixed-more, fixed-same, fixed-ends}
-use Rattle.text.proofs.AtomItems.{all-at}
 use mathlib.Core.Logic.{⊎-elim}
 use native.Mathlib.Omega.{arith}
 use lib.ListN.{length}
@@ -7,6 +6,7 @@ use Prim.Native.Nat.{_<_, _-_}
 use borrow.Author.Needs.{needs}
 use Rattle.steps.proofs.classes.count_fixed.Statement.{statement}
 use Rattle.steps.proofs.classes.count_fixed.Tie as tie
+use Rattle.rules.proofs.Lists.{all-at}
 
 abbrev Inv-loop : tie.InvT-loop
 Inv-loop atoms classes count₀ i₀ count i = CountingFixed classes atoms i count

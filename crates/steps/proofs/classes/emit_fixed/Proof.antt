@@ -1,12 +1,12 @@
 use Rattle.steps.proofs.StepLaws.{list-next, list-ends}
 use Rattle.steps.specs.StepWords.{each, fixedOf}
 use Rattle.output.proofs.Emitting.{Emitting, start, turn, finish, range-here, length-kept}
-use Rattle.text.proofs.AtomItems.{all-at}
 use lib.ListN.{length, drop}
 use Prim.Native.Nat.{_≤_, _<_, _-_}
 use borrow.Author.Needs.{needs}
 use Rattle.steps.proofs.classes.emit_fixed.Statement.{statement}
 use Rattle.steps.proofs.classes.emit_fixed.Tie as tie
+use Rattle.rules.proofs.Lists.{all-at}
 
 abbrev Inv-loop : tie.InvT-loop
 Inv-loop atoms classes out₀ at next₀ i₀ out next i = (i ≤ length atoms) × Emitting (each (fixedOf classes) atoms) out₀ at (each (fixedOf classes) (drop i atoms)) out next

@@ -1,7 +1,6 @@
 use Rattle.steps.proofs.StepLaws.{list-next, list-ends, raised-is}
 use Rattle.steps.specs.StepWords.{each, raised}
 use Rattle.output.proofs.Emitting.{Emitting, start, turn, finish, range-here, range-renamed, renamed, length-kept}
-use Rattle.text.proofs.AtomItems.{all-at}
 use mathlib.Core.Path.{sym}
 use native.Mathlib.Omega.{arith}
 use lib.ListN.{length, drop}
@@ -9,6 +8,7 @@ use Prim.Native.Nat.{_≤_, _<_, _-_}
 use borrow.Author.Needs.{needs}
 use Rattle.steps.proofs.words.emit_raised.Statement.{statement}
 use Rattle.steps.proofs.words.emit_raised.Tie as tie
+use Rattle.rules.proofs.Lists.{all-at}
 
 abbrev Inv-loop : tie.InvT-loop
 Inv-loop atoms shift out₀ at next₀ i₀ out next i = (i ≤ length atoms) × Emitting (each (raised shift) atoms) out₀ at (each (raised shift) (drop i atoms)) out next

@@ -1,4 +1,4 @@
-use Rattle.text.proofs.AtomItems.{all-at, next-atom, no-atoms}
+use Rattle.text.proofs.AtomItems.{next-atom, no-atoms}
 use Rattle.output.proofs.Emitting.{Emitting, start, turn, finish, range-here, length-kept}
 use Rattle.text.specs.Items.{storedNames, atomItems}
 use lib.ListN.{length, drop}
@@ -7,6 +7,7 @@ use Prim.Native.Nat.{_≤_, _<_, _-_}
 use borrow.Author.Needs.{needs}
 use Rattle.text.proofs.atoms.emit_atoms.Statement.{statement}
 use Rattle.text.proofs.atoms.emit_atoms.Tie as tie
+use Rattle.rules.proofs.Lists.{all-at}
 
 abbrev Inv-loop : tie.InvT-loop
 Inv-loop atoms names starts out₀ at next₀ i₀ out next i = (i ≤ length atoms) × Emitting (atomItems (storedNames names starts) atoms) out₀ at (atomItems (storedNames names starts) (drop i atoms)) out next
