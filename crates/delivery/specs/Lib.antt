@@ -2,3 +2,4 @@
 pub mod Delivered
 pub mod Said
 pub mod Answers
+pub mod ReadsAs

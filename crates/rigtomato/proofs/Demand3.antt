@@ -1,114 +1,50 @@
 -- Demand 3, from the round trips of reader and writer, the pairing and the form of the translation.
 use Prim.Native.Nat.{ℕ, _≤_}
 use mathlib.Core.Path.{_≡_, refl, sym, ap, ap₂, subst, _∙_}
-use mathlib.Core.Bool.{Bool, true, false, cond, _&&_}
+use mathlib.Core.Bool.{Bool, true, false, cond}
 use mathlib.Core.List.{List}
-use native.Mathlib.Omega.{arith}
 use lib.Dec.{T, leb, leb→le}
-use lib.ListN.{length, take, drop}
-use lib.Seq.{take-append-seam}
-use borrow.Author.Tests.{le-leb}
+use lib.ListN.{length, take}
 use Rattle.kinds.specs.declared.limits.Kind.{Kind}
 use Rattle.kinds.specs.declared.limits.Kind.the-variants.{Plain, Preference}
 use Rattle.rules.specs.Lists.{sum}
 use Rattle.rules.specs.Rules.{occurrences}
-use Rattle.rules.proofs.Booleans.{T-and-l, T-and-r, is-true}
 use Rattle.stores.specs.Program.{Program, Form}
-use Rattle.stores.specs.RuleStore.{encode, decode, ruleStore, isOf}
+use Rattle.stores.specs.RuleStore.{encode, decode, isOf}
 use Rattle.name_store.specs.NameStore.{encodeNames, names?, NamesForm}
-use Rattle.stores.proofs.RuleStores.{decode-encode, kind-answered}
-use Rattle.name_store.proofs.NameStores.{decode-names, names-law}
+use Rattle.stores.proofs.RuleStores.{decode-encode}
 use Rattle.writer.specs.declared.Written.{Written}
 use Rattle.writer.specs.declared.Written.the-variants.{Text, Refused as NotWritten}
 use Rattle.text.specs.Text.{textOf}
 use Rattle.output.specs.Emitted.{over}
 use Rattle.writer.specs.Answers.{fitted}
 use Rattle.text.proofs.TextLength.{text-fits}
-use Rattle.delivery.specs.declared.answers.Read.{Read}
-use Rattle.delivery.specs.declared.answers.Read.the-variants.{Accepted, Refused as NotRead}
 use Rattle.lines.specs.Faults.{State}
-use Rattle.delivery.specs.Said.{Said, accepted, refused, said, programOf}
+use Rattle.delivery.specs.Said.{accepted, said, programOf}
 use Rattle.reader.proofs.RoundTrip.{accepted-form, write-read}
-use Rattle.delivery.specs.Answers.{readAnswer, readRules, readNames, ruleWordsOf, nameBytesOf, answerOf}
+use Rattle.delivery.specs.Answers.{readRules, readNames}
+use Rattle.delivery.proofs.AcceptedTexts.{Filled, never, filled, reads-as, front}
 use Rattle.pairing.specs.Translated.{translated, translatedNames}
 use Rattle.pairing.proofs.Paired.{paired, only-one}
 use Rattle.pairing.proofs.Sums.{atoms-sum, rules-sum, occurrences-sum}
 use Rattle.pairing.proofs.PlainForm.{plain-form}
 use Rattle.pairing.proofs.PlainNames.{plain-names, file-names}
 use Rattle.translation.specs.Answers.{translationText, storesTranslation, translateAnswer, translateOutput}
-use Rattle.rigtomato.specs.Demand3.{Handed, delivered, ReadsAs, Demand3, Demand3Holds}
-
-pub never : {A : Type 0} → _≡_ {A = ℕ} 0 1 → A
-never z = absurd (omega arith)
-
--- a text that was accepted
-
-pub record Filled (text : List ℕ) (rules names : ℕ) (words bytes : ℕ) : Type 0 where
-  pub file : State
-  pub lines : said text ≡ accepted file
-  pub words-are : words ≡ length (ruleWordsOf file)
-  pub bytes-are : bytes ≡ length (nameBytesOf file)
-  pub rules-room : length (ruleWordsOf file) ≤ rules
-  pub names-room : length (nameBytesOf file) ≤ names
-
-pub filled : (text : List ℕ) (rules names words bytes : ℕ) → readAnswer text rules names ≡ Accepted words bytes → Filled text rules names words bytes
-unfolding readAnswer
-filled text rules names words bytes e = by-said (said text) refl e
-  where
-    by-fit : (st : State) → said text ≡ accepted st → (b : Bool) → leb (length (ruleWordsOf st)) rules && leb (length (nameBytesOf st)) names ≡ b
-        → _≡_ {A = Read} (cond b (Accepted (length (ruleWordsOf st)) (length (nameBytesOf st))) (NotRead Rattle.kinds.specs.declared.refusals.Refusal.the-variants.Output 0)) (Accepted words bytes)
-        → Filled text rules names words bytes
-    by-fit st q true f r =
-        let t : T (leb (length (ruleWordsOf st)) rules && leb (length (nameBytesOf st)) names) = subst T (sym f) tt in
-        record {
-          file = st;
-          lines = q;
-          words-are = let z : length (ruleWordsOf st) ≡ words = cc in sym z;
-          bytes-are = let z : length (nameBytesOf st) ≡ bytes = cc in sym z;
-          rules-room = leb→le _ _ (T-and-l (leb (length (ruleWordsOf st)) rules) (leb (length (nameBytesOf st)) names) t);
-          names-room = leb→le _ _ (T-and-r (leb (length (ruleWordsOf st)) rules) (leb (length (nameBytesOf st)) names) t);
-        }
-    by-fit st q false f r = never (cc)
-
-    by-said : (s : Said) → said text ≡ s → answerOf s rules names ≡ Accepted words bytes → Filled text rules names words bytes
-    by-said (accepted st) q r = by-fit st q (leb (length (ruleWordsOf st)) rules && leb (length (nameBytesOf st)) names) refl r
-    by-said (refused f k) q r = never (cc)
-
--- an accepted text, with outputs that are long enough
-pub reads-as : (text : List ℕ) (st : State) → said text ≡ accepted st → ReadsAs text st
-unfolding readAnswer readRules readNames
-reads-as text st e = record {
-  lines = e;
-  answer = λ rules names r n. rw (e, le-leb _ _ r, le-leb _ _ n);
-  rules-filled = λ rules names r n. rw (e, le-leb _ _ r, le-leb _ _ n);
-  names-filled = λ rules names r n. rw (e, le-leb _ _ r, le-leb _ _ n);
-}
-
-pub front : (w before : List ℕ) → take (length w) (over w before) ≡ w
-front w before = take-append-seam w (drop (length w) before)
+use Rattle.translation.proofs.ProgramStores.{answered, named, stores-text}
+use Rattle.rigtomato.specs.Demand3.{Handed, delivered, Demand3, Demand3Holds}
 
 -- the translator on the stores of a program of the form
 
 module _ (p : Program) (form : Form p) (names : List (List ℕ)) (fit : NamesForm (p .kind) (p .atoms) names) where
-  answered : ruleStore (encode p) ≡ Rattle.stores.specs.declared.rule_store.RuleStore.the-variants.Of (p .kind)
-  answered = kind-answered (encode p) p (record { form = form; words = refl })
-
   -- any answer but a refusal is for a preference program, and gives its text
   pub record Translated (room size : ℕ) : Type 0 where
     pub kind : p .kind ≡ Preference
     pub size-is : size ≡ length (translationText p names)
     pub room-for : length (translationText p names) ≤ room
 
-  pub named : p .kind ≡ Preference → names? Preference (p .atoms) (encodeNames names) ≡ true
-  named k = is-true _ (names-law Preference (p .atoms) (encodeNames names) .1 (names, record { form = subst (λ (c : Kind). NamesForm c (p .atoms) names) k fit; bytes = refl }))
-
-  pub stores-text : storesTranslation (encode p) (encodeNames names) ≡ translationText p names
-  unfolding storesTranslation
-  stores-text = rw (decode-encode p form, decode-names fit)
-
   translated-only : (room size : ℕ) → translateAnswer (encode p) (encodeNames names) room ≡ Text size → Translated room size
   unfolding translateAnswer
-  translated-only room size e = by-kind (p .kind) refl (rw answered at e)
+  translated-only room size e = by-kind (p .kind) refl (rw (answered p form) at e)
     where
       rest : Written
       rest = cond (names? Preference (decode (encode p) .atoms) (encodeNames names)) (fitted (storesTranslation (encode p) (encodeNames names)) room) (NotWritten Rattle.kinds.specs.declared.refusals.Refusal.the-variants.NameStore)
@@ -120,11 +56,11 @@ module _ (p : Program) (form : Form p) (names : List (List ℕ)) (fit : NamesFor
 
       by-kind : (k : Kind) → p .kind ≡ k → _≡_ {A = Written} (cond (isOf Preference (Rattle.stores.specs.declared.rule_store.RuleStore.the-variants.Of k)) rest (NotWritten Rattle.kinds.specs.declared.refusals.Refusal.the-variants.RuleStore)) (Text size) → Translated room size
       by-kind Plain q r = never (cc)
-      by-kind Preference q r = by-fit (leb (length (translationText p names)) room) refl q (rw (decode-encode p form, named q, stores-text) at r)
+      by-kind Preference q r = by-fit (leb (length (translationText p names)) room) refl q (rw (decode-encode p form, named p form names fit q, stores-text p form names fit) at r)
 
   output-is : (out : List ℕ) (size : ℕ) → translateAnswer (encode p) (encodeNames names) (length out) ≡ Text size → translateOutput (encode p) (encodeNames names) out ≡ over (translationText p names) out
   unfolding translateOutput
-  output-is out size e = rw (e, stores-text)
+  output-is out size e = rw (e, stores-text p form names fit)
 
 module _ (text rules names out : List ℕ) (h : Handed text rules names out) where
   read-as : Filled text (length rules) (length names) (h .words) (h .bytes)

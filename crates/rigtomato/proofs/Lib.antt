@@ -1,4 +1,3 @@
 -- Demand 3 and the marked cases, proved.
 pub mod Demand3
 pub mod Sheet
-pub mod ProgramTexts

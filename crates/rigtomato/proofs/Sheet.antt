@@ -14,7 +14,7 @@ use Rattle.pairing.specs.Translated.{translatedRules}
 use Rattle.walks.specs.Walk.{preferredWalk, candidates, search, capped, preferredNeeds, preferredVerdict, firstState, cappedNext, nextVerdict}
 use Rattle.printing.specs.Printed.{digits, stateLine, totalLine}
 use Rattle.listing.specs.Listed.{listing, wholeListing, statesOf}
-use Rattle.rigtomato.specs.Programs.{printed, statesPrinted}
+use Rattle.programs.specs.Programs.{printed, statesPrinted}
 use Rattle.rigtomato.specs.Sheet.{fileA, oneClass, lampFirst, darkFixed, nothing, emptyRule, oneRule, listingA, Sheet}
 
 pub sheet : Sheet

@@ -1,5 +1,5 @@
 -- Demand 3 (document 01, "In demand 3, accepted means .."), from the bytes of a text.
-use Prim.Native.Nat.{ℕ, _^_, _≤_, _<_}
+use Prim.Native.Nat.{ℕ, _^_, _<_}
 use mathlib.Core.Path.{_≡_}
 use mathlib.Core.Logic.{_↔_}
 use mathlib.Core.List.{List}
@@ -11,11 +11,11 @@ use Rattle.rules.specs.Rules.{occurrences}
 use Rattle.rules.specs.Stable.{Stable}
 use Rattle.rules.specs.Preferred.{Preferred}
 use Rattle.writer.specs.declared.Written.the-variants.{Text}
-use Rattle.output.specs.Emitted.{over}
+use Rattle.delivery.specs.ReadsAs.{ReadsAs}
 use Rattle.delivery.specs.declared.answers.Read.the-variants.{Accepted}
 use Rattle.lines.specs.Faults.{State}
-use Rattle.delivery.specs.Said.{said, accepted, programOf}
-use Rattle.delivery.specs.Answers.{readAnswer, readRules, readNames, ruleWordsOf, nameBytesOf}
+use Rattle.delivery.specs.Said.{accepted, programOf}
+use Rattle.delivery.specs.Answers.{readAnswer, readRules, readNames}
 use Rattle.pairing.specs.Translated.{translated, translatedNames, numbers, atomsSum, rulesSum, occurrencesSum}
 use Rattle.translation.specs.Answers.{translationText, translateAnswer, translateOutput}
 
@@ -31,16 +31,6 @@ pub record Handed (text rules names out : List ℕ) : Type 0 where
 abbrev pub delivered : {text rules names out : List ℕ} → Handed text rules names out → List ℕ
 delivered {text} {rules} {names} {out} h =
     take (h .size) (translateOutput (take (h .words) (readRules text rules names)) (take (h .bytes) (readNames text rules names)) out)
-
--- Reading a text is accepted with any outputs that are long enough, and fills both from the text's lines.
-pub record ReadsAs (text : List ℕ) (st : State) : Type 0 where
-  pub lines : said text ≡ accepted st
-  pub answer : (rules names : List ℕ) → length (ruleWordsOf st) ≤ length rules → length (nameBytesOf st) ≤ length names
-      → readAnswer text (length rules) (length names) ≡ Accepted (length (ruleWordsOf st)) (length (nameBytesOf st))
-  pub rules-filled : (rules names : List ℕ) → length (ruleWordsOf st) ≤ length rules → length (nameBytesOf st) ≤ length names
-      → readRules text rules names ≡ over (ruleWordsOf st) rules
-  pub names-filled : (rules names : List ℕ) → length (ruleWordsOf st) ≤ length rules → length (nameBytesOf st) ≤ length names
-      → readNames text rules names ≡ over (nameBytesOf st) names
 
 pub record Demand3 (text plain-text : List ℕ) : Type 0 where
   -- the lines of the two texts

@@ -1,5 +1,4 @@
--- Demand 3, the marked cases, the fields of the C interface, and what the two programs print.
+-- Demand 3, the marked cases, and the fields of the C interface.
 pub mod Demand3
 pub mod Fields
 pub mod Sheet
-pub mod Programs

@@ -12,7 +12,7 @@ use Rattle.walks.specs.declared.answers.Verdict.{Verdict}
 use Rattle.walks.specs.declared.answers.Verdict.the-variants.{Yes, Broken, Beaten, Spent, Refused}
 use Rattle.walks.specs.Walk.{preferredVerdict}
 use Rattle.pairing.specs.Translated.{translated}
-use Rattle.rigtomato.specs.Programs.{statesPrinted}
+use Rattle.programs.specs.Programs.{statesPrinted}
 
 -- file A
 unfoldable pub fileA : List ℕ

@@ -1,7 +1,6 @@
 // The public entry points (document 01). None asks anything of its caller.
 pub mod capi;
 pub mod fields;
-mod programs;
 
 ghost use mathlib.Core.Path.{_≡_};
 ghost use lib.ListN.{length};
@@ -11,7 +10,7 @@ ghost use Rattle.delivery.specs.Answers.{readAnswer, readRules, readNames};
 ghost use Rattle.translation.specs.Answers.{translateAnswer, translateOutput};
 ghost use Rattle.walks.specs.Answers.{preferredAnswer, stableAnswer, nextAnswer};
 ghost use Rattle.printing.specs.Printed.{shown};
-ghost use Rattle.rigtomato.specs.Programs.{translatePrinted, statesPrinted};
+ghost use Rattle.programs.specs.Programs.{translatePrinted, statesPrinted};
 
 // A text of either kind into its two stores.
 pub fn read(text: &[u8], rules: &mut [u16], names: &mut [u8]) -> delivery::answers::Read
@@ -64,7 +63,7 @@ pub fn translate_text(text: &[u8], out: &mut [u8]) -> usize
     ensures size { λ r. ⌜ r ≡ length (shown (translatePrinted (now (text .entry))) (now (out .entry))) ⌝ }
     ensures output { λ r. ⌜ now (out .exit) ≡ over (shown (translatePrinted (now (text .entry))) (now (out .entry))) (now (out .entry)) ⌝ }
 {
-    programs::translate_text(text, out)
+    programs::texts::translate_text(text, out)
 }
 
 // What the lister prints on a text; nothing where the output has no room for it.
@@ -72,5 +71,5 @@ pub fn states_text(text: &[u8], out: &mut [u8]) -> usize
     ensures size { λ r. ⌜ r ≡ length (shown (statesPrinted (now (text .entry))) (now (out .entry))) ⌝ }
     ensures output { λ r. ⌜ now (out .exit) ≡ over (shown (statesPrinted (now (text .entry))) (now (out .entry))) (now (out .entry)) ⌝ }
 {
-    programs::states_text(text, out)
+    programs::texts::states_text(text, out)
 }

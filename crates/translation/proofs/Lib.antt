@@ -1,2 +1,3 @@
 -- The laws of the translator's answer.
 pub mod Translating
+pub mod ProgramStores

@@ -1,11 +1,11 @@
-use Rattle.rigtomato.proofs.ProgramTexts.{rules-part, names-part, refused-text, accepted-text, listed-stores}
+use Rattle.programs.proofs.ProgramTexts.{rules-part, names-part, refused-text, accepted-text, listed-stores}
 use Rattle.printing.proofs.PrintedLines.{shown-renamed}
-use Rattle.rigtomato.specs.Programs.{statesPrinted}
+use Rattle.programs.specs.Programs.{statesPrinted}
 use Rattle.listing.specs.StoresPrinted.{storesStates}
 use native.Mathlib.Omega.{arith}
 use borrow.Author.Needs.{needs}
-use Rattle.rigtomato.proofs.programs.states_by.Statement.{statement}
-use Rattle.rigtomato.proofs.programs.states_by.Tie as tie
+use Rattle.programs.proofs.texts.states_by.Statement.{statement}
+use Rattle.programs.proofs.texts.states_by.Tie as tie
 
 read-requires : tie.Need-read-requires
 read-requires c κs = search needs

@@ -1,10 +1,10 @@
-use Rattle.rigtomato.proofs.ProgramTexts.{rules-part, names-part, refused-text, accepted-text, translated-stores}
+use Rattle.programs.proofs.ProgramTexts.{rules-part, names-part, refused-text, accepted-text, translated-stores}
 use Rattle.printing.proofs.PrintedLines.{shown-renamed}
-use Rattle.rigtomato.specs.Programs.{translatePrinted, storesTranslated}
+use Rattle.programs.specs.Programs.{translatePrinted, storesTranslated}
 use native.Mathlib.Omega.{arith}
 use borrow.Author.Needs.{needs}
-use Rattle.rigtomato.proofs.programs.translate_by.Statement.{statement}
-use Rattle.rigtomato.proofs.programs.translate_by.Tie as tie
+use Rattle.programs.proofs.texts.translate_by.Statement.{statement}
+use Rattle.programs.proofs.texts.translate_by.Tie as tie
 
 read-requires : tie.Need-read-requires
 read-requires c κs = search needs

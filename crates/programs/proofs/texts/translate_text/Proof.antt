@@ -1,9 +1,9 @@
-use Rattle.rigtomato.proofs.ProgramTexts.{long-text}
+use Rattle.programs.proofs.ProgramTexts.{long-text}
 use Rattle.printing.proofs.PrintedLines.{shown-renamed}
-use Rattle.rigtomato.specs.Programs.{translatePrinted}
+use Rattle.programs.specs.Programs.{translatePrinted}
 use borrow.Author.Needs.{needs}
-use Rattle.rigtomato.proofs.programs.translate_text.Statement.{statement}
-use Rattle.rigtomato.proofs.programs.translate_text.Tie as tie
+use Rattle.programs.proofs.texts.translate_text.Statement.{statement}
+use Rattle.programs.proofs.texts.translate_text.Tie as tie
 
 show-refused-requires : tie.Need-show-refused-requires
 show-refused-requires c κs = search needs

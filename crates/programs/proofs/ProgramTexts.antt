@@ -20,7 +20,7 @@ use Rattle.stores.specs.RuleStore.{encode, decode, ruleWords, ruleStore, isOf, 
 use Rattle.stores.specs.declared.rule_store.RuleStore.the-variants.{Of}
 use Rattle.names.specs.Names.{allowed}
 use Rattle.name_store.specs.NameStore.{encodeNames, names?, NamesForm}
-use Rattle.stores.proofs.RuleStores.{decode-encode, kind-answered, words-count, rules-length}
+use Rattle.stores.proofs.RuleStores.{decode-encode, words-count, rules-length}
 use Rattle.name_store.proofs.NameStores.{allowed-short, decode-names, encoded-length}
 use Rattle.writer.specs.declared.Written.{Written}
 use Rattle.writer.specs.declared.Written.the-variants.{Text, Refused as NotWritten}
@@ -36,9 +36,10 @@ use Rattle.reader.proofs.RoundTrip.{accepted-form}
 use Rattle.translation.specs.Answers.{translationText, storesTranslation, translateAnswer, translateOutput}
 use Rattle.printing.specs.Printed.{refusedText}
 use Rattle.listing.specs.Listed.{wholeListing, sized, statesOf}
-use Rattle.rigtomato.specs.Programs.{ofKind, onSaid, printed, translatePrinted, statesPrinted, writtenPrinted, storesTranslated}
+use Rattle.programs.specs.Programs.{ofKind, onSaid, printed, translatePrinted, statesPrinted, writtenPrinted, storesTranslated}
 use Rattle.listing.specs.StoresPrinted.{storesStates}
-use Rattle.rigtomato.proofs.Demand3.{Filled, never, filled, reads-as, front, named, stores-text}
+use Rattle.delivery.proofs.AcceptedTexts.{Filled, never, filled, reads-as, front}
+use Rattle.translation.proofs.ProgramStores.{answered, named, stores-text}
 use Rattle.printing.proofs.PrintedLines.{refused-short}
 
 -- the longest stores
@@ -114,12 +115,9 @@ translation-refused rules names e room r = sym (ap (λ (w : Written). writtenPri
 -- on the stores of a program of the form
 
 module _ (p : Program) (names : List (List ℕ)) (form : Form p) (fit : NamesForm (p .kind) (p .atoms) names) where
-  answered : ruleStore (encode p) ≡ Of (p .kind)
-  answered = kind-answered (encode p) p (record { form = form; words = refl })
-
   pub translated-stores : storesTranslated (encode p) (encodeNames names) ≡ ofKind (p .kind) (sized (translationText p names))
   unfolding storesTranslated translateAnswer
-  translated-stores = rw (answered, stores-text p form names fit, decode-encode p form) (by-kind (p .kind) refl)
+  translated-stores = rw (answered p form, stores-text p form names fit, decode-encode p form) (by-kind (p .kind) refl)
     where
       by-room : (b : Bool) → writtenPrinted (cond b (Text (length (translationText p names))) (NotWritten Output)) (translationText p names) ≡ cond b (translationText p names) (refusedText Output 0)
       by-room true = refl
@@ -133,7 +131,7 @@ module _ (p : Program) (names : List (List ℕ)) (form : Form p) (fit : NamesFor
 
   pub listed-stores : storesStates (encode p) (encodeNames names) ≡ ofKind (p .kind) (statesOf p names)
   unfolding storesStates
-  listed-stores = rw (answered, decode-encode p form, decode-names fit) (by-kind (p .kind) refl)
+  listed-stores = rw (answered p form, decode-encode p form, decode-names fit) (by-kind (p .kind) refl)
     where
       by-kind : (k : Kind) → p .kind ≡ k
           → cond (isOf Preference (Of k)) (cond (names? Preference (p .atoms) (encodeNames names)) (statesOf p names) (refusedText NameStore 0)) (refusedText RuleStore 0) ≡ ofKind k (statesOf p names)

@@ -1,10 +1,10 @@
-use Rattle.rigtomato.proofs.ProgramTexts.{translation-refused, translation-fits, translation-is}
+use Rattle.programs.proofs.ProgramTexts.{translation-refused, translation-fits, translation-is}
 use Rattle.printing.proofs.PrintedLines.{shown-renamed}
 use mathlib.Core.Path.{refl}
 use native.Mathlib.Omega.{arith}
 use borrow.Author.Needs.{needs}
-use Rattle.rigtomato.proofs.programs.show_translation.Statement.{statement}
-use Rattle.rigtomato.proofs.programs.show_translation.Tie as tie
+use Rattle.programs.proofs.texts.show_translation.Statement.{statement}
+use Rattle.programs.proofs.texts.show_translation.Tie as tie
 
 slice-aggregate-translate : tie.Need-slice-aggregate-translate
 slice-aggregate-translate c = search needs

@@ -14,7 +14,7 @@ ghost use lib.ListN.{length};
 ghost use Rattle.kinds.specs.Limits.{streamLimit};
 ghost use Rattle.numbering.specs.Scratch.{scratchWords, scratchBytes};
 ghost use Rattle.printing.specs.Printed.{Shown};
-ghost use Rattle.rigtomato.specs.Programs.{translatePrinted, statesPrinted, storesTranslated};
+ghost use Rattle.programs.specs.Programs.{translatePrinted, statesPrinted, storesTranslated};
 
 // What the translator prints on two stores.
 fn show_translation(rules: &[u16], names: &[u8], out: &mut [u8]) -> usize

@@ -1,0 +1,2 @@
+-- The laws of the programs' texts.
+pub mod ProgramTexts

@@ -1,0 +1,2 @@
+-- What the two programs print on a text.
+pub mod Programs
