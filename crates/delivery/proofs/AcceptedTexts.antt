@@ -13,7 +13,7 @@ use Rattle.output.specs.Emitted.{over}
 use Rattle.delivery.specs.declared.answers.Read.{Read}
 use Rattle.delivery.specs.declared.answers.Read.the-variants.{Accepted, Refused as NotRead}
 use Rattle.lines.specs.Faults.{State}
-use Rattle.delivery.specs.Said.{Said, accepted, refused, said}
+use Rattle.lines.specs.Said.{Said, accepted, refused, said}
 use Rattle.delivery.specs.Answers.{readAnswer, readRules, readNames, ruleWordsOf, nameBytesOf, answerOf}
 use Rattle.delivery.specs.ReadsAs.{ReadsAs}
 

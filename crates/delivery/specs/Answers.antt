@@ -11,7 +11,7 @@ use Rattle.output.specs.Emitted.{over}
 use Rattle.delivery.specs.declared.answers.Read.{Read}
 use Rattle.delivery.specs.declared.answers.Read.the-variants.{Accepted, Refused}
 use Rattle.lines.specs.Faults.{State}
-use Rattle.delivery.specs.Said.{Said, accepted, refused, said, programOf}
+use Rattle.lines.specs.Said.{Said, accepted, refused, said, programOf}
 
 -- the two stores of the lines
 abbrev pub ruleWordsOf : State → List ℕ

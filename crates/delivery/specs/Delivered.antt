@@ -9,7 +9,7 @@ use Rattle.output.specs.Emitted.{over}
 use Rattle.delivery.specs.declared.answers.Read.{Read}
 use Rattle.gathering.specs.declared.gathered.Gathered.{Gathered}
 use Rattle.lines.specs.Faults.{State}
-use Rattle.delivery.specs.Said.{accepted}
+use Rattle.lines.specs.Said.{accepted}
 use Rattle.delivery.specs.Answers.{ruleWordsOf, nameBytesOf, answerOf, writtenIf}
 
 abbrev pub headerWords : Kind → Gathered → List ℕ

@@ -1,5 +1,4 @@
 -- What a text says, and the reader's answer.
 pub mod Delivered
-pub mod Said
 pub mod Answers
 pub mod ReadsAs

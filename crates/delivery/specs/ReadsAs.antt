@@ -6,7 +6,7 @@ use lib.ListN.{length}
 use Rattle.output.specs.Emitted.{over}
 use Rattle.lines.specs.Faults.{State}
 use Rattle.delivery.specs.declared.answers.Read.the-variants.{Accepted}
-use Rattle.delivery.specs.Said.{accepted, said}
+use Rattle.lines.specs.Said.{accepted, said}
 use Rattle.delivery.specs.Answers.{readAnswer, readRules, readNames, ruleWordsOf, nameBytesOf}
 
 -- Reading a text is accepted with any outputs that are long enough, and fills both from the text's lines.

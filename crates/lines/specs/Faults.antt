@@ -1,10 +1,11 @@
 -- The faults of one line, the lowest number first (document 01, "Who can be turned back").
-use Prim.Native.Nat.{ℕ, suc, _+_}
+use Prim.Native.Nat.{ℕ, suc}
 use mathlib.Core.Bool.{Bool, true, false, cond, not, _&&_, _||_}
 use mathlib.Core.List.{List, [], _∷_, _++_, map}
 use lib.Dec.{leb}
 use lib.ListN.{length, replicate}
-use Rattle.kinds.specs.Limits.{atomLimit, ruleLimit, occurrenceLimit, classLimit}
+use Rattle.kinds.specs.Limits.{classLimit, within}
+use Rattle.kinds.specs.declared.limits.Counts.{Counts}
 use Rattle.kinds.specs.declared.limits.Kind.{Kind}
 use Rattle.kinds.specs.declared.limits.Kind.the-variants.{Plain, Preference}
 use Rattle.kinds.specs.declared.refusals.Refusal.{Refusal}
@@ -26,6 +27,10 @@ pub record State : Type 0 where
   pub words : List ℕ
   pub names : List (List ℕ)
   pub program-rules : List (Rule ℕ)
+
+-- their counts
+abbrev pub countsOf : State → Counts
+countsOf st = record { atoms = length (st .names); rules = length (st .program-rules); occurrences = sum occurrences (st .program-rules) }
 
 -- what a line gives: the state after it, or its lowest fault
 pub data Step : Type 0 where
@@ -115,7 +120,7 @@ declare st w xs =
     first (not (expects (st .kind) (st .stage) w)) BrokenForm
     (first (some (refusedName (st .kind)) xs) Name
     (first (twice (st .names) xs) DeclaredTwice
-    (first (not (leb (length (st .names) + length xs) (atomLimit (st .kind)) && leb (classesAfter w (st .classes)) classLimit)) Limit
+    (first (not (within (st .kind) (countsOf (declared st w xs)) && leb (classesAfter w (st .classes)) classLimit)) Limit
     (next (declared st w xs)))))
 
 abbrev pub numbered : List (List ℕ) → List (List ℕ) → List (List ℕ) → List (List ℕ) → Rule ℕ
@@ -143,11 +148,7 @@ addRule st hs bs ns =
     (first (anyOf (some (refusedName (st .kind))) hs bs ns) Name
     (first (anyOf (some (undeclared (st .names))) hs bs ns) Undeclared
     (first (anyOf (twice []) hs bs ns) TwiceInList
-    (first
-    (not
-    (leb (suc (length (st .program-rules))) (ruleLimit (st .kind))
-    && leb (sum occurrences (st .program-rules) + (length hs + length bs + length ns)) (occurrenceLimit (st .kind))))
-    Limit
+    (first (not (within (st .kind) (countsOf (with-rule st (numbered (st .names) hs bs ns))))) Limit
     (first (filled (st .kind) ns) FilledNot (next (with-rule st (numbered (st .names) hs bs ns))))))))
 
 abbrev pub stepForm : State → Form → Step

@@ -30,7 +30,7 @@ use Rattle.delivery.specs.declared.answers.Read.{Read}
 use Rattle.delivery.specs.declared.answers.Read.the-variants.{Accepted, Refused as NotRead}
 use Rattle.numbering.specs.Scratch.{scratchWords, scratchBytes}
 use Rattle.lines.specs.Faults.{State}
-use Rattle.delivery.specs.Said.{Said, accepted, refused, said, programOf}
+use Rattle.lines.specs.Said.{Said, accepted, refused, said, programOf}
 use Rattle.delivery.specs.Answers.{readAnswer, readRules, readNames, ruleWordsOf, nameBytesOf, answerOf}
 use Rattle.reader.proofs.RoundTrip.{accepted-form}
 use Rattle.translation.specs.Answers.{translationText, storesTranslation, translateAnswer, translateOutput}

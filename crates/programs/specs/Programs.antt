@@ -11,7 +11,7 @@ use Rattle.kinds.specs.declared.refusals.Refusal.the-variants.{TextTooLong, Rul
 use Rattle.stores.specs.Program.{Program}
 use Rattle.writer.specs.declared.Written.{Written}
 use Rattle.writer.specs.declared.Written.the-variants.{Text, Refused}
-use Rattle.delivery.specs.Said.{Said, accepted, refused, said, programOf}
+use Rattle.lines.specs.Said.{Said, accepted, refused, said, programOf}
 use Rattle.translation.specs.Answers.{translationText, storesTranslation, translateAnswer}
 use Rattle.printing.specs.Printed.{refusedText}
 use Rattle.listing.specs.Listed.{sized, statesOf}

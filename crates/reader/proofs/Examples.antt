@@ -12,7 +12,7 @@ use Rattle.lines.specs.Lines.{lines, linesFrom, lineLength}
 use Rattle.lines.specs.Items.{items, itemsFrom, run, span}
 use Rattle.lines.specs.Forms.{cutNames, cutList, declaredForm, ruleForm, formOf}
 use Rattle.lines.specs.Faults.{State, twice, numberOf, declare, addRule}
-use Rattle.delivery.specs.Said.{accepted, refused, start, readLines, said, programOf}
+use Rattle.lines.specs.Said.{accepted, refused, start, readLines, said, programOf}
 
 fileA : List ℕ
 fileA = 40 ∷ 109 ∷ 105 ∷ 110 ∷ 32 ∷ 115 ∷ 101 ∷ 110 ∷ 115 ∷ 111 ∷ 114 ∷ 41 ∷ 10 ∷ 40 ∷ 109 ∷ 105 ∷ 110 ∷ 32 ∷ 108 ∷ 97 ∷ 109 ∷ 112 ∷ 41 ∷ 10 ∷ 40 ∷ 118 ∷ 97 ∷ 114 ∷ 121 ∷ 32 ∷ 100 ∷ 97 ∷ 114 ∷ 107 ∷ 41 ∷ 10 ∷ 40 ∷ 102 ∷ 105 ∷ 120 ∷ 41 ∷ 10 ∷ 40 ∷ 114 ∷ 117 ∷ 108 ∷ 101 ∷ 32 ∷ 40 ∷ 104 ∷ 101 ∷ 97 ∷ 100 ∷ 32 ∷ 115 ∷ 101 ∷ 110 ∷ 115 ∷ 111 ∷ 114 ∷ 32 ∷ 108 ∷ 97 ∷ 109 ∷ 112 ∷ 41 ∷ 32 ∷ 40 ∷ 98 ∷ 111 ∷ 100 ∷ 121 ∷ 41 ∷ 32 ∷ 40 ∷ 110 ∷ 111 ∷ 116 ∷ 41 ∷ 41 ∷ 10 ∷ 40 ∷ 114 ∷ 117 ∷ 108 ∷ 101 ∷ 32 ∷ 40 ∷ 104 ∷ 101 ∷ 97 ∷ 100 ∷ 32 ∷ 100 ∷ 97 ∷ 114 ∷ 107 ∷ 41 ∷ 32 ∷ 40 ∷ 98 ∷ 111 ∷ 100 ∷ 121 ∷ 32 ∷ 108 ∷ 97 ∷ 109 ∷ 112 ∷ 41 ∷ 32 ∷ 40 ∷ 110 ∷ 111 ∷ 116 ∷ 41 ∷ 41 ∷ 10 ∷ []

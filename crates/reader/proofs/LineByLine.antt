@@ -20,7 +20,7 @@ use Rattle.reader.specs.declared.reading.Gather.the-variants.{Whole, Ref
 use Rattle.lines.specs.Lines.{lineLength, linesFrom, lines}
 use Rattle.lines.specs.Forms.{formOf}
 use Rattle.lines.specs.Faults.{State, ruling?, stepForm}
-use Rattle.delivery.specs.Said.{Said, accepted, refused, onStep, readLines, start}
+use Rattle.lines.specs.Said.{Said, accepted, refused, onStep, readLines, start}
 use Rattle.gathering.specs.Gathered.{stateOf, Held, LineSays, LineIs}
 use Rattle.reader.specs.Gathering.{startCounts, passedOn, GatherSays, GatherIs}
 use Rattle.lines.proofs.LineBlocks.{line-le}

@@ -25,7 +25,7 @@ use Rattle.lines.specs.declared.stage.Stage.the-variants.{Declaring, Fixing, Ru
 use Rattle.lines.specs.Forms.{Word, atoms, min, vary, fix, declares, rules, broken, formOf, begins, tagOf}
 use Rattle.lines.specs.Forms.{Form as LineForm}
 use Rattle.lines.specs.Faults.{State, Step, next, fault, expects, ruling?, numberOf, declared, numbered, with-rule, filled, stepForm}
-use Rattle.delivery.specs.Said.{accepted, refused, start, onStep, readLines, programOf}
+use Rattle.lines.specs.Said.{accepted, refused, start, onStep, readLines, programOf}
 use Rattle.reader.proofs.LineText.{joined}
 use Rattle.reader.proofs.FormText.{wordOf, LineOf, form-line}
 use Rattle.reader.proofs.NumberedNames.{Declared, number-below, names-of-numbers, numbers-differ, twice-free}

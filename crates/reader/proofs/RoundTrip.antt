@@ -22,7 +22,7 @@ use Rattle.lines.specs.declared.stage.Stage.the-variants.{Declaring, Ruling}
 use Rattle.lines.specs.Lines.{linesFrom, lines}
 use Rattle.lines.specs.Forms.{atoms, begins, tagOf}
 use Rattle.lines.specs.Faults.{State, ruling?}
-use Rattle.delivery.specs.Said.{accepted, refused, start, readLines, said, programOf}
+use Rattle.lines.specs.Said.{accepted, refused, start, readLines, said, programOf}
 use Rattle.reader.proofs.LineText.{joined-lines}
 use Rattle.reader.proofs.Progress.{state, AllSaid, lines-said, start-said, text-said}
 use Rattle.reader.proofs.WrittenLines.{Reads, counted, reads-then, reads-rules, reads-declarations}

@@ -22,7 +22,7 @@ use Rattle.reader.specs.declared.reading.Gather.the-variants as Gather
 use Rattle.gathering.specs.declared.gathered.Gathered.{Gathered}
 use Rattle.lines.specs.Lines.{lines}
 use Rattle.lines.specs.Forms.{atoms, begins, tagOf}
-use Rattle.delivery.specs.Said.{accepted, refused, start, readLines, said}
+use Rattle.lines.specs.Said.{accepted, refused, start, readLines, said}
 use Rattle.delivery.specs.Answers.{readAnswer, readRules, readNames}
 use Rattle.numbering.specs.Scratch.{scratchWords, scratchBytes, scratchAtoms}
 use Rattle.gathering.specs.Gathered.{stateOf, Held}

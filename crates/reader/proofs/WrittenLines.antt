@@ -29,7 +29,7 @@ use Rattle.lines.specs.declared.stage.Stage.the-variants.{Declaring, Fixing, Ru
 use Rattle.lines.specs.Lines.{lines}
 use Rattle.lines.specs.Forms.{Word, atoms, min, vary, fix, isName, formOf}
 use Rattle.lines.specs.Faults.{State, next, expects, stageAfter, classesAfter, classWords, declared, numbered, with-rule, filled, stepForm}
-use Rattle.delivery.specs.Said.{onStep, readLines}
+use Rattle.lines.specs.Said.{onStep, readLines}
 use Rattle.reader.proofs.LineText.{WholeLine, lines-cons}
 use Rattle.reader.proofs.NameText.{IsName}
 use Rattle.reader.proofs.FormText.{wordOf, list-form, list-whole, rule-line-form, rule-whole}

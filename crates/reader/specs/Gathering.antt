@@ -9,7 +9,7 @@ use Rattle.gathering.specs.declared.gathered.Line.{Line}
 use Rattle.gathering.specs.declared.gathered.Line.the-variants.{Next, Fault}
 use Rattle.reader.specs.declared.reading.Gather.{Gather}
 use Rattle.reader.specs.declared.reading.Gather.the-variants.{Whole, Refused}
-use Rattle.delivery.specs.Said.{Said, accepted, refused}
+use Rattle.lines.specs.Said.{Said, accepted, refused}
 use Rattle.gathering.specs.Gathered.{stateOf, Held}
 
 -- before the first line; four words are kept for the header

@@ -16,7 +16,7 @@ ghost use lib.ListN.{length};
 ghost use Rattle.kinds.specs.Limits.{textLimit};
 ghost use Rattle.lines.specs.Lines.{lines};
 ghost use Rattle.lines.specs.Forms.{atoms, begins, tagOf, formOf};
-ghost use Rattle.delivery.specs.Said.{start, readLines};
+ghost use Rattle.lines.specs.Said.{start, readLines};
 ghost use Rattle.gathering.specs.Gathered.{stateOf, Held, LineIs};
 ghost use Rattle.reader.specs.Gathering.{startCounts, passedOn, GatherIs};
 

@@ -20,7 +20,7 @@ use Rattle.output.specs.Emitted.{over}
 use Rattle.writer.specs.Answers.{fitted}
 use Rattle.text.proofs.TextLength.{text-fits}
 use Rattle.lines.specs.Faults.{State}
-use Rattle.delivery.specs.Said.{accepted, said, programOf}
+use Rattle.lines.specs.Said.{accepted, said, programOf}
 use Rattle.reader.proofs.RoundTrip.{accepted-form, write-read}
 use Rattle.delivery.specs.Answers.{readRules, readNames}
 use Rattle.delivery.proofs.AcceptedTexts.{Filled, never, filled, reads-as, front}

@@ -7,7 +7,7 @@ use Rattle.lines.specs.Lines.{lines, linesFrom, lineLength}
 use Rattle.lines.specs.Items.{items, itemsFrom, run, span}
 use Rattle.lines.specs.Forms.{cutNames, cutList, declaredForm, ruleForm, formOf}
 use Rattle.lines.specs.Faults.{twice, numberOf, declare, addRule}
-use Rattle.delivery.specs.Said.{start, readLines, said}
+use Rattle.lines.specs.Said.{start, readLines, said}
 use Rattle.pairing.specs.Atoms.{declared}
 use Rattle.pairing.specs.Steps.{step1, step2, step3, step4, step5, step6, step7, step8, step9, step10, translation}
 use Rattle.pairing.specs.Translated.{translatedRules}

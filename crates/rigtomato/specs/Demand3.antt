@@ -14,7 +14,7 @@ use Rattle.writer.specs.declared.Written.the-variants.{Text}
 use Rattle.delivery.specs.ReadsAs.{ReadsAs}
 use Rattle.delivery.specs.declared.answers.Read.the-variants.{Accepted}
 use Rattle.lines.specs.Faults.{State}
-use Rattle.delivery.specs.Said.{accepted, programOf}
+use Rattle.lines.specs.Said.{accepted, programOf}
 use Rattle.delivery.specs.Answers.{readAnswer, readRules, readNames}
 use Rattle.pairing.specs.Translated.{translated, translatedNames, numbers, atomsSum, rulesSum, occurrencesSum}
 use Rattle.translation.specs.Answers.{translationText, translateAnswer, translateOutput}

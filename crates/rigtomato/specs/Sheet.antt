@@ -7,7 +7,7 @@ use Rattle.kinds.specs.Limits.{budgetLimit}
 use Rattle.rules.specs.Lists.{filter, from, sum}
 use Rattle.rules.specs.Rules.{occurrences}
 use Rattle.rules.specs.Preferred.{preferred?}
-use Rattle.delivery.specs.Said.{Said, accepted, refused, said, programOf}
+use Rattle.lines.specs.Said.{Said, accepted, refused, said, programOf}
 use Rattle.walks.specs.declared.answers.Verdict.{Verdict}
 use Rattle.walks.specs.declared.answers.Verdict.the-variants.{Yes, Broken, Beaten, Spent, Refused}
 use Rattle.walks.specs.Walk.{preferredVerdict}

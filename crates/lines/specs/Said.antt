@@ -9,13 +9,13 @@ use Rattle.kinds.specs.declared.limits.Kind.the-variants.{Plain, Preference}
 use Rattle.kinds.specs.declared.refusals.Refusal.{Refusal}
 use Rattle.kinds.specs.declared.refusals.Refusal.the-variants.{TextTooLong, Form as BrokenForm}
 use Rattle.stores.specs.Program.{Program}
 use Rattle.lines.specs.declared.stage.Stage.the-variants.{Declaring}
 use Rattle.lines.specs.Lines.{lines}
 use Rattle.lines.specs.Forms.{atoms, begins, tagOf, formOf}
 use Rattle.lines.specs.Faults.{State, Step, next, fault, ruling?, stepForm}
 
 pub data Said : Type 0 where
-  accepted : State → Said
+  accepted : Program → List (List ℕ) → Said
   refused : Refusal → ℕ → Said
 
 -- the kind is plain exactly when the text starts with `(atoms`
@@ -29,18 +29,6 @@ start text = record {
   program-rules = [];
 }
 
-abbrev pub onStep : Step → ℕ → (State → Said) → Said
-onStep (next st) k f = f st
-onStep (fault r) k f = refused r k
-
--- the lines from number k on; a missing line stands one past the last
-unfoldable pub readLines : ℕ → State → List (List ℕ) → Said
-readLines k st [] = cond (ruling? (st .stage)) (accepted st) (refused BrokenForm k)
-readLines k st (l ∷ ls) = onStep (stepForm st (formOf l)) k (λ after. readLines (suc k) after ls)
-
-unfoldable pub said : List ℕ → Said
-said text = let whole = readLines 1 (start text) (lines text) in cond (leb (length text) textLimit) whole (refused TextTooLong 0)
-
 -- the program of the lines
 abbrev pub programOf : State → Program
 programOf st = record {
@@ -50,3 +38,15 @@ programOf st = record {
   words = st .words;
   rules = st .program-rules;
 }
+
+abbrev pub onStep : Step → ℕ → (State → Said) → Said
+onStep (next st) k f = f st
+onStep (fault r) k f = refused r k
+
+-- the lines from number k on; a missing line stands one past the last
+unfoldable pub readLines : ℕ → State → List (List ℕ) → Said
+readLines k st [] = cond (ruling? (st .stage)) (accepted (programOf st) (st .names)) (refused BrokenForm k)
+readLines k st (l ∷ ls) = onStep (stepForm st (formOf l)) k (λ after. readLines (suc k) after ls)
+
+unfoldable pub said : List ℕ → Said
+said text = let whole = readLines 1 (start text) (lines text) in cond (leb (length text) textLimit) whole (refused TextTooLong 0)
