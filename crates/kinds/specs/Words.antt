@@ -1,47 +1,51 @@
 -- The bytes that the two kinds of file are written with.
 use Prim.Native.Nat.{ℕ}
+use Prim.Native.Char.{code}
+use Prim.Native.String.{String, [] as empty, _∷_ as _then_}
 use mathlib.Core.List.{List, [], _∷_}
 
+-- the bytes of a quoted text
+abbrev pub bytes : String → List ℕ
+bytes empty = []
+bytes (c then s) = code c ∷ bytes s
+
+-- a byte by its character
+abbrev pub byte : String → ℕ
+byte empty = 0
+byte (c then s) = code c
+
 abbrev pub space : ℕ
-space = 32
+space = byte " "
 
 abbrev pub open-bracket : ℕ
-open-bracket = 40
+open-bracket = byte "("
 
 abbrev pub close-bracket : ℕ
-close-bracket = 41
+close-bracket = byte ")"
 
 abbrev pub line-end : ℕ
-line-end = 10
+line-end = byte "\n"
 
--- atoms
 abbrev pub atomsWord : List ℕ
-atomsWord = 97 ∷ 116 ∷ 111 ∷ 109 ∷ 115 ∷ []
+atomsWord = bytes "atoms"
 
--- min
 abbrev pub minWord : List ℕ
-minWord = 109 ∷ 105 ∷ 110 ∷ []
+minWord = bytes "min"
 
--- vary
 abbrev pub varyWord : List ℕ
-varyWord = 118 ∷ 97 ∷ 114 ∷ 121 ∷ []
+varyWord = bytes "vary"
 
--- fix
 abbrev pub fixWord : List ℕ
-fixWord = 102 ∷ 105 ∷ 120 ∷ []
+fixWord = bytes "fix"
 
--- rule
 abbrev pub ruleWord : List ℕ
-ruleWord = 114 ∷ 117 ∷ 108 ∷ 101 ∷ []
+ruleWord = bytes "rule"
 
--- head
 abbrev pub headWord : List ℕ
-headWord = 104 ∷ 101 ∷ 97 ∷ 100 ∷ []
+headWord = bytes "head"
 
--- body
 abbrev pub bodyWord : List ℕ
-bodyWord = 98 ∷ 111 ∷ 100 ∷ 121 ∷ []
+bodyWord = bytes "body"
 
--- not
 abbrev pub notWord : List ℕ
-notWord = 110 ∷ 111 ∷ 116 ∷ []
+notWord = bytes "not"

@@ -20,6 +20,11 @@ impl Plain {
     pub const RULES: usize = 4200;
 
     pub const OCCURRENCES: usize = 24000;
+
+    // The largest stores, which are a plain program's.
+    pub const WORDS: usize = 4 + 3 * Plain::RULES + Plain::OCCURRENCES;
+
+    pub const BYTES: usize = Plain::ATOMS * (1 + Kind::LONGEST_NAME);
 }
 
 impl Preference {
@@ -30,6 +35,15 @@ impl Preference {
     pub const OCCURRENCES: usize = 8192;
 
     pub const CLASSES: usize = 16;
+}
+
+// Class words past the classes.
+pub struct ClassWord;
+
+impl ClassWord {
+    pub const VARYING: u16 = 17;
+
+    pub const FIXED: u16 = 18;
 }
 
 impl Walk {
@@ -43,6 +57,9 @@ impl Kind {
     pub const TEXT: usize = 655360;
 
     pub const NAME: usize = 16;
+
+    // A generated name has two bytes more than the house name in it.
+    pub const LONGEST_NAME: usize = Kind::NAME + 2;
 
     pub const STREAM: usize = 65536;
 

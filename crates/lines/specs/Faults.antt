@@ -4,7 +4,7 @@ use mathlib.Core.Bool.{Bool, true, false, cond, not, _&&_, _||_}
 use mathlib.Core.List.{List, [], _∷_, _++_, map}
 use lib.Dec.{leb}
 use lib.ListN.{length, replicate}
-use Rattle.kinds.specs.Limits.{classLimit, within}
+use Rattle.kinds.specs.Limits.{classLimit, within, varying, fixed}
 use Rattle.kinds.specs.declared.limits.Counts.{Counts}
 use Rattle.kinds.specs.declared.limits.Kind.{Kind}
 use Rattle.kinds.specs.declared.limits.Kind.the-variants.{Plain, Preference}
@@ -12,7 +12,6 @@ use Rattle.kinds.specs.declared.refusals.Refusal.{Refusal}
 use Rattle.kinds.specs.declared.refusals.Refusal.the-variants.{Form as BrokenForm, Name, DeclaredTwice, Undeclared, TwiceInList, Limit, FilledNot}
 use Rattle.rules.specs.Lists.{some, sum}
 use Rattle.rules.specs.Rules.{Rule, rule, occurrences}
-use Rattle.rules.specs.Preferred.{varying, fixed}
 use Rattle.names.specs.Names.{allowed}
 use Rattle.name_store.specs.NameStore.{sameBytes}
 use Rattle.lines.specs.declared.stage.Stage.{Stage}

@@ -5,6 +5,7 @@ use mathlib.Core.List.{List, [], _∷_}
 use lib.Dec.{leb, eqb}
 use lib.ListN.{length, getD, drop}
 use Rattle.kinds.specs.Limits.{nameLimit}
+use Rattle.kinds.specs.Words.{byte}
 use Rattle.kinds.specs.declared.limits.Kind.{Kind}
 use Rattle.kinds.specs.declared.limits.Kind.the-variants.{Plain, Preference}
 use Rattle.rules.specs.Lists.{every}
@@ -13,14 +14,14 @@ use Rattle.names.specs.declared.forms.NameClass.the-variants.{House, Gen
 
 -- a letter a to z
 abbrev pub letter? : ℕ → Bool
-letter? b = leb 97 b && leb b 122
+letter? b = leb (byte "a") b && leb b (byte "z")
 
 abbrev pub digit? : ℕ → Bool
-digit? b = leb 48 b && leb b 57
+digit? b = leb (byte "0") b && leb b (byte "9")
 
 -- a letter, a digit or `_`
 abbrev pub nameByte? : ℕ → Bool
-nameByte? b = letter? b || (digit? b || eqb b 95)
+nameByte? b = letter? b || (digit? b || eqb b (byte "_"))
 
 -- a letter, then letters, digits or `_`: a house name but for its length
 unfoldable pub house? : List ℕ → Bool
@@ -31,7 +32,7 @@ house? (b ∷ bs) = letter? b && every nameByte? bs
 unfoldable pub classNumber? : List ℕ → Bool
 classNumber? bs =
     (eqb (length bs) 1 && digit? (getD bs 0 0))
-    || (eqb (length bs) 2 && (eqb (getD bs 0 0) 49 && (leb 48 (getD bs 1 0) && leb (getD bs 1 0) 54)))
+    || (eqb (length bs) 2 && (eqb (getD bs 0 0) (byte "1") && (leb (byte "0") (getD bs 1 0) && leb (getD bs 1 0) (byte "6"))))
 
 -- a name of the house form, by its length
 abbrev pub sized : List ℕ → NameClass → NameClass
@@ -40,14 +41,14 @@ sized bs c = cond (leb (length bs) nameLimit) c TooLong
 -- `N.`, `S.` or `D.` before a house name, `E.` before a class number
 abbrev pub dotted : ℕ → List ℕ → NameClass
 dotted c bs =
-    cond ((eqb c 78 || (eqb c 83 || eqb c 68)) && house? bs) (sized bs Generated)
-    (cond (eqb c 69 && classNumber? bs) Generated Wrong)
+    cond ((eqb c (byte "N") || (eqb c (byte "S") || eqb c (byte "D"))) && house? bs) (sized bs Generated)
+    (cond (eqb c (byte "E") && classNumber? bs) Generated Wrong)
 
 -- `U`, or one of the dotted names
 abbrev pub generated : List ℕ → NameClass
 generated bs =
-    cond (eqb (length bs) 1 && eqb (getD bs 0 0) 85) Generated
-    (cond (leb 2 (length bs) && eqb (getD bs 1 0) 46) (dotted (getD bs 0 0) (drop 2 bs)) Wrong)
+    cond (eqb (length bs) 1 && eqb (getD bs 0 0) (byte "U")) Generated
+    (cond (leb 2 (length bs) && eqb (getD bs 1 0) (byte ".")) (dotted (getD bs 0 0) (drop 2 bs)) Wrong)
 
 unfoldable pub nameClass : List ℕ → NameClass
 nameClass bs = cond (house? bs) (sized bs House) (generated bs)

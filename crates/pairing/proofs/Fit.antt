@@ -7,12 +7,11 @@ use mathlib.Core.List.{List, [], _∷_}
 use mathlib.Core.Logic.{_⊎_, inl, inr}
 use lib.Dec.{T, eqb→eq}
 use lib.ListN.{length, getD}
-use Rattle.kinds.specs.Limits.{atomLimit, ruleLimit, occurrenceLimit, classLimit}
+use Rattle.kinds.specs.Limits.{atomLimit, ruleLimit, occurrenceLimit, classLimit, varying, fixed}
 use Rattle.kinds.specs.declared.limits.Kind.{Kind}
 use Rattle.kinds.specs.declared.limits.Kind.the-variants.{Preference}
 use Rattle.rules.specs.Lists.{All, Distinct, sum}
 use Rattle.rules.specs.Rules.{Rule, occurrences}
-use Rattle.rules.specs.Preferred.{varying, fixed}
 use Rattle.rules.proofs.Booleans.{decide, T-not-in}
 use Rattle.rules.proofs.Lists.{all-imp, all-at}
 use Rattle.stores.specs.Program.{Program, Form, ClassesForm, RuleForm, RoleForm, Rising, roleOf}

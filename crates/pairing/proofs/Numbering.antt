@@ -6,9 +6,8 @@ use mathlib.Core.List.{List, [], _∷_, _++_, map, map-map, map-append}
 use mathlib.Core.Logic.{and-true}
 use lib.Dec.{T, leb→le, le→leb, eqb→eq}
 use lib.ListN.{length, getD, length-append, length-map}
-use Rattle.kinds.specs.Limits.{classLimit}
+use Rattle.kinds.specs.Limits.{classLimit, fixed}
 use Rattle.rules.specs.Lists.{All, from}
-use Rattle.rules.specs.Preferred.{fixed}
 use Rattle.rules.proofs.Booleans.{eq→eqb, T-not-in, T-not-out}
 use Rattle.rules.proofs.Lists.{length-from, from-append}
 use Rattle.stores.specs.Program.{Program}

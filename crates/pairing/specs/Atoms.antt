@@ -4,9 +4,9 @@ use mathlib.Core.List.{List, [], _∷_, _++_, map}
 use mathlib.Core.Bool.{Bool, not, cond}
 use lib.Dec.{leb, ltb, eqb}
 use lib.ListN.{length, getD}
-use Rattle.kinds.specs.Limits.{classLimit}
+use Rattle.kinds.specs.Words.{bytes}
+use Rattle.kinds.specs.Limits.{classLimit, varying, fixed}
 use Rattle.rules.specs.Lists.{filter, from}
-use Rattle.rules.specs.Preferred.{varying, fixed}
 use Rattle.stores.specs.Program.{Program}
 
 -- an atom of the file; N., S. and D. of one; E.0 to E.k; U
@@ -73,8 +73,8 @@ decimal j = cond (ltb j 10) ((48 + j) ∷ []) (49 ∷ (38 + j) ∷ [])
 -- an atom's name, by the file's names: `N.`, `S.` or `D.` before a name of the file, `E.` before a number, `U`
 abbrev pub nameOf : List (List ℕ) → Atom → List ℕ
 nameOf names (original a) = getD names a []
-nameOf names (N a) = 78 ∷ 46 ∷ getD names a []
-nameOf names (S a) = 83 ∷ 46 ∷ getD names a []
-nameOf names (D a) = 68 ∷ 46 ∷ getD names a []
-nameOf names (E j) = 69 ∷ 46 ∷ decimal j
-nameOf names U = 85 ∷ []
+nameOf names (N a) = bytes "N." ++ getD names a []
+nameOf names (S a) = bytes "S." ++ getD names a []
+nameOf names (D a) = bytes "D." ++ getD names a []
+nameOf names (E j) = bytes "E." ++ decimal j
+nameOf names U = bytes "U"

@@ -4,9 +4,11 @@ use mathlib.Core.List.{List, [], _∷_, _++_, map}
 use mathlib.Core.Bool.{Bool, not}
 use lib.Dec.{eqb}
 use lib.ListN.{length, getD, take}
+use Rattle.kinds.specs.Words.{bytes, byte}
 use Rattle.rules.specs.Lists.{filter, flat, from}
 use Rattle.rules.specs.Rules.{Rule, rule}
-use Rattle.rules.specs.Preferred.{fixed, ofClass}
+use Rattle.kinds.specs.Limits.{fixed}
+use Rattle.rules.specs.Preferred.{ofClass}
 use Rattle.stores.specs.Program.{Program}
 use Rattle.pairing.specs.Atoms.{minimisedAtoms, unfixedAtoms, decimal}
 
@@ -76,16 +78,16 @@ looped p = loops (p .words) (p .rules) (p .atoms) (p .classes) (length (unfixedA
 
 -- a byte and a dot before a name
 abbrev pub dot : ℕ → List ℕ → List ℕ
-dot c x = c ∷ 46 ∷ x
+dot c x = c ∷ byte "." ∷ x
 
 abbrev pub namesLoops : List (List ℕ) → ℕ → ℕ → ℕ → List (List ℕ)
 namesLoops names k q m =
     names
-    ++ (map (dot 78) names
-    ++ (map (dot 83) (take q names)
-    ++ (map (dot 68) (take m names)
-    ++ (map (λ j. dot 69 (decimal j)) (from 0 (suc k))
-    ++ ((85 ∷ []) ∷ [])))))
+    ++ (map (dot (byte "N")) names
+    ++ (map (dot (byte "S")) (take q names)
+    ++ (map (dot (byte "D")) (take m names)
+    ++ (map (λ j. dot (byte "E") (decimal j)) (from 0 (suc k))
+    ++ (bytes "U" ∷ [])))))
 
 unfoldable pub loopedNames : Program → List (List ℕ) → List (List ℕ)
 loopedNames p names = namesLoops names (p .classes) (length (unfixedAtoms p)) (length (minimisedAtoms p))

@@ -7,13 +7,12 @@ use mathlib.Core.Bool.{Bool, true, false, cond}
 use mathlib.Core.List.{List, [], _∷_, _++_, map, append-assoc, append-nil}
 use lib.Dec.{T}
 use lib.ListN.{length, replicate, length-append, length-map}
-use Rattle.kinds.specs.Limits.{atomLimit, classLimit}
+use Rattle.kinds.specs.Limits.{atomLimit, classLimit, varying, fixed}
 use Rattle.kinds.specs.declared.limits.Kind.{Kind}
 use Rattle.kinds.specs.declared.limits.Kind.the-variants.{Plain, Preference}
 use Rattle.kinds.specs.declared.refusals.Refusal.the-variants.{Form as BrokenForm}
 use Rattle.rules.specs.Lists.{All, flat, from}
 use Rattle.rules.specs.Rules.{Rule, occurrences}
-use Rattle.rules.specs.Preferred.{varying, fixed}
 use Rattle.rules.proofs.Lists.{all-app, all-imp, all-from, all-map, sum-app}
 use Rattle.names.specs.Names.{allowed}
 use Rattle.name_store.specs.NameStore.{NamesForm}

@@ -7,12 +7,11 @@ use mathlib.Core.Bool.{Bool, true, false, cond}
 use mathlib.Core.List.{List, [], _++_, append-nil}
 use lib.Dec.{T, leb, leb→le, le→leb}
 use lib.ListN.{length}
-use Rattle.kinds.specs.Limits.{textLimit}
+use Rattle.kinds.specs.Limits.{textLimit, varying, fixed}
 use Rattle.kinds.specs.declared.limits.Kind.{Kind}
 use Rattle.kinds.specs.declared.limits.Kind.the-variants.{Plain, Preference}
 use Rattle.kinds.specs.declared.refusals.Refusal.the-variants.{TextTooLong, Form as BrokenForm}
 use Rattle.rules.specs.Lists.{All, flat, from}
-use Rattle.rules.specs.Preferred.{varying, fixed}
 use Rattle.rules.proofs.Booleans.{is-true}
 use Rattle.name_store.specs.NameStore.{NamesForm, sameBytes}
 use Rattle.stores.specs.Program.{Program, Form, RuleForm}

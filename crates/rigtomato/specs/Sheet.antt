@@ -1,9 +1,10 @@
 -- The marked cases of document 01's "Sheets of known states", from the bytes of the files.
 use Prim.Native.Nat.{ℕ, _^_}
 use mathlib.Core.Path.{_≡_}
-use mathlib.Core.List.{List, [], _∷_}
+use mathlib.Core.List.{List, [], _∷_, _++_}
 use lib.ListN.{length}
 use Rattle.kinds.specs.Limits.{budgetLimit}
+use Rattle.kinds.specs.Words.{bytes}
 use Rattle.rules.specs.Lists.{filter, from, sum}
 use Rattle.rules.specs.Rules.{occurrences}
 use Rattle.rules.specs.Preferred.{preferred?}
@@ -16,35 +17,69 @@ use Rattle.programs.specs.Programs.{statesPrinted}
 
 -- file A
 unfoldable pub fileA : List ℕ
-fileA = 40 ∷ 109 ∷ 105 ∷ 110 ∷ 32 ∷ 115 ∷ 101 ∷ 110 ∷ 115 ∷ 111 ∷ 114 ∷ 41 ∷ 10 ∷ 40 ∷ 109 ∷ 105 ∷ 110 ∷ 32 ∷ 108 ∷ 97 ∷ 109 ∷ 112 ∷ 41 ∷ 10 ∷ 40 ∷ 118 ∷ 97 ∷ 114 ∷ 121 ∷ 32 ∷ 100 ∷ 97 ∷ 114 ∷ 107 ∷ 41 ∷ 10 ∷ 40 ∷ 102 ∷ 105 ∷ 120 ∷ 41 ∷ 10 ∷ 40 ∷ 114 ∷ 117 ∷ 108 ∷ 101 ∷ 32 ∷ 40 ∷ 104 ∷ 101 ∷ 97 ∷ 100 ∷ 32 ∷ 115 ∷ 101 ∷ 110 ∷ 115 ∷ 111 ∷ 114 ∷ 32 ∷ 108 ∷ 97 ∷ 109 ∷ 112 ∷ 41 ∷ 32 ∷ 40 ∷ 98 ∷ 111 ∷ 100 ∷ 121 ∷ 41 ∷ 32 ∷ 40 ∷ 110 ∷ 111 ∷ 116 ∷ 41 ∷ 41 ∷ 10 ∷ 40 ∷ 114 ∷ 117 ∷ 108 ∷ 101 ∷ 32 ∷ 40 ∷ 104 ∷ 101 ∷ 97 ∷ 100 ∷ 32 ∷ 100 ∷ 97 ∷ 114 ∷ 107 ∷ 41 ∷ 32 ∷ 40 ∷ 98 ∷ 111 ∷ 100 ∷ 121 ∷ 32 ∷ 108 ∷ 97 ∷ 109 ∷ 112 ∷ 41 ∷ 32 ∷ 40 ∷ 110 ∷ 111 ∷ 116 ∷ 41 ∷ 41 ∷ 10 ∷ []
+fileA =
+    bytes "(min sensor)\n"
+    ++ (bytes "(min lamp)\n"
+    ++ (bytes "(vary dark)\n"
+    ++ (bytes "(fix)\n"
+    ++ (bytes "(rule (head sensor lamp) (body) (not))\n"
+    ++ (bytes "(rule (head dark) (body lamp) (not))\n")))))
 
 -- A with one class `sensor lamp`
 unfoldable pub oneClass : List ℕ
-oneClass = 40 ∷ 109 ∷ 105 ∷ 110 ∷ 32 ∷ 115 ∷ 101 ∷ 110 ∷ 115 ∷ 111 ∷ 114 ∷ 32 ∷ 108 ∷ 97 ∷ 109 ∷ 112 ∷ 41 ∷ 10 ∷ 40 ∷ 118 ∷ 97 ∷ 114 ∷ 121 ∷ 32 ∷ 100 ∷ 97 ∷ 114 ∷ 107 ∷ 41 ∷ 10 ∷ 40 ∷ 102 ∷ 105 ∷ 120 ∷ 41 ∷ 10 ∷ 40 ∷ 114 ∷ 117 ∷ 108 ∷ 101 ∷ 32 ∷ 40 ∷ 104 ∷ 101 ∷ 97 ∷ 100 ∷ 32 ∷ 115 ∷ 101 ∷ 110 ∷ 115 ∷ 111 ∷ 114 ∷ 32 ∷ 108 ∷ 97 ∷ 109 ∷ 112 ∷ 41 ∷ 32 ∷ 40 ∷ 98 ∷ 111 ∷ 100 ∷ 121 ∷ 41 ∷ 32 ∷ 40 ∷ 110 ∷ 111 ∷ 116 ∷ 41 ∷ 41 ∷ 10 ∷ 40 ∷ 114 ∷ 117 ∷ 108 ∷ 101 ∷ 32 ∷ 40 ∷ 104 ∷ 101 ∷ 97 ∷ 100 ∷ 32 ∷ 100 ∷ 97 ∷ 114 ∷ 107 ∷ 41 ∷ 32 ∷ 40 ∷ 98 ∷ 111 ∷ 100 ∷ 121 ∷ 32 ∷ 108 ∷ 97 ∷ 109 ∷ 112 ∷ 41 ∷ 32 ∷ 40 ∷ 110 ∷ 111 ∷ 116 ∷ 41 ∷ 41 ∷ 10 ∷ []
+oneClass =
+    bytes "(min sensor lamp)\n"
+    ++ (bytes "(vary dark)\n"
+    ++ (bytes "(fix)\n"
+    ++ (bytes "(rule (head sensor lamp) (body) (not))\n"
+    ++ (bytes "(rule (head dark) (body lamp) (not))\n"))))
 
 -- A with `lamp` as class 1, `sensor` as class 2
 unfoldable pub lampFirst : List ℕ
-lampFirst = 40 ∷ 109 ∷ 105 ∷ 110 ∷ 32 ∷ 108 ∷ 97 ∷ 109 ∷ 112 ∷ 41 ∷ 10 ∷ 40 ∷ 109 ∷ 105 ∷ 110 ∷ 32 ∷ 115 ∷ 101 ∷ 110 ∷ 115 ∷ 111 ∷ 114 ∷ 41 ∷ 10 ∷ 40 ∷ 118 ∷ 97 ∷ 114 ∷ 121 ∷ 32 ∷ 100 ∷ 97 ∷ 114 ∷ 107 ∷ 41 ∷ 10 ∷ 40 ∷ 102 ∷ 105 ∷ 120 ∷ 41 ∷ 10 ∷ 40 ∷ 114 ∷ 117 ∷ 108 ∷ 101 ∷ 32 ∷ 40 ∷ 104 ∷ 101 ∷ 97 ∷ 100 ∷ 32 ∷ 115 ∷ 101 ∷ 110 ∷ 115 ∷ 111 ∷ 114 ∷ 32 ∷ 108 ∷ 97 ∷ 109 ∷ 112 ∷ 41 ∷ 32 ∷ 40 ∷ 98 ∷ 111 ∷ 100 ∷ 121 ∷ 41 ∷ 32 ∷ 40 ∷ 110 ∷ 111 ∷ 116 ∷ 41 ∷ 41 ∷ 10 ∷ 40 ∷ 114 ∷ 117 ∷ 108 ∷ 101 ∷ 32 ∷ 40 ∷ 104 ∷ 101 ∷ 97 ∷ 100 ∷ 32 ∷ 100 ∷ 97 ∷ 114 ∷ 107 ∷ 41 ∷ 32 ∷ 40 ∷ 98 ∷ 111 ∷ 100 ∷ 121 ∷ 32 ∷ 108 ∷ 97 ∷ 109 ∷ 112 ∷ 41 ∷ 32 ∷ 40 ∷ 110 ∷ 111 ∷ 116 ∷ 41 ∷ 41 ∷ 10 ∷ []
+lampFirst =
+    bytes "(min lamp)\n"
+    ++ (bytes "(min sensor)\n"
+    ++ (bytes "(vary dark)\n"
+    ++ (bytes "(fix)\n"
+    ++ (bytes "(rule (head sensor lamp) (body) (not))\n"
+    ++ (bytes "(rule (head dark) (body lamp) (not))\n")))))
 
 -- A with `dark` fixed
 unfoldable pub darkFixed : List ℕ
-darkFixed = 40 ∷ 109 ∷ 105 ∷ 110 ∷ 32 ∷ 115 ∷ 101 ∷ 110 ∷ 115 ∷ 111 ∷ 114 ∷ 41 ∷ 10 ∷ 40 ∷ 109 ∷ 105 ∷ 110 ∷ 32 ∷ 108 ∷ 97 ∷ 109 ∷ 112 ∷ 41 ∷ 10 ∷ 40 ∷ 118 ∷ 97 ∷ 114 ∷ 121 ∷ 41 ∷ 10 ∷ 40 ∷ 102 ∷ 105 ∷ 120 ∷ 32 ∷ 100 ∷ 97 ∷ 114 ∷ 107 ∷ 41 ∷ 10 ∷ 40 ∷ 114 ∷ 117 ∷ 108 ∷ 101 ∷ 32 ∷ 40 ∷ 104 ∷ 101 ∷ 97 ∷ 100 ∷ 32 ∷ 115 ∷ 101 ∷ 110 ∷ 115 ∷ 111 ∷ 114 ∷ 32 ∷ 108 ∷ 97 ∷ 109 ∷ 112 ∷ 41 ∷ 32 ∷ 40 ∷ 98 ∷ 111 ∷ 100 ∷ 121 ∷ 41 ∷ 32 ∷ 40 ∷ 110 ∷ 111 ∷ 116 ∷ 41 ∷ 41 ∷ 10 ∷ 40 ∷ 114 ∷ 117 ∷ 108 ∷ 101 ∷ 32 ∷ 40 ∷ 104 ∷ 101 ∷ 97 ∷ 100 ∷ 32 ∷ 100 ∷ 97 ∷ 114 ∷ 107 ∷ 41 ∷ 32 ∷ 40 ∷ 98 ∷ 111 ∷ 100 ∷ 121 ∷ 32 ∷ 108 ∷ 97 ∷ 109 ∷ 112 ∷ 41 ∷ 32 ∷ 40 ∷ 110 ∷ 111 ∷ 116 ∷ 41 ∷ 41 ∷ 10 ∷ []
+darkFixed =
+    bytes "(min sensor)\n"
+    ++ (bytes "(min lamp)\n"
+    ++ (bytes "(vary)\n"
+    ++ (bytes "(fix dark)\n"
+    ++ (bytes "(rule (head sensor lamp) (body) (not))\n"
+    ++ (bytes "(rule (head dark) (body lamp) (not))\n")))))
 
 -- `(vary)`, `(fix)` alone
 unfoldable pub nothing : List ℕ
-nothing = 40 ∷ 118 ∷ 97 ∷ 114 ∷ 121 ∷ 41 ∷ 10 ∷ 40 ∷ 102 ∷ 105 ∷ 120 ∷ 41 ∷ 10 ∷ []
+nothing =
+    bytes "(vary)\n"
+    ++ (bytes "(fix)\n")
 
 -- those and a rule with three empty lists
 unfoldable pub emptyRule : List ℕ
-emptyRule = 40 ∷ 118 ∷ 97 ∷ 114 ∷ 121 ∷ 41 ∷ 10 ∷ 40 ∷ 102 ∷ 105 ∷ 120 ∷ 41 ∷ 10 ∷ 40 ∷ 114 ∷ 117 ∷ 108 ∷ 101 ∷ 32 ∷ 40 ∷ 104 ∷ 101 ∷ 97 ∷ 100 ∷ 41 ∷ 32 ∷ 40 ∷ 98 ∷ 111 ∷ 100 ∷ 121 ∷ 41 ∷ 32 ∷ 40 ∷ 110 ∷ 111 ∷ 116 ∷ 41 ∷ 41 ∷ 10 ∷ []
+emptyRule =
+    bytes "(vary)\n"
+    ++ (bytes "(fix)\n"
+    ++ (bytes "(rule (head) (body) (not))\n"))
 
 -- one rule `sensor or dark`, `sensor` minimised, `dark` varying
 unfoldable pub oneRule : List ℕ
-oneRule = 40 ∷ 109 ∷ 105 ∷ 110 ∷ 32 ∷ 115 ∷ 101 ∷ 110 ∷ 115 ∷ 111 ∷ 114 ∷ 41 ∷ 10 ∷ 40 ∷ 118 ∷ 97 ∷ 114 ∷ 121 ∷ 32 ∷ 100 ∷ 97 ∷ 114 ∷ 107 ∷ 41 ∷ 10 ∷ 40 ∷ 102 ∷ 105 ∷ 120 ∷ 41 ∷ 10 ∷ 40 ∷ 114 ∷ 117 ∷ 108 ∷ 101 ∷ 32 ∷ 40 ∷ 104 ∷ 101 ∷ 97 ∷ 100 ∷ 32 ∷ 115 ∷ 101 ∷ 110 ∷ 115 ∷ 111 ∷ 114 ∷ 32 ∷ 100 ∷ 97 ∷ 114 ∷ 107 ∷ 41 ∷ 32 ∷ 40 ∷ 98 ∷ 111 ∷ 100 ∷ 121 ∷ 41 ∷ 32 ∷ 40 ∷ 110 ∷ 111 ∷ 116 ∷ 41 ∷ 41 ∷ 10 ∷ []
+oneRule =
+    bytes "(min sensor)\n"
+    ++ (bytes "(vary dark)\n"
+    ++ (bytes "(fix)\n"
+    ++ (bytes "(rule (head sensor dark) (body) (not))\n")))
 
 -- `(state lamp dark)`, `(total 1)`
 unfoldable pub listingA : List ℕ
-listingA = 40 ∷ 115 ∷ 116 ∷ 97 ∷ 116 ∷ 101 ∷ 32 ∷ 108 ∷ 97 ∷ 109 ∷ 112 ∷ 32 ∷ 100 ∷ 97 ∷ 114 ∷ 107 ∷ 41 ∷ 10 ∷ 40 ∷ 116 ∷ 111 ∷ 116 ∷ 97 ∷ 108 ∷ 32 ∷ 49 ∷ 41 ∷ 10 ∷ []
+listingA =
+    bytes "(state lamp dark)\n"
+    ++ (bytes "(total 1)\n")
 
 -- the verdict on a set by a text's lines
 abbrev pub verdict : Said → ℕ → ℕ → Verdict

@@ -1,4 +1,5 @@
 // The role of an atom by its class word: 1 to 16 the class, 17 varying, 18 fixed.
+use kinds::limits::ClassWord;
 ghost use mathlib.Core.Path.{_≡_};
 ghost use Rattle.stores.specs.Program.{roleOf};
 
@@ -14,8 +15,8 @@ pub fn role_of(word: u16) -> Role
 {
     match word {
         1..=16 => Role::Minimised(word as usize),
-        17 => Role::Varying,
-        18 => Role::Fixed,
+        ClassWord::VARYING => Role::Varying,
+        ClassWord::FIXED => Role::Fixed,
         _ => Role::Unknown,
     }
 }
