@@ -109,7 +109,7 @@ module _ (x : List ℕ) where
       go true t e r = T-or (sameBytes x y) (some (sameBytes x) names) (inl (same-law x y .1 (sym (same-equal y x (subst T (sym t) tt)))))
       go false t e r = T-or (sameBytes x y) (some (sameBytes x) names) (inr (r e))
 
--- the walk along a chain: link is the next atom plus one
+-- the walk along a chain: link is the links atom plus one
 
 pub record Walk (names : List (List ℕ)) (x : List ℕ) (link : ℕ) : Type 0 where
   pub low : link ≤ length names
@@ -119,10 +119,10 @@ pub record Walk (names : List (List ℕ)) (x : List ℕ) (link : ℕ) : Type 0 w
 pub walk-ends : {names : List (List ℕ)} {x : List ℕ} {link : ℕ} → Walk names x link → link ≤ 0 → Missing ≡ found x names
 walk-ends {names} {x} w l = sym (found-none x 0 names (λ k u e. w .above k (omega arith) u e))
 
-module _ {names : List (List ℕ)} {bytes starts heads next : List ℕ} (ix : Indexed names bytes starts heads next) (x : List ℕ) where
-  pub walk-begins : Walk names x (getD heads (nameHash x) 0)
+module _ {names : List (List ℕ)} {bytes starts firsts links : List ℕ} (ix : Indexed names bytes starts firsts links) (x : List ℕ) where
+  pub walk-begins : Walk names x (getD firsts (nameHash x) 0)
   walk-begins =
-      let e : getD heads (nameHash x) 0 ≡ lastWith (hashes names) (nameHash x) (length names) = ix .head (nameHash x) (hash-small x) in
+      let e : getD firsts (nameHash x) 0 ≡ lastWith (hashes names) (nameHash x) (length names) = ix .first (nameHash x) (hash-small x) in
       record {
         low = omega (arith, last-below (hashes names) (nameHash x) (length names));
         hashed = λ j s. last-hit (hashes names) (nameHash x) (length names) j (sym e ∙ s);
@@ -133,13 +133,13 @@ module _ {names : List (List ℕ)} {bytes starts heads next : List ℕ} (ix : In
     atom-low : link - 1 < length names
     atom-low = omega (arith, w .low)
 
-    next-is : getD next (link - 1) 0 ≡ lastWith (hashes names) (nameHash x) (link - 1)
-    next-is =
+    links-is : getD links (link - 1) 0 ≡ lastWith (hashes names) (nameHash x) (link - 1)
+    links-is =
         let s : link ≡ suc (link - 1) = omega arith in
         ix .link (link - 1) atom-low ∙ ap (λ h. lastWith (hashes names) h (link - 1)) (w .hashed (link - 1) s)
 
-    pub walk-less : getD next (link - 1) 0 < link
-    walk-less = omega (arith, next-is, last-below (hashes names) (nameHash x) (link - 1))
+    pub walk-less : getD links (link - 1) 0 < link
+    walk-less = omega (arith, links-is, last-below (hashes names) (nameHash x) (link - 1))
 
     module _ {r : Bool} (is : r ≡ sameBytes (getD names (link - 1) []) x) where
       pub walk-hit : r ≡ true → At (link - 1) ≡ found x names
@@ -148,49 +148,49 @@ module _ {names : List (List ℕ)} {bytes starts heads next : List ℕ} (ix : In
           let s : 0 + (link - 1) ≡ link - 1 = omega arith in
           ap At (sym s) ∙ sym (found-at x 0 names (link - 1) (ix .different) atom-low here)
 
-      pub walk-again : r ≡ false → Walk names x (getD next (link - 1) 0)
+      pub walk-again : r ≡ false → Walk names x (getD links (link - 1) 0)
       walk-again e = record {
         low = omega (arith, walk-less, w .low);
-        hashed = λ j s. last-hit (hashes names) (nameHash x) (link - 1) j (sym next-is ∙ s);
+        hashed = λ j s. last-hit (hashes names) (nameHash x) (link - 1) j (sym links-is ∙ s);
         above = λ k l u s. go k l u s (ℕ-discrete k (link - 1));
       }
         where
           differs : getD names (link - 1) [] ≡ x → ⊥
           differs s = subst T (sym is ∙ e) (same-law (getD names (link - 1) []) x .1 s)
 
-          go : (k : ℕ) → getD next (link - 1) 0 ≤ k → k < length names → getD names k [] ≡ x → Dec (k ≡ link - 1) → ⊥
+          go : (k : ℕ) → getD links (link - 1) 0 ≤ k → k < length names → getD names k [] ≡ x → Dec (k ≡ link - 1) → ⊥
           go k l u s (yes d) = differs (ap (λ j. getD names j []) (sym d) ∙ s)
           go k l u s (no d) = beyond (decLe link k)
             where
               beyond : Dec (link ≤ k) → ⊥
               beyond (yes m) = w .above k m u s
-              beyond (no m) = last-miss (hashes names) (nameHash x) (link - 1) k (omega (arith, next-is)) (omega arith) (ap nameHash s)
+              beyond (no m) = last-miss (hashes names) (nameHash x) (link - 1) k (omega (arith, links-is)) (omega arith) (ap nameHash s)
 
 -- the same for the names that `starts` counts
-pub record Search (bytes starts heads next x : List ℕ) (link : ℕ) : Type 0 where
-  pub index : Indexed (decodeNames (length starts) bytes) bytes starts heads next
+pub record Search (bytes starts firsts links x : List ℕ) (link : ℕ) : Type 0 where
+  pub index : Indexed (decodeNames (length starts) bytes) bytes starts firsts links
   pub walk : Walk (decodeNames (length starts) bytes) x link
 
-pub search-begins : {bytes starts heads next x : List ℕ} {h : ℕ} → Indexed (decodeNames (length starts) bytes) bytes starts heads next → h ≡ nameHash x
-    → Search bytes starts heads next x (getD heads h 0)
-search-begins {bytes} {starts} {heads} {next} {x} ix e = record {
+pub search-begins : {bytes starts firsts links x : List ℕ} {h : ℕ} → Indexed (decodeNames (length starts) bytes) bytes starts firsts links → h ≡ nameHash x
+    → Search bytes starts firsts links x (getD firsts h 0)
+search-begins {bytes} {starts} {firsts} {links} {x} ix e = record {
   index = ix;
-  walk = subst (λ k. Walk (decodeNames (length starts) bytes) x (getD heads k 0)) (sym e) (walk-begins ix x);
+  walk = subst (λ k. Walk (decodeNames (length starts) bytes) x (getD firsts k 0)) (sym e) (walk-begins ix x);
 }
 
-module _ {bytes starts heads next x : List ℕ} {link : ℕ} (s : Search bytes starts heads next x link) where
+module _ {bytes starts firsts links x : List ℕ} {link : ℕ} (s : Search bytes starts firsts links x link) where
   pub search-ends : link ≤ 0 → Missing ≡ found x (decodeNames (length starts) bytes)
   search-ends l = walk-ends (s .walk) l
 
   module _ (pos : 0 < link) where
-    pub search-inside : (link - 1 < length starts) × (link - 1 < length next)
+    pub search-inside : (link - 1 < length starts) × (link - 1 < length links)
     search-inside =
         let n = length-decode (length starts) bytes in
         let l = s .walk .low in
-        let r = s .index .next-room in
+        let r = s .index .links-room in
         (omega arith, omega arith)
 
-    pub search-less : getD next (link - 1) 0 < link
+    pub search-less : getD links (link - 1) 0 < link
     search-less = walk-less (s .index) x (s .walk) pos
 
     module _ {name : List ℕ} {r : Bool} (is-name : name ≡ getD (decodeNames (length starts) bytes) (link - 1) []) (is : r ≡ sameBytes name x) where
@@ -200,5 +200,5 @@ module _ {bytes starts heads next x : List ℕ} {link : ℕ} (s : Search bytes s
       pub search-hit : r ≡ true → At (link - 1) ≡ found x (decodeNames (length starts) bytes)
       search-hit e = walk-hit (s .index) x (s .walk) pos same e
 
-      pub search-again : r ≡ false → Search bytes starts heads next x (getD next (link - 1) 0)
+      pub search-again : r ≡ false → Search bytes starts firsts links x (getD links (link - 1) 0)
       search-again e = record { index = s .index; walk = walk-again (s .index) x (s .walk) pos same e }

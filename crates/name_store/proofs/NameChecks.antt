@@ -32,48 +32,48 @@ goes-on : (b : Bool) (t : ℕ) {to : ℕ} → cond b (At t) Missing ≡ At to �
 goes-on true t e = (refl, cc)
 goes-on false t e = absurd (let z : _≡_ {A = ℕ} 0 1 = cc in omega arith)
 
-pub record Checking (kind : Kind) (bytes : List ℕ) (atoms : ℕ) (starts₀ heads₀ next₀ starts heads next : List ℕ) (at atom : ℕ) : Type 0 where
+pub record Checking (kind : Kind) (bytes : List ℕ) (atoms : ℕ) (starts₀ firsts₀ links₀ starts firsts links : List ℕ) (at atom : ℕ) : Type 0 where
   pub same-starts : length starts ≡ length starts₀
-  pub same-heads : length heads ≡ length heads₀
-  pub same-next : length next ≡ length next₀
+  pub same-firsts : length firsts ≡ length firsts₀
+  pub same-links : length links ≡ length links₀
   pub counted : atom ≤ atoms
   pub few : atoms ≤ 1100
   pub starts-room : atoms ≤ length starts
-  pub next-room : atoms ≤ length next
-  pub index : Indexed (decodeNames atom bytes) bytes starts heads next
+  pub links-room : atoms ≤ length links
+  pub index : Indexed (decodeNames atom bytes) bytes starts firsts links
   pub here : at ≡ length (encodeNames (decodeNames atom bytes))
   pub small : at ≤ 19 * atom
   pub left : namesFrom? kind (decodeNames atom bytes) (atoms - atom) (drop at bytes) ≡ names? kind atoms bytes
 
-pub check-begins : (kind : Kind) (bytes : List ℕ) (atoms : ℕ) (starts heads next : List ℕ) → atoms ≤ 1100 → atoms ≤ length starts → heads ≡ replicate buckets 0 → atoms ≤ length next
-    → Checking kind bytes atoms starts heads next starts heads next 0 0
+pub check-begins : (kind : Kind) (bytes : List ℕ) (atoms : ℕ) (starts firsts links : List ℕ) → atoms ≤ 1100 → atoms ≤ length starts → firsts ≡ replicate buckets 0 → atoms ≤ length links
+    → Checking kind bytes atoms starts firsts links starts firsts links 0 0
 unfolding decodeNames encodeNames names?
-check-begins kind bytes atoms starts heads next few s e n = record {
+check-begins kind bytes atoms starts firsts links few s e n = record {
   same-starts = refl;
-  same-heads = refl;
-  same-next = refl;
+  same-firsts = refl;
+  same-links = refl;
   counted = zero-le;
   few = few;
   starts-room = s;
-  next-room = n;
-  index = index-empty bytes starts heads next e;
+  links-room = n;
+  index = index-empty bytes starts firsts links e;
   here = refl;
   small = zero-le;
   left = let q : atoms - 0 ≡ atoms = omega arith in ap (λ m. namesFrom? kind [] m bytes) q;
 }
 
-module _ {kind : Kind} {bytes : List ℕ} {atoms : ℕ} {starts₀ heads₀ next₀ starts heads next : List ℕ} {at atom : ℕ} (k : Checking kind bytes atoms starts₀ heads₀ next₀ starts heads next at atom) where
+module _ {kind : Kind} {bytes : List ℕ} {atoms : ℕ} {starts₀ firsts₀ links₀ starts firsts links : List ℕ} {at atom : ℕ} (k : Checking kind bytes atoms starts₀ firsts₀ links₀ starts firsts links at atom) where
   inside : at ≤ length bytes
   inside = omega (arith, k .here, length-append (encodeNames (decodeNames atom bytes)) (drop (length (encodeNames (decodeNames atom bytes))) bytes), ap length (k .index .placed .stored))
 
-  pub check-passed : atoms ≤ atom → (eqb at (length bytes) ≡ names? kind atoms bytes) × (eqb at (length bytes) ≡ true → Indexed (decodeNames atoms bytes) bytes starts heads next)
+  pub check-passed : atoms ≤ atom → (eqb at (length bytes) ≡ names? kind atoms bytes) × (eqb at (length bytes) ≡ true → Indexed (decodeNames atoms bytes) bytes starts firsts links)
   unfolding namesFrom?
   check-passed l =
       let q : atom ≡ atoms = omega (arith, k .counted) in
       let z : atoms - atom ≡ 0 = omega arith in
-      (none-left bytes at inside ∙ sym (ap (λ n. namesFrom? kind (decodeNames atom bytes) n (drop at bytes)) z) ∙ k .left, λ e. subst (λ n. Indexed (decodeNames n bytes) bytes starts heads next) q (k .index))
+      (none-left bytes at inside ∙ sym (ap (λ n. namesFrom? kind (decodeNames atom bytes) n (drop at bytes)) z) ∙ k .left, λ e. subst (λ n. Indexed (decodeNames n bytes) bytes starts firsts links) q (k .index))
 
-  pub check-room : atom < atoms → (atom < length starts) × (atom < length next) × (atom + 1 < 65536) × (at < 65536)
+  pub check-room : atom < atoms → (atom < length starts) × (atom < length links) × (atom + 1 < 65536) × (at < 65536)
   check-room lt = omega (arith, k)
 
   module _ (lt : atom < atoms) {r : Found} (is : r ≡ nameEnd bytes at) where
@@ -129,10 +129,10 @@ module _ {kind : Kind} {bytes : List ℕ} {atoms : ℕ} {starts₀ heads₀ next
           pub check-twice : t ≡ false → false ≡ names? kind atoms bytes
           check-twice e = sym (rw (sym is-allowed ∙ good, sym is-new ∙ e) at step)
 
-          module _ (new : t ≡ true) {starts′ heads′ next′ : List ℕ}
+          module _ (new : t ≡ true) {starts′ firsts′ links′ : List ℕ}
               (es : starts′ ≡ cond t (set starts atom at) starts)
-              (eh : heads′ ≡ cond t (set heads (nameHash x) (atom + 1)) heads)
-              (en : next′ ≡ cond t (set next atom (getD heads (nameHash x) 0)) next) where
+              (eh : firsts′ ≡ cond t (set firsts (nameHash x) (atom + 1)) firsts)
+              (en : links′ ≡ cond t (set links atom (getD firsts (nameHash x) 0)) links) where
             long : length x ≡ to - (at + 1)
             long = length-take-le (to - (at + 1)) (drop (at + 1) bytes) (omega (arith, check-part, length-drop (at + 1) bytes))
 
@@ -144,44 +144,44 @@ module _ {kind : Kind} {bytes : List ℕ} {atoms : ℕ} {starts₀ heads₀ next
                 ∙ ap₂ _∷_ b (ap (λ n. drop n bytes) (sym (add-one at)) ∙ sym (take-append-drop (to - (at + 1)) (drop (at + 1) bytes))
                 ∙ ap (λ l. x ++ l) (drop-drop (to - (at + 1)) (at + 1) bytes ∙ ap (λ n. drop n bytes) q))
 
-            index-more : Indexed (names ++ (x ∷ [])) bytes (set starts (length names) (length (encodeNames names))) (set heads (nameHash x) (length names + 1)) (set next (length names) (getD heads (nameHash x) 0))
+            index-more : Indexed (names ++ (x ∷ [])) bytes (set starts (length names) (length (encodeNames names))) (set firsts (nameHash x) (length names + 1)) (set links (length names) (getD firsts (nameHash x) 0))
             index-more =
                 let n = length-decode atom bytes in
-                entered (k .index) x (drop to bytes) follows (not-seen x names .0 (subst T (sym new ∙ is-new) tt)) (omega (arith, k .starts-room)) (omega (arith, k .next-room))
+                entered (k .index) x (drop to bytes) follows (not-seen x names .0 (subst T (sym new ∙ is-new) tt)) (omega (arith, k .starts-room)) (omega (arith, k .links-room))
 
             grown : decodeNames (atom + 1) bytes ≡ names ++ (x ∷ [])
             grown =
                 let n : length (names ++ (x ∷ [])) ≡ atom + 1 = length-append names (x ∷ []) ∙ ap (λ m. m + 1) (length-decode atom bytes) in
                 ap (λ m. decodeNames m bytes) (sym n) ∙ placed-names (index-more .placed)
 
-            index-set : Indexed (decodeNames (atom + 1) bytes) bytes (set starts atom at) (set heads (nameHash x) (atom + 1)) (set next atom (getD heads (nameHash x) 0))
+            index-set : Indexed (decodeNames (atom + 1) bytes) bytes (set starts atom at) (set firsts (nameHash x) (atom + 1)) (set links atom (getD firsts (nameHash x) 0))
             index-set =
-                subst (λ l. Indexed l bytes (set starts atom at) (set heads (nameHash x) (atom + 1)) (set next atom (getD heads (nameHash x) 0))) (sym grown)
-                (subst₂ (λ (n p : ℕ). Indexed (names ++ (x ∷ [])) bytes (set starts n p) (set heads (nameHash x) (n + 1)) (set next n (getD heads (nameHash x) 0))) (length-decode atom bytes) (sym (k .here)) index-more)
+                subst (λ l. Indexed l bytes (set starts atom at) (set firsts (nameHash x) (atom + 1)) (set links atom (getD firsts (nameHash x) 0))) (sym grown)
+                (subst₂ (λ (n p : ℕ). Indexed (names ++ (x ∷ [])) bytes (set starts n p) (set firsts (nameHash x) (n + 1)) (set links n (getD firsts (nameHash x) 0))) (length-decode atom bytes) (sym (k .here)) index-more)
 
             es′ : starts′ ≡ set starts atom at
             es′ = es ∙ ap (λ b. cond b (set starts atom at) starts) new
 
-            eh′ : heads′ ≡ set heads (nameHash x) (atom + 1)
-            eh′ = eh ∙ ap (λ b. cond b (set heads (nameHash x) (atom + 1)) heads) new
+            eh′ : firsts′ ≡ set firsts (nameHash x) (atom + 1)
+            eh′ = eh ∙ ap (λ b. cond b (set firsts (nameHash x) (atom + 1)) firsts) new
 
-            en′ : next′ ≡ set next atom (getD heads (nameHash x) 0)
-            en′ = en ∙ ap (λ b. cond b (set next atom (getD heads (nameHash x) 0)) next) new
+            en′ : links′ ≡ set links atom (getD firsts (nameHash x) 0)
+            en′ = en ∙ ap (λ b. cond b (set links atom (getD firsts (nameHash x) 0)) links) new
 
-            pub check-again : Checking kind bytes atoms starts₀ heads₀ next₀ starts′ heads′ next′ to (atom + 1)
+            pub check-again : Checking kind bytes atoms starts₀ firsts₀ links₀ starts′ firsts′ links′ to (atom + 1)
             check-again =
                 let s = ap length es′ ∙ length-set starts atom at in
-                let n = ap length en′ ∙ length-set next atom (getD heads (nameHash x) 0) in
+                let n = ap length en′ ∙ length-set links atom (getD firsts (nameHash x) 0) in
                 let size : length (encodeNames (decodeNames (atom + 1) bytes)) ≡ at + suc (length x) =
                 ap (λ l. length (encodeNames l)) grown ∙ ap length (encode-last names x) ∙ length-append (encodeNames names) (nameBytes x) ∙ ap (λ m. m + suc (length x)) (sym (k .here)) in
                 record {
                   same-starts = s ∙ k .same-starts;
-                  same-heads = ap length eh′ ∙ length-set heads (nameHash x) (atom + 1) ∙ k .same-heads;
-                  same-next = n ∙ k .same-next;
+                  same-firsts = ap length eh′ ∙ length-set firsts (nameHash x) (atom + 1) ∙ k .same-firsts;
+                  same-links = n ∙ k .same-links;
                   counted = omega arith;
                   few = k .few;
                   starts-room = omega (arith, k .starts-room);
-                  next-room = omega (arith, k .next-room);
+                  links-room = omega (arith, k .links-room);
                   index = subst₃ (λ (a b c : List ℕ). Indexed (decodeNames (atom + 1) bytes) bytes a b c) (sym es′) (sym eh′) (sym en′) index-set;
                   here = omega (arith, long, check-part);
                   small = omega (arith, long, check-part, k .small, allowed-short kind x (subst T (sym good ∙ is-allowed) tt));

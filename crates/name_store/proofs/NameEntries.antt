@@ -36,14 +36,14 @@ distinct-last (y ∷ names) x d f = (go names (d .0), distinct-last names x (d .
     go (z ∷ l) a = (a .0, go l (a .1))
 
 -- no name yet
-pub index-empty : (bytes starts heads next : List ℕ) → heads ≡ replicate buckets 0 → Indexed [] bytes starts heads next
+pub index-empty : (bytes starts firsts links : List ℕ) → firsts ≡ replicate buckets 0 → Indexed [] bytes starts firsts links
 unfolding encodeNames lastWith
-index-empty bytes starts heads next e = record {
+index-empty bytes starts firsts links e = record {
   placed = record { stored = refl; room = zero-le; start = λ i l. absurd (omega arith) };
   different = tt;
-  heads-room = omega (arith, ap length e, length-replicate {A = ℕ} buckets 0);
-  next-room = zero-le;
-  head = λ h l. ap (λ w. getD w h 0) e ∙ getD-replicate buckets h 0 0 l;
+  firsts-room = omega (arith, ap length e, length-replicate {A = ℕ} buckets 0);
+  links-room = zero-le;
+  first = λ h l. ap (λ w. getD w h 0) e ∙ getD-replicate buckets h 0 0 l;
   link = λ i l. absurd (omega arith);
 }
 
@@ -63,20 +63,20 @@ module _ {names : List (List ℕ)} {bytes starts : List ℕ} (bytes′ : List �
     start = p .start;
   }
 
-  pub index-kept : {heads next : List ℕ} → Indexed names bytes starts heads next → Indexed names bytes′ starts heads next
+  pub index-kept : {firsts links : List ℕ} → Indexed names bytes starts firsts links → Indexed names bytes′ starts firsts links
   index-kept ix = record {
     placed = placed-kept (ix .placed);
     different = ix .different;
-    heads-room = ix .heads-room;
-    next-room = ix .next-room;
-    head = ix .head;
+    firsts-room = ix .firsts-room;
+    links-room = ix .links-room;
+    first = ix .first;
     link = ix .link;
   }
 
 -- x follows the names in the bytes, and is none of them
-module _ {names : List (List ℕ)} {bytes starts heads next : List ℕ} (ix : Indexed names bytes starts heads next)
+module _ {names : List (List ℕ)} {bytes starts firsts links : List ℕ} (ix : Indexed names bytes starts firsts links)
     (x rest : List ℕ) (follows : drop (length (encodeNames names)) bytes ≡ nameBytes x ++ rest) (fresh : All (λ y. x ≢ y) names)
-    (starts-room : length names < length starts) (next-room : length names < length next) where
+    (starts-room : length names < length starts) (links-room : length names < length links) where
   abbrev more : List (List ℕ)
   more = names ++ (x ∷ [])
 
@@ -120,65 +120,65 @@ module _ {names : List (List ℕ)} {bytes starts heads next : List ℕ} (ix : In
       ap (lastWith (hashes more) h) counts
       ∙ ap (λ k. cond (eqb k h) (suc (length names)) (lastWith (hashes more) h (length names))) (ap nameHash new-name)
 
-  head-more : (h : ℕ) → h < buckets → getD (set heads (nameHash x) (length names + 1)) h 0 ≡ lastWith (hashes more) h (length more)
+  head-more : (h : ℕ) → h < buckets → getD (set firsts (nameHash x) (length names + 1)) h 0 ≡ lastWith (hashes more) h (length more)
   head-more h l = go (ℕ-discrete h (nameHash x))
     where
-      go : Dec (h ≡ nameHash x) → getD (set heads (nameHash x) (length names + 1)) h 0 ≡ lastWith (hashes more) h (length more)
+      go : Dec (h ≡ nameHash x) → getD (set firsts (nameHash x) (length names + 1)) h 0 ≡ lastWith (hashes more) h (length more)
       go (yes e) =
-          ap (λ k. getD (set heads (nameHash x) (length names + 1)) k 0) e
-          ∙ getD-set-same heads (nameHash x) (length names + 1) 0 (omega (arith, ix .heads-room, hash-small x))
+          ap (λ k. getD (set firsts (nameHash x) (length names + 1)) k 0) e
+          ∙ getD-set-same firsts (nameHash x) (length names + 1) 0 (omega (arith, ix .firsts-room, hash-small x))
           ∙ add-one (length names)
           ∙ sym (rw (eq-eqb (nameHash x) h (sym e)) at (last-more h))
       go (no e) =
-          getD-set-other heads (nameHash x) h (length names + 1) 0 e
-          ∙ ix .head h l
+          getD-set-other firsts (nameHash x) h (length names + 1) 0 e
+          ∙ ix .first h l
           ∙ chain h (length names) (omega arith)
           ∙ sym (rw (ne-eqb (nameHash x) h (λ k. e (sym k))) at (last-more h))
 
-  link-more : (i : ℕ) → i < length more → getD (set next (length names) (getD heads (nameHash x) 0)) i 0 ≡ lastWith (hashes more) (hashes more i) i
+  link-more : (i : ℕ) → i < length more → getD (set links (length names) (getD firsts (nameHash x) 0)) i 0 ≡ lastWith (hashes more) (hashes more i) i
   link-more i l = go (ℕ-discrete i (length names))
     where
-      go : Dec (i ≡ length names) → getD (set next (length names) (getD heads (nameHash x) 0)) i 0 ≡ lastWith (hashes more) (hashes more i) i
+      go : Dec (i ≡ length names) → getD (set links (length names) (getD firsts (nameHash x) 0)) i 0 ≡ lastWith (hashes more) (hashes more i) i
       go (yes e) =
-          ap (λ k. getD (set next (length names) (getD heads (nameHash x) 0)) k 0) e
-          ∙ getD-set-same next (length names) (getD heads (nameHash x) 0) 0 next-room
-          ∙ ix .head (nameHash x) (hash-small x)
+          ap (λ k. getD (set links (length names) (getD firsts (nameHash x) 0)) k 0) e
+          ∙ getD-set-same links (length names) (getD firsts (nameHash x) 0) 0 links-room
+          ∙ ix .first (nameHash x) (hash-small x)
           ∙ chain (nameHash x) (length names) (omega arith)
           ∙ sym (ap (λ k. lastWith (hashes more) (hashes more k) k) e ∙ ap (λ h. lastWith (hashes more) h (length names)) (ap nameHash new-name))
       go (no e) =
           let u : i < length names = omega (arith, counts) in
-          getD-set-other next (length names) i (getD heads (nameHash x) 0) 0 e
+          getD-set-other links (length names) i (getD firsts (nameHash x) 0) 0 e
           ∙ ix .link i u
           ∙ chain (hashes names i) i (omega arith)
           ∙ ap (λ h. lastWith (hashes more) h i) (sym (ap nameHash (old-name i u)))
 
-  pub entered : Indexed more bytes (set starts (length names) at) (set heads (nameHash x) (length names + 1)) (set next (length names) (getD heads (nameHash x) 0))
+  pub entered : Indexed more bytes (set starts (length names) at) (set firsts (nameHash x) (length names + 1)) (set links (length names) (getD firsts (nameHash x) 0))
   entered = record {
     placed = placed-more;
     different = distinct-last names x (ix .different) fresh;
-    heads-room = omega (arith, ix .heads-room, length-set heads (nameHash x) (length names + 1));
-    next-room = omega (arith, counts, length-set next (length names) (getD heads (nameHash x) 0));
-    head = head-more;
+    firsts-room = omega (arith, ix .firsts-room, length-set firsts (nameHash x) (length names + 1));
+    links-room = omega (arith, counts, length-set links (length names) (getD firsts (nameHash x) 0));
+    first = head-more;
     link = link-more;
   }
 
 -- the part of `starts` that is filled
 
-module _ (n : ℕ) {bytes starts heads next : List ℕ} (ix : Indexed (decodeNames n bytes) bytes starts heads next) where
+module _ (n : ℕ) {bytes starts firsts links : List ℕ} (ix : Indexed (decodeNames n bytes) bytes starts firsts links) where
   pub length-filled : length (take n starts) ≡ n
   length-filled = length-take-le n starts (omega (arith, ix .placed .room, length-decode n bytes))
 
-  pub filled : Indexed (decodeNames (length (take n starts)) bytes) bytes (take n starts) heads next
-  filled = subst (λ m. Indexed (decodeNames m bytes) bytes (take n starts) heads next) (sym length-filled) (record {
+  pub filled : Indexed (decodeNames (length (take n starts)) bytes) bytes (take n starts) firsts links
+  filled = subst (λ m. Indexed (decodeNames m bytes) bytes (take n starts) firsts links) (sym length-filled) (record {
     placed = record {
       stored = ix .placed .stored;
       room = omega (arith, length-filled, length-decode n bytes);
       start = λ i l. getD-take n starts i 0 (omega (arith, length-decode n bytes)) ∙ ix .placed .start i l;
     };
     different = ix .different;
-    heads-room = ix .heads-room;
-    next-room = ix .next-room;
-    head = ix .head;
+    firsts-room = ix .firsts-room;
+    links-room = ix .links-room;
+    first = ix .first;
     link = ix .link;
   })
 

@@ -55,11 +55,11 @@ pub record Placed (names : List (List ℕ)) (bytes starts : List ℕ) : Type 0 w
   pub room : length names ≤ length starts
   pub start : (i : ℕ) → i < length names → getD starts i 0 ≡ place names i
 
--- `heads` has for each hash the last atom with it, `next` for each atom the one before with its hash, each plus one
-pub record Indexed (names : List (List ℕ)) (bytes starts heads next : List ℕ) : Type 0 where
+-- `firsts` has for each hash the last atom with it, `links` for each atom the one before with its hash, each plus one
+pub record Indexed (names : List (List ℕ)) (bytes starts firsts links : List ℕ) : Type 0 where
   pub placed : Placed names bytes starts
   pub different : Distinct names
-  pub heads-room : buckets ≤ length heads
-  pub next-room : length names ≤ length next
-  pub head : (h : ℕ) → h < buckets → getD heads h 0 ≡ lastWith (hashes names) h (length names)
-  pub link : (i : ℕ) → i < length names → getD next i 0 ≡ lastWith (hashes names) (hashes names i) i
+  pub firsts-room : buckets ≤ length firsts
+  pub links-room : length names ≤ length links
+  pub first : (h : ℕ) → h < buckets → getD firsts h 0 ≡ lastWith (hashes names) h (length names)
+  pub link : (i : ℕ) → i < length names → getD links i 0 ≡ lastWith (hashes names) (hashes names i) i

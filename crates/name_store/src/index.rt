@@ -81,53 +81,53 @@ pub fn name_at<'a>(bytes: &'a [u8], starts: &[u16], atom: usize) -> &'a [u8]
 pub fn find_hashed(
     bytes: &[u8],
     starts: &[u16],
-    heads: &[u16],
-    next: &[u16],
+    firsts: &[u16],
+    links: &[u16],
     name: &[u8],
     h: usize,
 ) -> Found
-    requires { ⌜ Indexed (decodeNames (length (now starts)) (now bytes)) (now bytes) (now starts) (now heads) (now next) ⌝ }
+    requires { ⌜ Indexed (decodeNames (length (now starts)) (now bytes)) (now bytes) (now starts) (now firsts) (now links) ⌝ }
     requires { ⌜ h ≡ nameHash (now name) ⌝ }
     ensures { λ r. ⌜ r ≡ found (now (name .entry)) (decodeNames (length (now (starts .entry))) (now (bytes .entry))) ⌝ }
 {
-    let mut link = heads[h] as usize;
+    let mut link = firsts[h] as usize;
     while 0 < link {
         let atom = link - 1;
         if same_bytes(name_at(bytes, starts, atom), name) {
             return Found::At(atom);
         }
-        link = next[atom] as usize;
+        link = links[atom] as usize;
     }
     Found::Missing
 }
 
 // The number of a name; `starts` has a place for each atom.
-pub fn find(bytes: &[u8], starts: &[u16], heads: &[u16], next: &[u16], name: &[u8]) -> Found
-    requires { ⌜ Indexed (decodeNames (length (now starts)) (now bytes)) (now bytes) (now starts) (now heads) (now next) ⌝ }
+pub fn find(bytes: &[u8], starts: &[u16], firsts: &[u16], links: &[u16], name: &[u8]) -> Found
+    requires { ⌜ Indexed (decodeNames (length (now starts)) (now bytes)) (now bytes) (now starts) (now firsts) (now links) ⌝ }
     ensures { λ r. ⌜ r ≡ found (now (name .entry)) (decodeNames (length (now (starts .entry))) (now (bytes .entry))) ⌝ }
 {
     let h = hash(name);
-    find_hashed(bytes, starts, heads, next, name, h)
+    find_hashed(bytes, starts, firsts, links, name, h)
 }
 
 // Enters the name of an atom, whose length byte stands at `at`.
 pub fn enter(
     name: &[u8],
     starts: &mut [u16],
-    heads: &mut [u16],
-    next: &mut [u16],
+    firsts: &mut [u16],
+    links: &mut [u16],
     atom: usize,
     at: usize,
 )
-    requires { ⌜ (atom < length (now starts)) × (buckets ≤ length (now heads)) × (atom < length (now next)) × (atom + 1 < 65536) × (at < 65536) ⌝ }
+    requires { ⌜ (atom < length (now starts)) × (buckets ≤ length (now firsts)) × (atom < length (now links)) × (atom + 1 < 65536) × (at < 65536) ⌝ }
     ensures { λ r. ⌜ now (starts .exit) ≡ set (now (starts .entry)) atom at ⌝ }
-    ensures { λ r. ⌜ now (heads .exit) ≡ set (now (heads .entry)) (nameHash (now (name .entry))) (atom + 1) ⌝ }
-    ensures { λ r. ⌜ now (next .exit) ≡ set (now (next .entry)) atom (getD (now (heads .entry)) (nameHash (now (name .entry))) 0) ⌝ }
+    ensures { λ r. ⌜ now (firsts .exit) ≡ set (now (firsts .entry)) (nameHash (now (name .entry))) (atom + 1) ⌝ }
+    ensures { λ r. ⌜ now (links .exit) ≡ set (now (links .entry)) atom (getD (now (firsts .entry)) (nameHash (now (name .entry))) 0) ⌝ }
 {
     let h = hash(name);
     starts[atom] = at as u16;
-    next[atom] = heads[h];
-    heads[h] = (atom + 1) as u16;
+    links[atom] = firsts[h];
+    firsts[h] = (atom + 1) as u16;
 }
 
 // Enters the name of an atom, unless an atom before has it.
@@ -135,21 +135,21 @@ pub fn enter_new(
     bytes: &[u8],
     name: &[u8],
     starts: &mut [u16],
-    heads: &mut [u16],
-    next: &mut [u16],
+    firsts: &mut [u16],
+    links: &mut [u16],
     atom: usize,
     at: usize,
 ) -> bool
-    requires { ⌜ Indexed (decodeNames atom (now bytes)) (now bytes) (now starts) (now heads) (now next) ⌝ }
-    requires { ⌜ (atom < length (now starts)) × (atom < length (now next)) × (atom + 1 < 65536) × (at < 65536) ⌝ }
+    requires { ⌜ Indexed (decodeNames atom (now bytes)) (now bytes) (now starts) (now firsts) (now links) ⌝ }
+    requires { ⌜ (atom < length (now starts)) × (atom < length (now links)) × (atom + 1 < 65536) × (at < 65536) ⌝ }
     ensures { λ r. ⌜ r ≡ new? (now (name .entry)) (decodeNames atom (now (bytes .entry))) ⌝ }
     ensures { λ r. ⌜ now (starts .exit) ≡ cond r (set (now (starts .entry)) atom at) (now (starts .entry)) ⌝ }
-    ensures { λ r. ⌜ now (heads .exit) ≡ cond r (set (now (heads .entry)) (nameHash (now (name .entry))) (atom + 1)) (now (heads .entry)) ⌝ }
-    ensures { λ r. ⌜ now (next .exit) ≡ cond r (set (now (next .entry)) atom (getD (now (heads .entry)) (nameHash (now (name .entry))) 0)) (now (next .entry)) ⌝ }
+    ensures { λ r. ⌜ now (firsts .exit) ≡ cond r (set (now (firsts .entry)) (nameHash (now (name .entry))) (atom + 1)) (now (firsts .entry)) ⌝ }
+    ensures { λ r. ⌜ now (links .exit) ≡ cond r (set (now (links .entry)) atom (getD (now (firsts .entry)) (nameHash (now (name .entry))) 0)) (now (links .entry)) ⌝ }
 {
-    let Found::Missing = find(bytes, &starts[..atom], heads, next, name) else {
+    let Found::Missing = find(bytes, &starts[..atom], firsts, links, name) else {
         return false;
     };
-    enter(name, starts, heads, next, atom, at);
+    enter(name, starts, firsts, links, atom, at);
     true
 }

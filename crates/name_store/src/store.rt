@@ -25,12 +25,12 @@ pub fn index_names(
     kind: Kind,
     atoms: usize,
     starts: &mut [u16],
-    heads: &mut [u16],
-    next: &mut [u16],
+    firsts: &mut [u16],
+    links: &mut [u16],
 ) -> bool
-    requires { ⌜ (atoms ≤ atomLimit Kind.Plain) × (atoms ≤ length (now starts)) × (now heads ≡ replicate buckets 0) × (atoms ≤ length (now next)) ⌝ }
+    requires { ⌜ (atoms ≤ atomLimit Kind.Plain) × (atoms ≤ length (now starts)) × (now firsts ≡ replicate buckets 0) × (atoms ≤ length (now links)) ⌝ }
     ensures { λ r. ⌜ r ≡ names? kind atoms (now (bytes .entry)) ⌝ }
-    ensures { λ r. ⌜ (r ≡ true → Indexed (decodeNames atoms (now (bytes .entry))) (now (bytes .entry)) (now (starts .exit)) (now (heads .exit)) (now (next .exit))) ⌝ }
+    ensures { λ r. ⌜ (r ≡ true → Indexed (decodeNames atoms (now (bytes .entry))) (now (bytes .entry)) (now (starts .exit)) (now (firsts .exit)) (now (links .exit))) ⌝ }
 {
     let mut at: usize = 0;
     let mut atom: usize = 0;
@@ -43,7 +43,7 @@ pub fn index_names(
         if !is_allowed(kind, name) {
             return false;
         }
-        if !index::enter_new(bytes, name, starts, heads, next, atom, at) {
+        if !index::enter_new(bytes, name, starts, firsts, links, atom, at) {
             return false;
         }
         at = to;
@@ -58,7 +58,7 @@ pub fn check_names(bytes: &[u8], kind: Kind, atoms: usize) -> bool
     ensures { λ r. ⌜ r ≡ names? kind atoms (now (bytes .entry)) ⌝ }
 {
     let mut starts = [0u16; Plain::ATOMS];
-    let mut heads = [0u16; index::BUCKETS];
-    let mut next = [0u16; Plain::ATOMS];
-    index_names(bytes, kind, atoms, &mut starts, &mut heads, &mut next)
+    let mut firsts = [0u16; index::BUCKETS];
+    let mut links = [0u16; Plain::ATOMS];
+    index_names(bytes, kind, atoms, &mut starts, &mut firsts, &mut links)
 }

@@ -59,7 +59,7 @@ blocks-begin i h r k = record { inside = i; short = h; left = refl; room = r; he
 
 module _ {s : List ℕ} {from at : ℕ} {bytes starts heads links : List ℕ} (h : Blocks s from at bytes starts heads links) where
   pub block-stored : {heads₀ : List ℕ} → heads₀ ≡ replicate (length heads) 0 → Stored (decodeNames 0 bytes) bytes starts heads₀ links 0 0
-  block-stored e = empty-stored (empty-index bytes starts links e (h .heads-room))
+  block-stored e = empty-stored (empty-index bytes starts links e (h .firsts-room))
 
   module _ {bytes′ starts′ heads′ links′ : List ℕ} {r : Entered} (w : EnteredIs (decodeNames 0 bytes) s at bytes′ starts′ heads′ links′ r) where
     block : EnteredIs [] s at bytes′ starts′ heads′ links′ r
@@ -110,7 +110,7 @@ module _ {s : List ℕ} {from at : ℕ} {bytes starts heads links : List ℕ} (h
               short = all-app-r (λ x. length x ≤ 18) (some-in .passed) (items (drop rest s)) (subst Short (sym (some-in .all)) (h .short));
               left = sym (rw (sym known, g) at parts) ∙ h .left;
               room = record { bytes-long = b ∙ h .room .bytes-long; starts-long = c ∙ h .room .starts-long; links-long = l ∙ h .room .links-long };
-              heads-room = omega (arith, m, h .heads-room);
+              heads-room = omega (arith, m, h .firsts-room);
             }
 
 -- heads cleared up to i

@@ -46,8 +46,8 @@ module _ {names : List (List ℕ)} {bytes starts heads links : List ℕ} (ix : I
         record {
           placed = record { stored = ap (λ l. old ++ l) follows ∙ sym split; room = ix .placed .room; start = ix .placed .start };
           different = ix .different;
-          heads-room = ix .heads-room;
-          next-room = ix .next-room;
+          heads-room = ix .firsts-room;
+          next-room = ix .links-room;
           head = ix .head;
           link = ix .link;
         }

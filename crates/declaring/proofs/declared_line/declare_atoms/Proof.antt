@@ -43,7 +43,7 @@ past-limit-requires c κs =
     let h = c .before .before .before .before .before .before .before .before .before .before .before .before .before .before .before .before .before .before .before .before .before .before .before .before .before .before .before .before .before .before .pre .1 .1 in
     let p = c .before .before .before .before .before .before .before .before .before .before .before .before .before .before .before .before .before .before .before .before .before .before .before .before .before .before .before .before .before .before .pre .0 in
     let s = entered-some (c .before .before .before .before .before .before .before .before .before .before .before .before .before .before .before .enter-names .ensures) (c .before .before .before .before .before .at .given .1) in
-    ((s .inside, rest-short h p (c .before .before .before .before .before .before .before .before .before .before .before .before .before .before .before .before .before .before .before .before .before .before .is-expected .ensures) (c .before .before .before .before .before .before .before .before .before .before .before .before .before .before .before .before .before .before .before .before .before .if1 .left) (c .before .before .before .before .before .before .before .before .before .before .before .before .before .before .before .before .before .before .before .before .if2 .left) s (c .before .before .before .before .before .before .before .before .before .before .before .before .before .before .before .enter-names .kept .1 .1 .1 .0)), ((room-kept h p (c .before .before .before .before .before .before .before .before .before .before .before .before .before .before .before .enter-names .kept .1 .1 .0) (c .before .before .before .before .before .before .before .before .before .before .before .before .before .before .before .enter-names .kept .1 .1 .1 .0) (c .before .before .before .before .before .before .before .before .before .before .before .before .before .before .before .enter-names .kept .1 .1 .1 .1 .1 .0), s .index .heads-room), full-index h p (c .before .before .before .before .before .before .before .before .before .before .before .before .before .before .before .before .before .before .before .before .before .before .is-expected .ensures) (c .before .before .before .before .before .before .before .before .before .before .before .before .before .before .before .before .before .before .before .before .before .if1 .left) (c .before .before .before .before .before .before .before .before .before .before .before .before .before .before .before .before .before .before .before .before .if2 .left) s (c .before .before .before .before .before .before .before .before .before .before .before .before .before .before .before .enter-names .kept .1 .1 .1 .0)))
+    ((s .inside, rest-short h p (c .before .before .before .before .before .before .before .before .before .before .before .before .before .before .before .before .before .before .before .before .before .before .is-expected .ensures) (c .before .before .before .before .before .before .before .before .before .before .before .before .before .before .before .before .before .before .before .before .before .if1 .left) (c .before .before .before .before .before .before .before .before .before .before .before .before .before .before .before .before .before .before .before .before .if2 .left) s (c .before .before .before .before .before .before .before .before .before .before .before .before .before .before .before .enter-names .kept .1 .1 .1 .0)), ((room-kept h p (c .before .before .before .before .before .before .before .before .before .before .before .before .before .before .before .enter-names .kept .1 .1 .0) (c .before .before .before .before .before .before .before .before .before .before .before .before .before .before .before .enter-names .kept .1 .1 .1 .0) (c .before .before .before .before .before .before .before .before .before .before .before .before .before .before .before .enter-names .kept .1 .1 .1 .1 .1 .0), s .index .firsts-room), full-index h p (c .before .before .before .before .before .before .before .before .before .before .before .before .before .before .before .before .before .before .before .before .before .before .is-expected .ensures) (c .before .before .before .before .before .before .before .before .before .before .before .before .before .before .before .before .before .before .before .before .before .if1 .left) (c .before .before .before .before .before .before .before .before .before .before .before .before .before .before .before .before .before .before .before .before .if2 .left) s (c .before .before .before .before .before .before .before .before .before .before .before .before .before .before .before .enter-names .kept .1 .1 .1 .0)))
 
 enum-told : tie.Need-enum-told
 enum-told c = search needs

@@ -19,29 +19,29 @@ mul-starts c = search needs
 slice-write-starts : tie.Need-slice-write-starts
 slice-write-starts c = search needs
 
-mul-next : tie.Need-mul-next
-mul-next c = omega (arith, c .hash .ensures, hash-small (c .before .before .before .before .before .args .name .now))
+mul-links : tie.Need-mul-links
+mul-links c = omega (arith, c .hash .ensures, hash-small (c .before .before .before .before .before .args .name .now))
 
-slice-read-next : tie.Need-slice-read-next
-slice-read-next c = omega (arith, c .before .hash .ensures, hash-small (c .before .before .before .before .before .before .args .name .now))
+slice-read-links : tie.Need-slice-read-links
+slice-read-links c = omega (arith, c .before .hash .ensures, hash-small (c .before .before .before .before .before .before .args .name .now))
 
-mul-next-2 : tie.Need-mul-next-2
-mul-next-2 c = search needs
+mul-links-2 : tie.Need-mul-links-2
+mul-links-2 c = search needs
 
-slice-write-next : tie.Need-slice-write-next
-slice-write-next c = search needs
+slice-write-links : tie.Need-slice-write-links
+slice-write-links c = search needs
 
-add-heads : tie.Need-add-heads
-add-heads c = search needs
+add-firsts : tie.Need-add-firsts
+add-firsts c = search needs
 
-cast-heads : tie.Need-cast-heads
-cast-heads c = search needs
+cast-firsts : tie.Need-cast-firsts
+cast-firsts c = search needs
 
-mul-heads : tie.Need-mul-heads
-mul-heads c = omega (arith, c .before .hash .ensures, hash-small (c .before .before .before .before .before .before .args .name .now))
+mul-firsts : tie.Need-mul-firsts
+mul-firsts c = omega (arith, c .before .hash .ensures, hash-small (c .before .before .before .before .before .before .args .name .now))
 
-slice-write-heads : tie.Need-slice-write-heads
-slice-write-heads c = omega (arith, c .before .hash .ensures, hash-small (c .before .before .before .before .before .before .args .name .now))
+slice-write-firsts : tie.Need-slice-write-firsts
+slice-write-firsts c = omega (arith, c .before .hash .ensures, hash-small (c .before .before .before .before .before .before .args .name .now))
 
 same-length : tie.Need-same-length
 same-length c = search needs
@@ -56,7 +56,7 @@ returns : tie.Need-returns
 returns c =
     let a = c .before .before .before .before .before .before .args in
     let e = c .before .hash .ensures in
-    (refl, (ap (λ h. set (a .heads .now) h (a .atom + 1)) e, ap (λ h. set (a .next .now) (a .atom) (getD (a .heads .now) h 0)) e))
+    (refl, (ap (λ h. set (a .firsts .now) h (a .atom + 1)) e, ap (λ h. set (a .links .now) (a .atom) (getD (a .firsts .now) h 0)) e))
 
 pub enter-spec : {M : Type 1} → statement M
 enter-spec =
@@ -66,14 +66,14 @@ enter-spec =
     cast-starts
     mul-starts
     slice-write-starts
-    mul-next
-    slice-read-next
-    mul-next-2
-    slice-write-next
-    add-heads
-    cast-heads
-    mul-heads
-    slice-write-heads
+    mul-links
+    slice-read-links
+    mul-links-2
+    slice-write-links
+    add-firsts
+    cast-firsts
+    mul-firsts
+    slice-write-firsts
     same-length
     same-length-2
     same-length-3

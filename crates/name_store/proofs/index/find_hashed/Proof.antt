@@ -7,16 +7,16 @@ use Rattle.name_store.proofs.index.find_hashed.Statement.{statement}
 use Rattle.name_store.proofs.index.find_hashed.Tie as tie
 
 abbrev Inv-loop : tie.InvT-loop
-Inv-loop bytes starts heads next name h link₀ link = Search bytes starts heads next name link
+Inv-loop bytes starts firsts links name h link₀ link = Search bytes starts firsts links name link
 
 abbrev μ-loop : tie.MeasureT-loop
-μ-loop bytes starts heads next name h link₀ link = link
+μ-loop bytes starts firsts links name h link₀ link = link
 
 mul-link : tie.Need-mul-link Inv-loop μ-loop
-mul-link c = omega (arith, c .before .before .before .before .before .pre .0 .heads-room, c .before .before .before .before .before .pre .1, hash-small (c .before .before .before .before .before .args .name .now))
+mul-link c = omega (arith, c .before .before .before .before .before .pre .0 .firsts-room, c .before .before .before .before .before .pre .1, hash-small (c .before .before .before .before .before .args .name .now))
 
 shared-slice-read-link : tie.Need-shared-slice-read-link Inv-loop μ-loop
-shared-slice-read-link c = omega (arith, c .before .before .before .before .before .before .pre .0 .heads-room, c .before .before .before .before .before .before .pre .1, hash-small (c .before .before .before .before .before .before .args .name .now))
+shared-slice-read-link c = omega (arith, c .before .before .before .before .before .before .pre .0 .firsts-room, c .before .before .before .before .before .before .pre .1, hash-small (c .before .before .before .before .before .before .args .name .now))
 
 cast-link : tie.Need-cast-link Inv-loop μ-loop
 cast-link c = omega (arith, c .shared-slice-known6 .given (c .before .before .before .before .before .before .args .h))

@@ -7,13 +7,13 @@ use Rattle.name_store.proofs.store.index_names.Statement.{statement}
 use Rattle.name_store.proofs.store.index_names.Tie as tie
 
 abbrev Inv-loop : tie.InvT-loop
-Inv-loop bytes kind atoms starts₀ heads₀ next₀ at₀ atom₀ starts heads next at atom = Checking kind bytes atoms starts₀ heads₀ next₀ starts heads next at atom
+Inv-loop bytes kind atoms starts₀ firsts₀ links₀ at₀ atom₀ starts firsts links at atom = Checking kind bytes atoms starts₀ firsts₀ links₀ starts firsts links at atom
 
 abbrev μ-loop : tie.MeasureT-loop
-μ-loop bytes kind atoms starts₀ heads₀ next₀ at₀ atom₀ starts heads next at atom = atoms - atom
+μ-loop bytes kind atoms starts₀ firsts₀ links₀ at₀ atom₀ starts firsts links at atom = atoms - atom
 
 loop-holds : tie.Need-loop-holds Inv-loop μ-loop
-loop-holds c = let a = c .before .before .before .before .args in check-begins (a .kind) (a .bytes .now) (a .atoms) (a .starts .now) (a .heads .now) (a .next .now) (c .before .before .before .before .pre .0) (c .before .before .before .before .pre .1) (c .before .before .before .before .pre .2) (c .before .before .before .before .pre .3)
+loop-holds c = let a = c .before .before .before .before .args in check-begins (a .kind) (a .bytes .now) (a .atoms) (a .starts .now) (a .firsts .now) (a .links .now) (c .before .before .before .before .pre .0) (c .before .before .before .before .pre .1) (c .before .before .before .before .pre .2) (c .before .before .before .before .pre .3)
 
 name-end-requires : tie.Need-name-end-requires Inv-loop μ-loop
 name-end-requires c κs = search needs
