@@ -8,6 +8,7 @@ use mathlib.Core.Bool.{Bool, true, false, _&&_, cond}
 use lib.Dec.{T, leb, eqb, leb→le}
 use lib.ListN.{length, getD, take, drop, set, replicate, length-append, length-drop, length-set, take-append-drop}
 use lib.Seq.{length-take-le, drop-cons, drop-drop}
+use Rattle.kinds.specs.Limits.{longestEntry}
 use Rattle.kinds.specs.declared.limits.Kind.{Kind}
 use Rattle.rules.proofs.Booleans.{T-and-r}
 use Rattle.rules.proofs.Lists.{none-left}
@@ -42,7 +43,7 @@ pub record Checking (kind : Kind) (bytes : List ℕ) (atoms : ℕ) (starts₀ fi
   pub links-room : atoms ≤ length links
   pub index : Indexed (decodeNames atom bytes) bytes starts firsts links
   pub here : at ≡ length (encodeNames (decodeNames atom bytes))
-  pub small : at ≤ 19 * atom
+  pub small : at ≤ longestEntry * atom
   pub left : namesFrom? kind (decodeNames atom bytes) (atoms - atom) (drop at bytes) ≡ names? kind atoms bytes
 
 pub check-begins : (kind : Kind) (bytes : List ℕ) (atoms : ℕ) (starts firsts links : List ℕ) → atoms ≤ 1100 → atoms ≤ length starts → firsts ≡ replicate buckets 0 → atoms ≤ length links

@@ -9,6 +9,7 @@ use mathlib.Core.Bool.{Bool, true, false, not, _&&_, _||_, cond}
 use lib.Dec.{T, leb, eqb, leb→le, le→leb, eqb→eq, eqb-refl}
 use lib.ListN.{length, getD, take, drop, length-append, length-drop, take-append-drop}
 use lib.Seq.{length-take-le, take-append-seam, drop-append-seam}
+use Rattle.kinds.specs.Limits.{longestName, longestEntry}
 use Rattle.kinds.specs.declared.limits.Kind.{Kind}
 use Rattle.kinds.specs.declared.limits.Kind.the-variants.{Plain, Preference}
 use Rattle.rules.specs.Lists.{All, Distinct, some}
@@ -81,7 +82,7 @@ module _ (kind : Kind) where
       (λ k. absurd (no-wrong k)))
       h
 
-  class-short : (bs : List ℕ) → T (takes kind (nameClass bs)) → length bs ≤ 18
+  class-short : (bs : List ℕ) → T (takes kind (nameClass bs)) → length bs ≤ longestName
   unfolding nameClass
   class-short bs h =
       picked (house? bs) (sized bs House) (generated bs)
@@ -93,7 +94,7 @@ module _ (kind : Kind) where
       (λ k. absurd (no-wrong k))))
       h
 
-  pub allowed-short : (bs : List ℕ) → T (allowed kind bs) → length bs ≤ 18
+  pub allowed-short : (bs : List ℕ) → T (allowed kind bs) → length bs ≤ longestName
   unfolding allowed
   allowed-short bs h = class-short bs h
 
@@ -222,7 +223,7 @@ names-law kind n bs = (λ h. (decodeNames n bs, decoded-names kind n bs h), λ p
     back names r = subst₂ (λ (m : ℕ) (l : List ℕ). T (namesFrom? kind [] m l)) (r .form .count) (r .bytes) (complete kind [] names (r .form .all-allowed) (r .form .different) (none names))
 
 -- a store of short names is short
-pub encoded-length : (names : List (List ℕ)) → All (λ x. length x ≤ 18) names → length (encodeNames names) ≤ 19 * length names
+pub encoded-length : (names : List (List ℕ)) → All (λ x. length x ≤ longestName) names → length (encodeNames names) ≤ longestEntry * length names
 unfolding encodeNames
 encoded-length [] h = omega arith
 encoded-length (x ∷ names) h = omega (arith, length-append x (encodeNames names), encoded-length names (h .1), h .0)
