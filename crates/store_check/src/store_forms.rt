@@ -1,4 +1,5 @@
 // The check of a rule store (document 01, "The rule store is a slice of u16"; refusal 10).
+use kinds::limits::Counts;
 use kinds::limits::Kind;
 use kinds::limits::Preference;
 use rule_check::rule_forms::marked_rules;
@@ -89,10 +90,13 @@ fn program_form(words: &[u16], kind: Kind) -> bool
     let atoms = words[1] as usize;
     let classes = words[2] as usize;
     let rules = words[3] as usize;
-    if kind.atoms() < atoms {
-        return false;
-    }
-    if kind.rules() < rules {
+    let counts = Counts {
+        atoms,
+        rules,
+        occurrences: 0,
+    };
+    let counts_fit = counts.within(kind);
+    if !counts_fit {
         return false;
     }
     let classes_fit = classes_form(words, kind, atoms, classes);

@@ -119,7 +119,7 @@ preference-rules = (refl, refl)
 -- the limits as laws
 
 past-rules : (kind : Kind) (n k r : ℕ) (ws : List ℕ) → ruleLimit kind < r → program? kind n k r ws ≡ false
-past-rules kind n k r ws h = is-false (program? kind n k r ws) (λ t. let s = simp and-iff at t in omega (arith, leb→le r (ruleLimit kind) (s .1 .0)))
+past-rules kind n k r ws h = is-false (program? kind n k r ws) (λ t. let s = simp and-iff at t in omega (arith, leb→le r (ruleLimit kind) (s .0 .1 .0)))
 
 past-occurrences : (kind : Kind) (n used : ℕ) (ws : List ℕ) → occurrenceLimit kind < used + places ws → rule? kind n used ws ≡ false
 past-occurrences kind n used ws h = is-false (rule? kind n used ws) (λ t. omega (arith, rule-tested kind n used ws .0 t .fits))

@@ -115,14 +115,14 @@ unfolding encode
 program-decoded kind n k r ws h =
     let t = simp and-iff at h in
     let c = wordCount kind n in
-    let here = rules-decoded kind n 0 r (drop c ws) (omega arith) (t .1 .1 .1) in
+    let here = rules-decoded kind n 0 r (drop c ws) (omega arith) (t .1 .1) in
     record {
       form =
           record {
-            atoms-fit = leb→le n (atomLimit kind) (t .0);
-            rules-fit = omega (arith, leb→le r (ruleLimit kind) (t .1 .0), rules-count r (drop c ws));
+            atoms-fit = leb→le n (atomLimit kind) (t .0 .0);
+            rules-fit = omega (arith, leb→le r (ruleLimit kind) (t .0 .1 .0), rules-count r (drop c ws));
             occurrences-fit = omega (arith, here .fits);
-            classes-form = classes-law kind n k ws .0 (t .1 .1 .0);
+            classes-form = classes-law kind n k ws .0 (t .1 .0);
             rule-forms = here .forms;
           };
       words = λ i. kindWord kind ∷ n ∷ k ∷ rules-count r (drop c ws) i ∷ (ap (λ (l : List ℕ). take c ws ++ l) (here .words) ∙ take-append-drop c ws) i;
@@ -134,13 +134,10 @@ program-encoded p f =
     let c = wordCount (p .kind) (p .atoms) in
     let e : length (p .words) ≡ c = words-count (p .kind) (p .atoms) (p .classes) (p .words) (f .classes-form) in
     simp and-iff (
-      le→leb (p .atoms) (atomLimit (p .kind)) (f .atoms-fit),
+      (le→leb (p .atoms) (atomLimit (p .kind)) (f .atoms-fit), (le→leb (length (p .rules)) (ruleLimit (p .kind)) (f .rules-fit), le→leb 0 (occurrenceLimit (p .kind)) (omega arith))),
       (
-        le→leb (length (p .rules)) (ruleLimit (p .kind)) (f .rules-fit),
-        (
-          classes-law (p .kind) (p .atoms) (p .classes) (p .words ++ t) .1 (subst (ClassesForm (p .kind) (p .atoms) (p .classes)) (sym (take-at (p .words) t c e)) (f .classes-form)),
-          subst (λ (l : List ℕ). T (rules? (p .kind) (p .atoms) 0 (length (p .rules)) l)) (sym (drop-at (p .words) t c e)) (rules-encoded (p .kind) (p .atoms) 0 (p .rules) (f .rule-forms) (omega (arith, f .occurrences-fit))),
-        ),
+        classes-law (p .kind) (p .atoms) (p .classes) (p .words ++ t) .1 (subst (ClassesForm (p .kind) (p .atoms) (p .classes)) (sym (take-at (p .words) t c e)) (f .classes-form)),
+        subst (λ (l : List ℕ). T (rules? (p .kind) (p .atoms) 0 (length (p .rules)) l)) (sym (drop-at (p .words) t c e)) (rules-encoded (p .kind) (p .atoms) 0 (p .rules) (f .rule-forms) (omega (arith, f .occurrences-fit))),
       ),
     )
 

@@ -1,18 +1,19 @@
 -- The checks of a store's header and class words, and the answer of the whole check.
 use Prim.Native.Nat.{ℕ, zero, suc, _+_, _-_, _≤_, _<_}
 use mathlib.Core.Path.{_≡_, refl, sym, ap, _∙_}
-use mathlib.Core.Bool.{Bool, true, false, not}
+use mathlib.Core.Bool.{Bool, true, false, not, _&&_}
 use mathlib.Core.List.{List}
 use native.Mathlib.Omega.{arith}
+use lib.Dec.{T, leb, leb→le}
 use lib.ListN.{length, getD, take, drop, replicate, length-take, length-drop}
 use lib.Seq.{drop-drop}
 use borrow.Author.Tests.{not-true, not-false, le-leb, lt-leb}
-use Rattle.kinds.specs.Limits.{atomLimit, ruleLimit, classLimit}
+use Rattle.kinds.specs.Limits.{atomLimit, ruleLimit, occurrenceLimit, classLimit, within}
 use Rattle.kinds.specs.declared.limits.Kind.{Kind}
 use Rattle.kinds.specs.declared.limits.Kind.the-variants.{Plain, Preference}
-use Rattle.stores.specs.RuleStore.{Below, kindOf, wordCount, words?, classes?, rules?, program?, store?, ruleStore}
+use Rattle.stores.specs.RuleStore.{Below, headerCounts, kindOf, wordCount, words?, classes?, rules?, program?, store?, ruleStore}
 use Rattle.stores.specs.declared.rule_store.RuleStore.the-variants.{Of, Refused}
-use Rattle.stores.proofs.RuleTests.{T-is}
+use Rattle.stores.proofs.RuleTests.{T-is, and-iff}
 use Rattle.stores.proofs.RuleStores.{classes-law, words-count}
 
 pub atoms-small : (kind : Kind) → atomLimit kind ≤ atomLimit Plain
@@ -51,27 +52,35 @@ module _ (ws : List ℕ) (kind : Kind) where
   abbrev r : ℕ
   r = getD ws 3 0
 
-  pub many-atoms : atomLimit kind < n → false ≡ program? kind n k r (drop 4 ws)
-  many-atoms h = simp (lt-leb n (atomLimit kind) h)
+  module _ {c : Bool} (p : c ≡ within kind (headerCounts n r)) where
+    pub many-counts : not c ≡ true → false ≡ program? kind n k r (drop 4 ws)
+    many-counts h = ap (λ (b : Bool). b && (classes? kind n k (drop 4 ws) && rules? kind n 0 r (drop (wordCount kind n) (drop 4 ws)))) (sym (not-true c h) ∙ p)
 
-  module _ (a : n ≤ atomLimit kind) where
-    pub many-rules : ruleLimit kind < r → false ≡ program? kind n k r (drop 4 ws)
-    many-rules h = simp (le-leb n (atomLimit kind) a, lt-leb r (ruleLimit kind) h)
+    module _ (h : not c ≡ false) where
+      fits : true ≡ within kind (headerCounts n r)
+      fits = sym (not-false c h) ∙ p
 
-    module _ (b : r ≤ ruleLimit kind) {x : Bool} (e : x ≡ classes? kind n k (drop 4 ws)) where
-      pub wrong-classes : not x ≡ true → false ≡ program? kind n k r (drop 4 ws)
-      wrong-classes f = simp (le-leb n (atomLimit kind) a, le-leb r (ruleLimit kind) b, sym e, not-true x f)
+      -- each count by itself
+      pub few : (n ≤ atomLimit kind) × (r ≤ ruleLimit kind)
+      few = let t = three (T-is (sym fits)) in (leb→le n (atomLimit kind) (t .0), leb→le r (ruleLimit kind) (t .1 .0))
+        where
+          three : T (within kind (headerCounts n r)) → T (leb n (atomLimit kind)) × (T (leb r (ruleLimit kind)) × T (leb 0 (occurrenceLimit kind)))
+          three t = simp and-iff at t
 
-      module _ (f : not x ≡ false) {w : ℕ} (g : w ≡ wordCount kind n) where
-        pub words-inside : 4 ≤ length ws → 4 + w ≤ length ws
-        words-inside l =
-            let c = words-count kind n k (take (wordCount kind n) (drop 4 ws)) (classes-law kind n k (drop 4 ws) .0 (T-is (sym e ∙ not-false x f))) in
-            omega (arith, c, g, length-take (wordCount kind n) (drop 4 ws), length-drop 4 ws)
+      module _ {x : Bool} (e : x ≡ classes? kind n k (drop 4 ws)) where
+        pub wrong-classes : not x ≡ true → false ≡ program? kind n k r (drop 4 ws)
+        wrong-classes f = ap (λ (b : Bool). b && (false && rules? kind n 0 r (drop (wordCount kind n) (drop 4 ws)))) fits ∙ ap (λ (b : Bool). within kind (headerCounts n r) && (b && rules? kind n 0 r (drop (wordCount kind n) (drop 4 ws)))) (sym (not-true x f) ∙ e)
 
-        pub rules-left : {y : Bool} → y ≡ rules? kind n 0 r (drop (4 + w) ws) → y ≡ program? kind n k r (drop 4 ws)
-        rules-left {y} q =
-            let d : rules? kind n 0 r (drop (wordCount kind n) (drop 4 ws)) ≡ y = ap (rules? kind n 0 r) (drop-drop (wordCount kind n) 4 ws ∙ ap (λ (m : ℕ). drop (4 + m) ws) (sym g)) ∙ sym q in
-            simp (le-leb n (atomLimit kind) a, le-leb r (ruleLimit kind) b, sym e, not-false x f, d)
+        module _ (f : not x ≡ false) {w : ℕ} (g : w ≡ wordCount kind n) where
+          pub words-inside : 4 ≤ length ws → 4 + w ≤ length ws
+          words-inside l =
+              let c = words-count kind n k (take (wordCount kind n) (drop 4 ws)) (classes-law kind n k (drop 4 ws) .0 (T-is (sym e ∙ not-false x f))) in
+              omega (arith, c, g, length-take (wordCount kind n) (drop 4 ws), length-drop 4 ws)
+
+          pub rules-left : {y : Bool} → y ≡ rules? kind n 0 r (drop (4 + w) ws) → y ≡ program? kind n k r (drop 4 ws)
+          rules-left {y} q =
+              let d : rules? kind n 0 r (drop (wordCount kind n) (drop 4 ws)) ≡ y = ap (rules? kind n 0 r) (drop-drop (wordCount kind n) 4 ws ∙ ap (λ (m : ℕ). drop (4 + m) ws) (sym g)) ∙ sym q in
+              sym d ∙ ap (λ (b : Bool). b && rules? kind n 0 r (drop (wordCount kind n) (drop 4 ws))) (sym (not-false x f) ∙ e) ∙ ap (λ (b : Bool). b && (classes? kind n k (drop 4 ws) && rules? kind n 0 r (drop (wordCount kind n) (drop 4 ws)))) fits
 
 -- the whole
 module _ (ws : List ℕ) where

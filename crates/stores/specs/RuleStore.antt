@@ -5,7 +5,8 @@ use mathlib.Core.Bool.{Bool, true, false, not, _&&_, cond}
 use mathlib.Core.List.{List, [], _∷_, _++_}
 use lib.Dec.{leb, ltb, eqb}
 use lib.ListN.{length, getD, take, drop}
-use Rattle.kinds.specs.Limits.{atomLimit, ruleLimit, occurrenceLimit, classLimit}
+use Rattle.kinds.specs.Limits.{occurrenceLimit, classLimit, within}
+use Rattle.kinds.specs.declared.limits.Counts.{Counts}
 use Rattle.kinds.specs.declared.limits.Kind.{Kind}
 use Rattle.kinds.specs.declared.limits.Kind.the-variants.{Plain, Preference}
 use Rattle.rules.specs.Lists.{some, flat, empty?}
@@ -122,9 +123,12 @@ unfoldable pub rules? : Kind → ℕ → ℕ → ℕ → List ℕ → Bool
 rules? kind n used zero ws = empty? ws
 rules? kind n used (suc r) ws = rule? kind n used ws && rules? kind n (used + places ws) r (drop (3 + places ws) ws)
 
+-- the header's counts, before any occurrence
+abbrev pub headerCounts : ℕ → ℕ → Counts
+headerCounts n r = record { atoms = n; rules = r; occurrences = 0 }
+
 abbrev pub program? : Kind → ℕ → ℕ → ℕ → List ℕ → Bool
-program? kind n k r ws =
-    leb n (atomLimit kind) && (leb r (ruleLimit kind) && (classes? kind n k ws && rules? kind n 0 r (drop (wordCount kind n) ws)))
+program? kind n k r ws = within kind (headerCounts n r) && (classes? kind n k ws && rules? kind n 0 r (drop (wordCount kind n) ws))
 
 unfoldable pub store? : List ℕ → Bool
 store? ws =
