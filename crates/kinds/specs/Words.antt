@@ -1,6 +1,8 @@
 -- The bytes that the two kinds of file are written with.
-use Prim.Native.Nat.{ℕ}
-use mathlib.Core.List.{List, [], _∷_}
+use Prim.Native.Nat.{ℕ, zero, suc, _+_, _/_, _%_}
+use mathlib.Core.Bool.{cond}
+use mathlib.Core.List.{List, [], _∷_, _++_}
+use lib.Dec.{ltb}
 
 abbrev pub space : ℕ
 space = 32
@@ -45,3 +47,12 @@ bodyWord = 98 ∷ 111 ∷ 100 ∷ 121 ∷ []
 -- not
 abbrev pub notWord : List ℕ
 notWord = 110 ∷ 111 ∷ 116 ∷ []
+
+-- a number in decimal digits, at most f of them
+unfoldable pub digits : ℕ → ℕ → List ℕ
+digits zero x = []
+digits (suc f) x = cond (ltb x 10) ((48 + x) ∷ []) (digits f (x / 10) ++ ((48 + x % 10) ∷ []))
+
+-- a number below 2^64 has at most 20 digits
+abbrev pub decimal : ℕ → List ℕ
+decimal x = digits 20 x

@@ -14,12 +14,20 @@ pub struct Preference;
 // A verdict or the lister.
 pub struct Walk;
 
+// The class words that are no class.
+pub struct ClassWord;
+
 impl Plain {
     pub const ATOMS: usize = 1100;
 
     pub const RULES: usize = 4200;
 
     pub const OCCURRENCES: usize = 24000;
+
+    // The largest stores are those of a plain program.
+    pub const WORDS: usize = 4 + 3 * Plain::RULES + Plain::OCCURRENCES;
+
+    pub const BYTES: usize = Plain::ATOMS * (1 + Kind::LONGEST_NAME);
 }
 
 impl Preference {
@@ -38,11 +46,20 @@ impl Walk {
     pub const BUDGET: u64 = 1099511627776;
 }
 
+impl ClassWord {
+    pub const VARYING: u16 = 17;
+
+    pub const FIXED: u16 = 18;
+}
+
 impl Kind {
     // Bytes of a text, of a house name, and of what the two programs read and write.
     pub const TEXT: usize = 655360;
 
     pub const NAME: usize = 16;
+
+    // A generated name has two bytes more than the house name in it.
+    pub const LONGEST_NAME: usize = Kind::NAME + 2;
 
     pub const STREAM: usize = 65536;
 

@@ -11,7 +11,6 @@ use Rattle.rules.specs.Lists.{filter, flat, from}
 use Rattle.rules.specs.Sets.{has}
 use Rattle.kinds.specs.Words.{space, close-bracket, line-end}
 use Rattle.text.specs.Text.{item, listLine, named}
-use Rattle.output.specs.Emitted.{over}
 
 -- a number in decimal digits, at most f of them
 unfoldable pub digits : ℕ → ℕ → List ℕ
