@@ -7,7 +7,7 @@ use mathlib.Core.List.{List, [], _∷_, _++_}
 use lib.Dec.{T, leb→le}
 use lib.ListN.{length, getD, take, drop, length-append, length-drop}
 use lib.Seq.{take-all, drop-at, drop-drop}
-use Rattle.kinds.specs.Limits.{classLimit, occurrenceLimit}
+use Rattle.kinds.specs.Limits.{classLimit, occurrenceLimit, storeWords}
 use Rattle.kinds.specs.declared.limits.Kind.{Kind}
 use Rattle.kinds.specs.declared.limits.Kind.the-variants.{Preference}
 use Rattle.rules.specs.Lists.{All, filter, flat, from, sum}
@@ -240,7 +240,7 @@ module _ {ws : List ℕ} (h : PreferenceStore ws) where
       header-ahead = record { is = λ i. 0 ∷ atoms-are i ∷ 0 ∷ rules-are i ∷ steps-are i }
 
   -- the store fits the scratch of the translator
-  pub store-fits : length (encode (translated p)) ≤ 36604
+  pub store-fits : length (encode (translated p)) ≤ storeWords
   unfolding encode
   store-fits =
       let f : Form (translated p) = plain-form p (h .kind) (h .store .form) in

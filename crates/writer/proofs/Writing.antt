@@ -9,7 +9,7 @@ use lib.Dec.{T}
 use lib.ListN.{length, getD, take, drop, length-append}
 use lib.Seq.{take-at, length-take-le, sets-eq}
 use borrow.Author.Tests.{le-leb, lt-leb}
-use Rattle.kinds.specs.Limits.{atomLimit}
+use Rattle.kinds.specs.Limits.{atomLimit, longestName}
 use Rattle.kinds.specs.declared.limits.Kind.{Kind}
 use Rattle.kinds.specs.declared.limits.Kind.the-variants.{Plain}
 use Rattle.kinds.specs.declared.refusals.Refusal.the-variants.{Output, RuleStore, NameStore}
@@ -57,7 +57,7 @@ module _ {rules names : List ℕ} (s : StoreOf rules (decode rules)) (m : NamesO
   names-short : length names ≤ 65536
   names-short =
       let all = decodeNames (decode rules .atoms) names in
-      let short = all-imp (λ x. T (allowed (decode rules .kind) x)) (λ x. length x ≤ 18) (allowed-short (decode rules .kind)) all (m .form .all-allowed) in
+      let short = all-imp (λ x. T (allowed (decode rules .kind) x)) (λ x. length x ≤ longestName) (allowed-short (decode rules .kind)) all (m .form .all-allowed) in
       omega (arith, encoded-length all short, ap length (m .bytes), m .form .count, s .form .atoms-fit, atoms-small (decode rules .kind))
 
   module _ (starts : List ℕ) (n : length starts ≡ getD rules 1 0) where
