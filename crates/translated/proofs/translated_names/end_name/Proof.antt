@@ -33,7 +33,7 @@ same-length-2 : tie.Need-same-length-2
 same-length-2 c = search needs
 
 returns-2 : tie.Need-returns-2
-returns-2 c = renamed (c .before .before .emit2 .ensures) (sym (two-digits _ (@if1 .left) (@pre .0)))
+returns-2 c = renamed (c .before .before .emit2 .ensures) (sym (two-digits _ (c .before .before .before .before .before .if1 .left) (c .before .before .before .before .before .before .before .pre .0)))
 
 pub end-name-spec : {M : Type 1} → statement M
 end-name-spec =
