@@ -1,8 +1,10 @@
 -- The bytes that the two kinds of file are written with.
-use Prim.Native.Nat.{ℕ}
+use Prim.Native.Nat.{ℕ, zero, suc, _+_, _/_, _%_}
 use Prim.Native.Char.{code}
 use Prim.Native.String.{String, [] as empty, _∷_ as _then_}
-use mathlib.Core.List.{List, [], _∷_}
+use mathlib.Core.List.{List, [], _∷_, _++_}
+use mathlib.Core.Bool.{cond}
+use lib.Dec.{ltb}
 
 -- the bytes of a quoted text
 abbrev pub bytes : String → List ℕ
@@ -49,3 +51,12 @@ bodyWord = bytes "body"
 
 abbrev pub notWord : List ℕ
 notWord = bytes "not"
+
+-- a number in decimal digits, at most f of them
+unfoldable pub digits : ℕ → ℕ → List ℕ
+digits zero x = []
+digits (suc f) x = cond (ltb x 10) ((byte "0" + x) ∷ []) (digits f (x / 10) ++ ((byte "0" + x % 10) ∷ []))
+
+-- a number below 2^64 has at most 20 digits
+abbrev pub decimal : ℕ → List ℕ
+decimal x = digits 20 x

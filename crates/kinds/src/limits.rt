@@ -14,6 +14,9 @@ pub struct Preference;
 // A verdict or the lister.
 pub struct Walk;
 
+// The class words that are no class.
+pub struct ClassWord;
+
 impl Plain {
     pub const ATOMS: usize = 1100;
 
@@ -37,19 +40,16 @@ impl Preference {
     pub const CLASSES: usize = 16;
 }
 
-// Class words past the classes.
-pub struct ClassWord;
+impl Walk {
+    pub const ATOMS: usize = 60;
+
+    pub const BUDGET: u64 = 1099511627776;
+}
 
 impl ClassWord {
     pub const VARYING: u16 = 17;
 
     pub const FIXED: u16 = 18;
-}
-
-impl Walk {
-    pub const ATOMS: usize = 60;
-
-    pub const BUDGET: u64 = 1099511627776;
 }
 
 impl Kind {

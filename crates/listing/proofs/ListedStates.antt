@@ -12,7 +12,7 @@ use lib.Pow.{pow-mono}
 use types.Run.{OneOf}
 use denote.Enum.Declared.{tagOf}
 use borrow.Author.Tests.{le-leb, leb-true, leb-false}
-use Rattle.kinds.specs.Limits.{streamLimit, walkAtoms, budgetLimit}
+use Rattle.kinds.specs.Limits.{streamLimit, walkAtoms, budgetLimit, longestName, longestEntry}
 use Rattle.kinds.specs.declared.limits.Kind.{Kind}
 use Rattle.kinds.specs.declared.limits.Kind.the-variants.{Preference}
 use Rattle.kinds.specs.declared.refusals.Refusal.{Refusal}
@@ -36,28 +36,29 @@ use Rattle.walks.specs.declared.answers.NextState.{NextState}
 use Rattle.walks.specs.declared.answers.NextState.the-variants.{State, Nothing, Spent, Refused}
 use Rattle.walks.proofs.answers.NextState.{the-type}
 use Rattle.walks.proofs.Listing.{next-state}
-use Rattle.printing.specs.Printed.{closing, stateLine, member, members, totalLine, spentLine, refusedText}
+use Rattle.printing.specs.Printed.{closing, stateLine, totalLine, spentLine, refusedText}
+use Rattle.printing.specs.Parts.{member, members}
 use Rattle.listing.specs.Listed.{onNext, listing, wholeListing, sized}
 use Rattle.listing.specs.StoresPrinted.{Listable, lastLine, Limited, storesListing}
 use Rattle.printing.proofs.PrintedLines.{member-next, members-end, state-opens, total-short, front-fits, written-front}
 
 -- a state's line is short
 
-name-short : (names : List (List ℕ)) → All (λ x. length x ≤ 18) names → (a : ℕ) → length (getD names a []) ≤ 18
+name-short : (names : List (List ℕ)) → All (λ x. length x ≤ longestName) names → (a : ℕ) → length (getD names a []) ≤ longestName
 name-short [] h a = omega arith
 name-short (x ∷ names) h zero = h .0
 name-short (x ∷ names) h (suc a) = name-short names (h .1) a
 
-module _ (names : List (List ℕ)) (short : All (λ x. length x ≤ 18) names) (s : ℕ) where
-  member-short : (a : ℕ) → length (member names s a) ≤ 19
+module _ (names : List (List ℕ)) (short : All (λ x. length x ≤ longestName) names) (s : ℕ) where
+  member-short : (a : ℕ) → length (member names s a) ≤ longestEntry
   unfolding member
   member-short a = go (has s a)
     where
-      go : (b : Bool) → length (cond b (item (getD names a [])) []) ≤ 19
+      go : (b : Bool) → length (cond b (item (getD names a [])) []) ≤ longestEntry
       go true = omega (arith, name-short names short a)
       go false = omega arith
 
-  members-short : (c i n : ℕ) → n - i ≡ c → length (members names s i n) ≤ 19 * c
+  members-short : (c i n : ℕ) → n - i ≡ c → length (members names s i n) ≤ longestEntry * c
   members-short zero i n e = omega (arith, ap length (members-end names s i n (omega arith)))
   members-short (suc c) i n e =
       omega (
@@ -97,8 +98,8 @@ module _ {rules names starts : List ℕ} (h : Listable rules names starts) where
       let k = next-state (program .words) (program .rules) start (rw words-count l) budgetLimit s u .0 e in
       (k .1 .above, rw words-count at (k .0))
 
-  all-short : All (λ x. length x ≤ 18) (storedNames names starts)
-  all-short = all-imp (λ x. T (allowed Preference x)) (λ x. length x ≤ 18) (allowed-short Preference) (storedNames names starts) (h .all-allowed)
+  all-short : All (λ x. length x ≤ longestName) (storedNames names starts)
+  all-short = all-imp (λ x. T (allowed Preference x)) (λ x. length x ≤ longestName) (allowed-short Preference) (storedNames names starts) (h .all-allowed)
 
   pub few-starts : length starts ≤ walkAtoms
   few-starts = omega (arith, h .few, h .count)

@@ -19,7 +19,7 @@ ghost use Rattle.kinds.specs.declared.limits.Kind.the-variants.{Preference as K
 ghost use Rattle.stores.specs.RuleStore.{ruleStore};
 ghost use Rattle.stores.specs.declared.rule_store.RuleStore.the-variants.{Of};
 ghost use Rattle.output.specs.Emitted.{Emitted, InRange};
-ghost use Rattle.printing.specs.Printed.{Shown};
+ghost use Rattle.printing.specs.Parts.{Shown};
 ghost use Rattle.listing.specs.Listed.{sized};
 ghost use Rattle.listing.specs.StoresPrinted.{Listable, Limited, lastLine, storesListing, storesStates};
 

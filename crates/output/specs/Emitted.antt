@@ -1,13 +1,9 @@
 -- What a function that writes bytes from a place on leaves, also where there is no room for them.
 use Prim.Native.Nat.{ℕ, _+_, _^_, _<_}
 use mathlib.Core.Path.{_≡_}
-use mathlib.Core.List.{List, _++_}
-use lib.ListN.{length, drop}
+use mathlib.Core.List.{List}
+use lib.ListN.{length}
 use lib.Seq.{sets}
-
--- what is written stands at the front; the bytes past it keep their content
-abbrev pub over : List ℕ → List ℕ → List ℕ
-over w before = w ++ drop (length w) before
 
 -- the output with w written from `at`, as far as it goes, and the place after w
 pub record Emitted (before : List ℕ) (at : ℕ) (w after : List ℕ) (next : ℕ) : Type 0 where

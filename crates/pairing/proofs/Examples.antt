@@ -2,6 +2,7 @@
 use mathlib.Core.Path.{_≡_, refl}
 use mathlib.Core.List.{[], _∷_}
 use lib.ListN.{length}
+use Rattle.kinds.specs.Words.{digits}
 use Rattle.kinds.specs.declared.limits.Kind.the-variants.{Preference}
 use Rattle.rules.specs.Lists.{sum}
 use Rattle.rules.specs.Rules.{rule, occurrences}
@@ -52,7 +53,7 @@ sample-names : translatedNames sample ((97 ∷ []) ∷ (98 ∷ []) ∷ []) ≡ (
     ∷ (69 ∷ 46 ∷ 49 ∷ [])
     ∷ (85 ∷ [])
     ∷ [])
-unfolding translatedNames declared
+unfolding translatedNames declared digits
 sample-names = refl
 
 -- 10 atoms, 19 rules, 46 occurrences; and so say the three sums

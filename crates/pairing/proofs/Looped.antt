@@ -6,11 +6,12 @@ use mathlib.Core.List.{List, [], _∷_, _++_, map, map-map, map-id, map-append}
 use lib.ListN.{length, getD, take}
 use lib.Seq.{take-length}
 use Rattle.kinds.specs.declared.limits.Kind.the-variants.{Preference}
+use Rattle.kinds.specs.Words.{decimal}
 use Rattle.rules.specs.Lists.{flat, from}
 use Rattle.rules.specs.Rules.{Rule, rule}
 use Rattle.rules.proofs.Lists.{length-from}
 use Rattle.stores.specs.Program.{Program, Form}
-use Rattle.pairing.specs.Atoms.{Atom, original, N, S, D, E, U, originals, classWord, fixed?, minimised?, minimisedAtoms, unfixedAtoms, declared, place, decimal, nameOf}
+use Rattle.pairing.specs.Atoms.{Atom, original, N, S, D, E, U, originals, classWord, fixed?, minimised?, minimisedAtoms, unfixedAtoms, declared, place, nameOf}
 use Rattle.pairing.specs.Steps.{step1, step2, step3, step4, step5, step6, step7, step8, step9, step10, translation}
 use Rattle.pairing.specs.Translated.{translated, translatedRules, translatedNames, rename}
 use Rattle.pairing.specs.Loops.{loop1, loop2, loop3, loop4, loop5, loop6, loop789, loop10, looped, dot, loopedNames}

@@ -10,6 +10,7 @@ use lib.ListN.{length, getD, take, drop, length-map}
 use lib.Seq.{take-at}
 use borrow.Author.Tests.{le-leb, ne-eqb}
 use Rattle.kinds.specs.Limits.{nameLimit, classLimit}
+use Rattle.kinds.specs.Words.{digits, decimal}
 use Rattle.kinds.specs.declared.limits.Kind.the-variants.{Plain, Preference}
 use Rattle.rules.specs.Lists.{All, Distinct, from}
 use Rattle.rules.proofs.Booleans.{T-not-out, eq→eqb}
@@ -19,12 +20,13 @@ use Rattle.names.specs.Names.{letter?, house?, classNumber?, nameClass, sized, 
 use Rattle.name_store.specs.NameStore.{NamesForm}
 use Rattle.names.specs.declared.forms.NameClass.{NameClass}
 use Rattle.names.specs.declared.forms.NameClass.the-variants.{House, Generated, TooLong, Wrong}
-use Rattle.pairing.specs.Atoms.{unfixedAtoms, minimisedAtoms, declared, decimal, nameOf}
+use Rattle.pairing.specs.Atoms.{unfixedAtoms, minimisedAtoms, declared, nameOf}
 use Rattle.pairing.specs.Translated.{translated, translatedNames}
 use Rattle.pairing.specs.Loops.{dot, loopedNames}
 use Rattle.pairing.proofs.ListLaws.{all-each, all-take, distinct-app, distinct-take, distinct-from, distinct-map-app, NoImage}
 use Rattle.pairing.proofs.Fit.{fit-of}
 use Rattle.pairing.proofs.Looped.{looped-names}
+use Rattle.pairing.proofs.Decimals.{short, shorts}
 
 -- a preference program takes house names only
 
@@ -66,7 +68,7 @@ dot-allowed c x l d h =
     simp (l, long, two, d, h .form, h .short) tt
 
 end-allowed : (j : ℕ) → j ≤ classLimit → T (allowed Plain (dot 69 (decimal j)))
-unfolding allowed nameClass house? classNumber?
+unfolding allowed nameClass house? classNumber? digits
 end-allowed j l = every-from (λ j. allowed Plain (dot 69 (decimal j))) (λ j. T (allowed Plain (dot 69 (decimal j)))) (λ j. Iff·rfl) 0 (suc classLimit) .0 tt j (omega arith) (omega arith)
 
 -- the names differ
@@ -74,8 +76,8 @@ end-allowed j l = every-from (λ j. allowed Plain (dot 69 (decimal j))) (λ j. T
 dot-inj : (c : ℕ) (x y : List ℕ) → dot c x ≡ dot c y → x ≡ y
 dot-inj c x y e = tail-eq-of-cons-eq (tail-eq-of-cons-eq e)
 
-decimal-inj : (i j : ℕ) → decimal i ≡ decimal j → i ≡ j
-decimal-inj i j = step (ltb i 10) (ltb j 10)
+short-inj : (i j : ℕ) → short i ≡ short j → i ≡ j
+short-inj i j = step (ltb i 10) (ltb j 10)
   where
     step : (a b : Bool) → cond a ((48 + i) ∷ []) (49 ∷ (38 + i) ∷ []) ≡ cond b ((48 + j) ∷ []) (49 ∷ (38 + j) ∷ []) → i ≡ j
     step true true e = let q : 48 + i ≡ 48 + j = head-eq-of-cons-eq e in omega arith
@@ -135,7 +137,9 @@ module _ (p : Program) (kind : p .kind ≡ Preference) (form : Form p) (names : 
 
   ends-different : Distinct ends
   unfolding numbered
-  ends-different = distinct-map-app (λ j. dot 69 (decimal j)) (λ i j e. decimal-inj i j (dot-inj 69 (decimal i) (decimal j) e)) (from 0 (suc (p .classes))) ((85 ∷ []) ∷ []) (distinct-from 0 (suc (p .classes))) (tt, tt) ((λ j. other 69 (46 ∷ decimal j) (85 ∷ []) tt), tt)
+  ends-different =
+      subst (λ (l : List (List ℕ)). Distinct (l ++ ((85 ∷ []) ∷ []))) (sym (shorts (dot 69) 0 (suc (p .classes)) (omega (arith, fit-of p kind form .classes))))
+      (distinct-map-app (λ j. dot 69 (short j)) (λ i j e. short-inj i j (dot-inj 69 (short i) (short j) e)) (from 0 (suc (p .classes))) ((85 ∷ []) ∷ []) (distinct-from 0 (suc (p .classes))) (tt, tt) ((λ j. other 69 (46 ∷ short j) (85 ∷ []) tt), tt))
 
   abbrev NotHouse : List ℕ → Type 0
   NotHouse y = (house? y ≡ true) → ⊥

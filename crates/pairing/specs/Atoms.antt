@@ -1,10 +1,10 @@
 -- The atoms of a translation: their order, their numbers and their names (document 01, "The translation").
 use Prim.Native.Nat.{ℕ, suc, _+_, _*_}
 use mathlib.Core.List.{List, [], _∷_, _++_, map}
-use mathlib.Core.Bool.{Bool, not, cond}
-use lib.Dec.{leb, ltb, eqb}
+use mathlib.Core.Bool.{Bool, not}
+use lib.Dec.{leb, eqb}
 use lib.ListN.{length, getD}
-use Rattle.kinds.specs.Words.{bytes}
+use Rattle.kinds.specs.Words.{bytes, decimal}
 use Rattle.kinds.specs.Limits.{classLimit, varying, fixed}
 use Rattle.rules.specs.Lists.{filter, from}
 use Rattle.stores.specs.Program.{Program}
@@ -65,10 +65,6 @@ module _ (p : Program) where
   place (D a) = 2 * p .atoms + length unfixedAtoms + a
   place (E j) = 2 * p .atoms + length unfixedAtoms + length minimisedAtoms + j
   place U = 2 * p .atoms + length unfixedAtoms + length minimisedAtoms + suc (p .classes)
-
--- 0 to 16 without leading zero
-abbrev pub decimal : ℕ → List ℕ
-decimal j = cond (ltb j 10) ((48 + j) ∷ []) (49 ∷ (38 + j) ∷ [])
 
 -- an atom's name, by the file's names: `N.`, `S.` or `D.` before a name of the file, `E.` before a number, `U`
 abbrev pub nameOf : List (List ℕ) → Atom → List ℕ

@@ -4,13 +4,13 @@ use mathlib.Core.List.{List, [], _∷_, _++_, map}
 use mathlib.Core.Bool.{Bool, not}
 use lib.Dec.{eqb}
 use lib.ListN.{length, getD, take}
-use Rattle.kinds.specs.Words.{bytes, byte}
+use Rattle.kinds.specs.Words.{bytes, byte, decimal}
 use Rattle.rules.specs.Lists.{filter, flat, from}
 use Rattle.rules.specs.Rules.{Rule, rule}
 use Rattle.kinds.specs.Limits.{fixed}
 use Rattle.rules.specs.Preferred.{ofClass}
 use Rattle.stores.specs.Program.{Program}
-use Rattle.pairing.specs.Atoms.{minimisedAtoms, unfixedAtoms, decimal}
+use Rattle.pairing.specs.Atoms.{minimisedAtoms, unfixedAtoms}
 
 abbrev pub fixedWord? : List ℕ → ℕ → Bool
 fixedWord? ws a = eqb (getD ws a 0) fixed

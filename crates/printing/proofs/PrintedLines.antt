@@ -14,11 +14,12 @@ use Rattle.kinds.specs.declared.refusals.Refusal.{Refusal}
 use Rattle.kinds.specs.Refusals.{numberOf}
 use Rattle.rules.specs.Lists.{keep, filter, flat, from}
 use Rattle.rules.specs.Sets.{has}
-use Rattle.kinds.specs.Words.{space}
+use Rattle.kinds.specs.Words.{space, digits, decimal}
 use Rattle.text.specs.Text.{openText, listLine, item, named}
 use Rattle.output.specs.Emitted.{Emitted, InRange}
 use Rattle.output.proofs.Emitting.{Ahead}
-use Rattle.printing.specs.Printed.{digits, decimal, closing, refusedText, stateWord, stateLine, member, members, totalLine, shown, Shown}
+use Rattle.printing.specs.Printed.{closing, refusedText, stateWord, stateLine, totalLine, shown}
+use Rattle.printing.specs.Parts.{member, members, Shown}
 
 -- decimal digits
 

@@ -6,11 +6,13 @@ use output::bytes::push;
 ghost use mathlib.Core.Path.{_≡_};
 ghost use Prim.Native.Nat.{_≤_, _<_};
 ghost use lib.ListN.{length};
+ghost use Rattle.kinds.specs.Words.{decimal};
 ghost use Rattle.rules.specs.Sets.{has};
 ghost use Rattle.name_store.specs.NameIndex.{Placed};
 ghost use Rattle.output.specs.Emitted.{Emitted, InRange};
 ghost use Rattle.text.specs.Items.{storedNames};
-ghost use Rattle.printing.specs.Printed.{decimal, refusedText, member, members, stateLine, totalLine, Shown};
+ghost use Rattle.printing.specs.Printed.{refusedText, stateLine, totalLine};
+ghost use Rattle.printing.specs.Parts.{member, members, Shown};
 
 pub fn emit_decimal(x: u64, out: &mut [u8], at: usize) -> usize
     requires { ⌜ InRange at (decimal x) ⌝ }

@@ -7,12 +7,12 @@ use mathlib.Core.List.{List, _++_}
 use lib.Dec.{T, leb}
 use lib.ListN.{length, take, drop, length-append}
 use borrow.Author.Tests.{le-leb, lt-leb, leb-true}
-use Rattle.kinds.specs.Limits.{streamLimit, walkAtoms, atomLimit, ruleLimit, occurrenceLimit}
+use Rattle.kinds.specs.Limits.{streamLimit, walkAtoms, atomLimit, ruleLimit, occurrenceLimit, longestName, longestEntry}
 use Rattle.kinds.specs.declared.limits.Kind.{Kind}
 use Rattle.kinds.specs.declared.limits.Kind.the-variants.{Plain, Preference}
 use Rattle.kinds.specs.declared.refusals.Refusal.{Refusal}
 use Rattle.kinds.specs.declared.refusals.Refusal.the-variants.{TextTooLong, Output, RuleStore, NameStore, TooManyAtoms}
-use Rattle.rules.specs.Lists.{flat, sum}
+use Rattle.rules.specs.Lists.{flat, sum, over}
 use Rattle.rules.specs.Rules.{occurrences}
 use Rattle.rules.proofs.Lists.{all-imp}
 use Rattle.stores.specs.Program.{Program, Form}
@@ -24,7 +24,6 @@ use Rattle.stores.proofs.RuleStores.{decode-encode, words-count, rules-length}
 use Rattle.name_store.proofs.NameStores.{allowed-short, decode-names, encoded-length}
 use Rattle.writer.specs.declared.Written.{Written}
 use Rattle.writer.specs.declared.Written.the-variants.{Text, Refused as NotWritten}
-use Rattle.output.specs.Emitted.{over}
 use Rattle.writer.specs.Answers.{fitted, writtenBytes}
 use Rattle.delivery.specs.declared.answers.Read.{Read}
 use Rattle.delivery.specs.declared.answers.Read.the-variants.{Accepted, Refused as NotRead}
@@ -62,8 +61,8 @@ words-fit p f =
 pub bytes-fit : (p : Program) (names : List (List ℕ)) → Form p → NamesForm (p .kind) (p .atoms) names → length (encodeNames names) ≤ scratchBytes
 bytes-fit p names f g = by-kind (p .kind) (f .atoms-fit)
   where
-    short : length (encodeNames names) ≤ 19 * p .atoms
-    short = omega (arith, encoded-length names (all-imp (λ x. T (allowed (p .kind) x)) (λ x. length x ≤ 18) (allowed-short (p .kind)) names (g .all-allowed)), g .count)
+    short : length (encodeNames names) ≤ longestEntry * p .atoms
+    short = omega (arith, encoded-length names (all-imp (λ x. T (allowed (p .kind) x)) (λ x. length x ≤ longestName) (allowed-short (p .kind)) names (g .all-allowed)), g .count)
 
     by-kind : (k : Kind) → p .atoms ≤ atomLimit k → length (encodeNames names) ≤ scratchBytes
     by-kind Plain l = omega (arith, short)

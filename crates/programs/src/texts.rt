@@ -13,7 +13,7 @@ ghost use Prim.Native.Nat.{_≤_};
 ghost use lib.ListN.{length};
 ghost use Rattle.kinds.specs.Limits.{streamLimit};
 ghost use Rattle.numbering.specs.Scratch.{scratchWords, scratchBytes};
-ghost use Rattle.printing.specs.Printed.{Shown};
+ghost use Rattle.printing.specs.Parts.{Shown};
 ghost use Rattle.programs.specs.Programs.{translatePrinted, statesPrinted, storesTranslated};
 
 // What the translator prints on two stores.

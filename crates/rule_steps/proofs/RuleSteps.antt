@@ -1,21 +1,20 @@
 -- Steps 2 and 3, rule by rule.
-use Prim.Native.Nat.{ℕ, suc, _+_, _-_, _≤_, _<_}
+use Prim.Native.Nat.{ℕ, _+_, _-_, _≤_, _<_}
 use native.Mathlib.Nat.{add-sub-cancel-left}
 use native.Mathlib.Omega.{arith}
 use mathlib.Core.Path.{_≡_, refl, sym, ap, ap₂, _∙_, subst}
 use mathlib.Core.Bool.{Bool, true, false, not}
 use mathlib.Core.List.{List, [], _∷_, _++_, map, append-assoc}
 use lib.ListN.{length, take, drop, length-append, length-map, length-drop}
-use lib.Seq.{take-all, drop-drop, length-take-le}
+use lib.Seq.{length-take-le}
 use Rattle.rules.specs.Lists.{All, keep, filter, flat}
-use Rattle.rules.specs.Rules.{Rule}
 use Rattle.rules.proofs.Lists.{all-imp}
-use Rattle.stores.specs.RuleStore.{heads, bodies, places, ruleAt, rulesFrom}
+use Rattle.stores.specs.RuleStore.{heads, bodies, ruleAt}
+use Rattle.stores.specs.StoredRules.{StoredRule}
 use Rattle.pairing.specs.Loops.{fixedWord?}
 use Rattle.pairing.proofs.SumLaws.{length-parts}
-use Rattle.output.specs.Emitted.{Emitted, InRange}
-use Rattle.output.proofs.Emitting.{Ahead, Emitting, start, turn, finish, range-here}
-use Rattle.steps.specs.FileRules.{FileRule, FileRules, Lists3}
+use Rattle.output.proofs.Emitting.{Ahead}
+use Rattle.steps.specs.RuleLists.{Lists3}
 use Rattle.steps.specs.Roles.{fixedAmong}
 use Rattle.steps.specs.StepWords.{each, raised, copyOf, fixedOf, words2, lists3, words3}
 
@@ -62,7 +61,7 @@ module _ (ws : List ℕ) where
   unfolding ruleAt
   body-part = rw add-sub-cancel-left
 
-  module _ {n : ℕ} (h : FileRule n ws) where
+  module _ {n : ℕ} (h : StoredRule n ws) where
     pub head-length : length headPart ≡ heads ws
     head-length =
         let e : 3 + heads ws - 3 ≡ heads ws = omega arith in
@@ -141,62 +140,3 @@ module _ (cs : List ℕ) (s u : ℕ) (h b : List ℕ) where
 pub few-fixed : (ws xs : List ℕ) → fixedAmong ws xs ≤ length xs
 unfolding fixedAmong
 few-fixed ws xs = omega (arith, length-parts (fixedWord? ws) xs)
-
--- the rules that are left, from a place in the words
-pub record RulesLeft (g : Rule ℕ → List ℕ) (n count : ℕ) (words before : List ℕ) (at : ℕ) (now : List ℕ) (next place i : ℕ) : Type 0 where
-  pub stored : FileRules n (count - i) (drop place words)
-  pub so : Emitting (each g (rulesFrom count words)) before at (each g (rulesFrom (count - i) (drop place words))) now next
-
-pub rules-begin : {g : Rule ℕ → List ℕ} {n count : ℕ} {words before : List ℕ} {at : ℕ} → FileRules n count words → InRange at (each g (rulesFrom count words)) → RulesLeft g n count words before at before at 0 0
-rules-begin {g} {n} {count} {words} {before} {at} s r =
-    let e : count ≡ count - 0 = omega arith in
-    record {
-      stored = subst (λ (k : ℕ). FileRules n k words) e s;
-      so = subst (λ (k : ℕ). Emitting (each g (rulesFrom count words)) before at (each g (rulesFrom k words)) before at) e (start r);
-    }
-
-module _ {g : Rule ℕ → List ℕ} {n count : ℕ} {words before : List ℕ} {at : ℕ} {now : List ℕ} {next place i : ℕ} (h : RulesLeft g n count words before at now next place i) where
-  pub rules-end : count ≤ i → Emitted before at (each g (rulesFrom count words)) now next
-  unfolding rulesFrom each
-  rules-end l = let e : count - i ≡ 0 = omega arith in finish (h .so) (ap (λ (k : ℕ). each g (rulesFrom k (drop place words))) e)
-
-  module _ (l : i < count) where
-    -- what the code hands on
-    abbrev front : List ℕ
-    front = take (length words - place) (drop place words)
-
-    front-is : front ≡ drop place words
-    front-is = take-all (length words - place) (drop place words) (omega (arith, length-drop place words))
-
-    more : count - i ≡ suc (count - (i + 1))
-    more = omega arith
-
-    first-stored : FileRule n (drop place words) × FileRules n (count - (i + 1)) (drop (3 + places (drop place words)) (drop place words))
-    first-stored = subst (λ (k : ℕ). FileRules n k (drop place words)) more (h .stored)
-
-    pub rule-stored : FileRule n front
-    rule-stored = subst (FileRule n) (sym front-is) (first-stored .0)
-
-    pub place-inside : place + (3 + places front) ≤ length words
-    place-inside = omega (arith, first-stored .0 .inside, length-drop place words, ap places front-is)
-
-    rule-ahead : Ahead (each g (rulesFrom (count - i) (drop place words))) (g (ruleAt front)) (each g (rulesFrom (count - (i + 1)) (drop (place + (3 + places front)) words)))
-    unfolding each rulesFrom
-    rule-ahead =
-        record {
-          is =
-              ap (λ (k : ℕ). each g (rulesFrom k (drop place words))) more
-              ∙ ap₂ (λ (u v : List ℕ). g (ruleAt u) ++ each g (rulesFrom (count - (i + 1)) v)) (sym front-is)
-              (drop-drop (3 + places (drop place words)) place words ∙ ap (λ (u : List ℕ). drop (place + (3 + places u)) words) (sym front-is));
-        }
-
-    pub rule-range : InRange next (g (ruleAt front))
-    rule-range = range-here (h .so) rule-ahead
-
-    pub rules-again : {size next′ : ℕ} {now′ : List ℕ} → size ≡ 3 + places front → Emitted now next (g (ruleAt front)) now′ next′ → RulesLeft g n count words before at now′ next′ (place + size) (i + 1)
-    rules-again {size} {next′} {now′} e p =
-        subst (λ (k : ℕ). RulesLeft g n count words before at now′ next′ (place + k) (i + 1)) (sym e)
-        (record {
-          stored = subst (FileRules n (count - (i + 1))) (drop-drop (3 + places (drop place words)) place words ∙ ap (λ (u : List ℕ). drop (place + (3 + places u)) words) (sym front-is)) (first-stored .1);
-          so = turn (h .so) rule-ahead p;
-        })

@@ -5,25 +5,18 @@ use steps::classes::count_fixed;
 use steps::classes::emit_copies;
 use steps::classes::emit_fixed;
 use steps::words::emit_raised;
-ghost use mathlib.Core.Path.{_≡_};
-ghost use Prim.Native.Nat.{_+_, _≤_};
+use stores::rule_words::rule_size;
+ghost use Prim.Native.Nat.{_≤_};
 ghost use lib.ListN.{length};
-ghost use Rattle.stores.specs.RuleStore.{places, ruleAt, rulesFrom};
+ghost use Rattle.stores.specs.RuleStore.{ruleAt, rulesFrom};
+ghost use Rattle.stores.specs.StoredRules.{StoredRule, StoredRules};
 ghost use Rattle.output.specs.Emitted.{Emitted, InRange};
-ghost use Rattle.steps.specs.FileRules.{FileRule, FileRules, Lists3};
+ghost use Rattle.steps.specs.RuleLists.{Lists3};
 ghost use Rattle.steps.specs.StepWords.{each, words2, lists3, words3};
-
-// The words that the rule at the front takes.
-fn rule_size(words: &[u16]) -> usize
-    requires { ⌜ 3 + places (now words) ≤ length (now words) ⌝ }
-    ensures { λ r. ⌜ r ≡ 3 + places (now (words .entry)) ⌝ }
-{
-    3 + words[0] as usize + words[1] as usize + words[2] as usize
-}
 
 // No head; not the head atoms, then not N. of the body atoms of the rule at the front.
 fn step2_rule(words: &[u16], n: u16, out: &mut [u16], at: usize) -> usize
-    requires { ⌜ (n ≤ 256) × FileRule n (now words) × InRange at (words2 n (ruleAt (now words))) ⌝ }
+    requires { ⌜ (n ≤ 256) × StoredRule n (now words) × InRange at (words2 n (ruleAt (now words))) ⌝ }
     ensures { λ r. ⌜ Emitted (now (out .entry)) at (words2 n (ruleAt (now (words .entry)))) (now (out .exit)) r ⌝ }
 {
     let counts = [0, 0, words[0] + words[1]];
@@ -37,7 +30,7 @@ fn step2_rule(words: &[u16], n: u16, out: &mut [u16], at: usize) -> usize
 }
 
 pub fn step2(words: &[u16], count: u16, n: u16, out: &mut [u16], at: usize) -> usize
-    requires { ⌜ (n ≤ 256) × FileRules n count (now words) × InRange at (each (words2 n) (rulesFrom count (now words))) ⌝ }
+    requires { ⌜ (n ≤ 256) × StoredRules n count (now words) × InRange at (each (words2 n) (rulesFrom count (now words))) ⌝ }
     ensures { λ r. ⌜ Emitted (now (out .entry)) at (each (words2 n) (rulesFrom count (now (words .entry)))) (now (out .exit)) r ⌝ }
 {
     let mut next = at;
@@ -76,7 +69,7 @@ fn step3_lists(
 }
 
 fn step3_rule(words: &[u16], classes: &[u16], s: u16, u: u16, out: &mut [u16], at: usize) -> usize
-    requires { ⌜ (length (now classes) ≤ 256) × FileRule (length (now classes)) (now words) × (s ≤ 1100) × InRange at (words3 (now classes) s u (ruleAt (now words))) ⌝ }
+    requires { ⌜ (length (now classes) ≤ 256) × StoredRule (length (now classes)) (now words) × (s ≤ 1100) × InRange at (words3 (now classes) s u (ruleAt (now words))) ⌝ }
     ensures { λ r. ⌜ Emitted (now (out .entry)) at (words3 (now (classes .entry)) s u (ruleAt (now (words .entry)))) (now (out .exit)) r ⌝ }
 {
     let body = 3 + words[0] as usize;
@@ -93,7 +86,7 @@ pub fn step3(
     out: &mut [u16],
     at: usize,
 ) -> usize
-    requires { ⌜ (length (now classes) ≤ 256) × FileRules (length (now classes)) count (now words) × (s ≤ 1100) × InRange at (each (words3 (now classes) s u) (rulesFrom count (now words))) ⌝ }
+    requires { ⌜ (length (now classes) ≤ 256) × StoredRules (length (now classes)) count (now words) × (s ≤ 1100) × InRange at (each (words3 (now classes) s u) (rulesFrom count (now words))) ⌝ }
     ensures { λ r. ⌜ Emitted (now (out .entry)) at (each (words3 (now (classes .entry)) s u) (rulesFrom count (now (words .entry)))) (now (out .exit)) r ⌝ }
 {
     let mut next = at;

@@ -7,11 +7,12 @@ use mathlib.Core.Bool.{Bool}
 use borrow.Author.Tests.{lt-leb}
 use lib.ListN.{length, length-append, length-map}
 use Rattle.rules.specs.Lists.{from}
+use Rattle.rules.specs.Rules.{countIf}
 use Rattle.rules.specs.Preferred.{ofClass}
 use Rattle.rules.proofs.Lists.{length-from}
 use Rattle.stores.specs.Program.{Rising}
 use Rattle.pairing.proofs.ListLaws.{shifted}
-use Rattle.text.specs.ClassRuns.{upTo, countWhile}
+use Rattle.text.specs.ClassRuns.{upTo}
 use Rattle.output.specs.Emitted.{Emitted, InRange}
 use Rattle.text.proofs.ClassWords.{up-to-le, up-to-rises, class-run}
 use Rattle.output.proofs.Emitting.{Ahead, Emitting, start, turn, finish, range-here, range-renamed, renamed}
@@ -46,7 +47,7 @@ run-words o ws i first end l e =
 none-below : (ws : List ℕ) → Low ws → upTo 0 ws ≡ 0
 unfolding upTo
 none-below [] h = refl
-none-below (w ∷ ws) h = let l : 1 ≤ w = h .word 0 (omega arith) in ap (λ (b : Bool). countWhile b (upTo 0 ws)) (lt-leb w 0 l)
+none-below (w ∷ ws) h = let l : 1 ≤ w = h .word 0 (omega arith) in ap (λ (b : Bool). countIf b (upTo 0 ws)) (lt-leb w 0 l)
 
 -- the classes before `class` are written, and its atoms begin at `first`
 pub record ClassesLeft (ws : List ℕ) (o : Offsets) (count : ℕ) (before : List ℕ) (at : ℕ) (now : List ℕ) (next first class : ℕ) : Type 0 where

@@ -1,5 +1,5 @@
 -- What each step of the translation writes.
 pub mod Roles
-pub mod FileRules
+pub mod RuleLists
 pub mod Offsets
 pub mod StepWords

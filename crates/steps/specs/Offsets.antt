@@ -5,7 +5,7 @@ use mathlib.Core.List.{List}
 use lib.ListN.{length}
 use Rattle.kinds.specs.Limits.{classLimit}
 use Rattle.stores.specs.Program.{Rising}
-use Rattle.steps.specs.FileRules.{FileRules}
+use Rattle.stores.specs.StoredRules.{StoredRules}
 use Rattle.steps.specs.Roles.{FirstMinimised}
 use Rattle.steps.specs.declared.offsets.Offsets.{Offsets}
 
@@ -25,7 +25,7 @@ pub record Small (o : Offsets) : Type 0 where
 pub record FileFits (ws rs : List ℕ) (count : ℕ) (o : Offsets) : Type 0 where
   pub small : Small o
   pub atoms : length ws ≡ o .n
-  pub rules : FileRules (o .n) count rs
+  pub rules : StoredRules (o .n) count rs
 
 -- what steps 4 to 6 need of the class words of k classes and m minimised atoms
 pub record ClassesFit (ws : List ℕ) (k m : ℕ) (o : Offsets) : Type 0 where

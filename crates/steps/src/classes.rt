@@ -5,6 +5,8 @@ use stores::roles::role_of;
 ghost use mathlib.Core.Path.{_≡_};
 ghost use Prim.Native.Nat.{_<_, _≤_};
 ghost use lib.ListN.{length};
+ghost use Rattle.kinds.specs.Limits.{occurrenceLimit};
+ghost use Rattle.kinds.specs.declared.limits.Kind.the-variants.{Plain};
 ghost use Rattle.rules.specs.Lists.{All};
 ghost use Rattle.pairing.specs.Loops.{fixedWord?};
 ghost use Rattle.output.specs.Emitted.{Emitted, InRange};
@@ -90,7 +92,7 @@ pub fn class_end(classes: &[u16], first: u16, class: u16) -> u16
 
 // How many atoms of a list are fixed.
 pub fn count_fixed(atoms: &[u16], classes: &[u16]) -> u16
-    requires { ⌜ All (λ a. a < length (now classes)) (now atoms) × (length (now atoms) ≤ 8192) ⌝ }
+    requires { ⌜ All (λ a. a < length (now classes)) (now atoms) × (length (now atoms) ≤ occurrenceLimit Plain) ⌝ }
     ensures { λ r. ⌜ r ≡ fixedAmong (now (classes .entry)) (now (atoms .entry)) ⌝ }
 {
     let mut count: u16 = 0;

@@ -10,7 +10,6 @@ ghost use mathlib.Core.Path.{_≡_};
 ghost use Prim.Native.Nat.{_+_, _≤_};
 ghost use lib.ListN.{length, take, drop, getD};
 ghost use Rattle.kinds.specs.declared.limits.Kind.the-variants.{Preference as KindPreference};
-ghost use Rattle.rules.specs.Rules.{rule};
 ghost use Rattle.stores.specs.RuleStore.{kindOf, wordCount, role?, words?, classes?, program?, ruleStore};
 
 // No class above `classes`.

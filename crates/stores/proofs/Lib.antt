@@ -2,6 +2,7 @@
 pub mod ClassWord
 pub mod RuleTests
 pub mod RuleStores
+pub mod StoredRules
 pub mod Marks
 pub mod RulePlace
 pub mod Parts

@@ -9,11 +9,12 @@ use lib.Dec.{leb, eqb}
 use lib.ListN.{length, getD}
 use borrow.Author.Tests.{le-leb, leb-true, leb-false, eq-eqb, ne-eqb}
 use Rattle.rules.specs.Lists.{keep, filter, from}
+use Rattle.rules.specs.Rules.{countIf}
 use Rattle.rules.specs.Preferred.{ofClass}
 use Rattle.rules.proofs.Lists.{from-append}
 use Rattle.stores.specs.Program.{Rising}
 use Rattle.stores.proofs.RuleTests.{rising-from}
-use Rattle.text.specs.ClassRuns.{upTo, countWhile}
+use Rattle.text.specs.ClassRuns.{upTo}
 
 filter-append : (p : ℕ → Bool) (xs ys : List ℕ) → filter p (xs ++ ys) ≡ filter p xs ++ filter p ys
 filter-append p [] ys = refl
@@ -60,7 +61,7 @@ unfolding upTo
 up-to-le w [] = omega arith
 up-to-le w (x ∷ ws) = go (leb x w) (up-to-le w ws)
   where
-    go : (b : Bool) → upTo w ws ≤ length ws → countWhile b (upTo w ws) ≤ suc (length ws)
+    go : (b : Bool) → upTo w ws ≤ length ws → countIf b (upTo w ws) ≤ suc (length ws)
     go true h = omega arith
     go false h = omega arith
 
@@ -69,7 +70,7 @@ unfolding upTo
 up-to-rises v w l [] = omega arith
 up-to-rises v w l (x ∷ ws) = go (leb x v) refl (up-to-rises v w l ws)
   where
-    go : (b : Bool) → leb x v ≡ b → upTo v ws ≤ upTo w ws → countWhile b (upTo v ws) ≤ countWhile (leb x w) (upTo w ws)
+    go : (b : Bool) → leb x v ≡ b → upTo v ws ≤ upTo w ws → countIf b (upTo v ws) ≤ countIf (leb x w) (upTo w ws)
     go true e h = let k : leb x w ≡ true = le-leb x w (omega (arith, leb-true x v e)) in rw k (omega arith)
     go false e h = omega arith
 
@@ -78,12 +79,12 @@ unfolding upTo
 within w [] i l = absurd (omega arith)
 within w (x ∷ ws) zero l = go (leb x w) refl l
   where
-    go : (b : Bool) → leb x w ≡ b → 0 < countWhile b (upTo w ws) → x ≤ w
+    go : (b : Bool) → leb x w ≡ b → 0 < countIf b (upTo w ws) → x ≤ w
     go true e h = leb-true x w e
     go false e h = absurd (omega arith)
 within w (x ∷ ws) (suc i) l = go (leb x w) (within w ws i) l
   where
-    go : (b : Bool) → (i < upTo w ws → getD ws i 0 ≤ w) → suc i < countWhile b (upTo w ws) → getD ws i 0 ≤ w
+    go : (b : Bool) → (i < upTo w ws → getD ws i 0 ≤ w) → suc i < countIf b (upTo w ws) → getD ws i 0 ≤ w
     go true f h = f (omega arith)
     go false f h = absurd (omega arith)
 
@@ -92,12 +93,12 @@ unfolding upTo
 past w b [] r i l u = absurd (omega arith)
 past w b (x ∷ ws) r zero l u = go (leb x w) refl l
   where
-    go : (c : Bool) → leb x w ≡ c → countWhile c (upTo w ws) ≤ 0 → w < x
+    go : (c : Bool) → leb x w ≡ c → countIf c (upTo w ws) ≤ 0 → w < x
     go true e h = absurd (omega arith)
     go false e h = leb-false x w e
 past w b (x ∷ ws) r (suc i) l u = go (leb x w) refl (past w x ws (r .1) i) l
   where
-    go : (c : Bool) → leb x w ≡ c → (upTo w ws ≤ i → i < length ws → w < getD ws i 0) → countWhile c (upTo w ws) ≤ suc i → w < getD ws i 0
+    go : (c : Bool) → leb x w ≡ c → (upTo w ws ≤ i → i < length ws → w < getD ws i 0) → countIf c (upTo w ws) ≤ suc i → w < getD ws i 0
     go true e f h = f (omega arith) (omega arith)
     go false e f h = omega (arith, leb-false x w e, rising-from x ws (r .1) i (omega arith))
 
@@ -117,7 +118,7 @@ unfolding upTo
 stops w [] l = absurd (omega arith)
 stops w (x ∷ ws) l = go (leb x w) refl (stops w ws) l
   where
-    go : (b : Bool) → leb x w ≡ b → (upTo w ws < length ws → w < getD ws (upTo w ws) 0) → countWhile b (upTo w ws) < suc (length ws) → w < getD (x ∷ ws) (countWhile b (upTo w ws)) 0
+    go : (b : Bool) → leb x w ≡ b → (upTo w ws < length ws → w < getD ws (upTo w ws) 0) → countIf b (upTo w ws) < suc (length ws) → w < getD (x ∷ ws) (countIf b (upTo w ws)) 0
     go true e f h = f (omega arith)
     go false e f h = leb-false x w e
 

@@ -2,6 +2,7 @@
 pub mod PlaceTable
 pub mod AtomItems
 pub mod RuleItems
+pub mod RuleLoop
 pub mod ClassItems
 pub mod TextParts
 pub mod ClassWords

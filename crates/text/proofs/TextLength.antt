@@ -7,7 +7,7 @@ use mathlib.Core.Bool.{Bool, true, false}
 use mathlib.Core.List.{List, [], _∷_, _++_}
 use lib.Dec.{T, eqb}
 use lib.ListN.{length, getD, length-append, length-map}
-use Rattle.kinds.specs.Limits.{atomLimit, ruleLimit, occurrenceLimit, textLimit, varying, fixed}
+use Rattle.kinds.specs.Limits.{atomLimit, ruleLimit, occurrenceLimit, textLimit, varying, fixed, longestName, longestEntry}
 use Rattle.kinds.specs.declared.limits.Kind.{Kind}
 use Rattle.kinds.specs.declared.limits.Kind.the-variants.{Plain, Preference}
 use Rattle.rules.specs.Lists.{All, keep, filter, sum, flat, from}
@@ -21,16 +21,16 @@ use Rattle.name_store.proofs.NameStores.{allowed-short}
 use Rattle.kinds.specs.Words.{minWord, varyWord, fixWord}
 use Rattle.text.specs.Text.{item, openText, listLine, ruleLine, named, classLine, declarations, ruleText, textOf}
 
--- names of at most 18 bytes
+-- no name is longer
 abbrev Short : List (List ℕ) → Type 0
-Short names = All (λ x. length x ≤ 18) names
+Short names = All (λ x. length x ≤ longestName) names
 
-name-short : (names : List (List ℕ)) → Short names → (a : ℕ) → length (getD names a []) ≤ 18
+name-short : (names : List (List ℕ)) → Short names → (a : ℕ) → length (getD names a []) ≤ longestName
 name-short [] h a = omega arith
 name-short (x ∷ names) h zero = h .0
 name-short (x ∷ names) h (suc a) = name-short names (h .1) a
 
-items-short : (names : List (List ℕ)) → Short names → length (flat item names) ≤ 19 * length names
+items-short : (names : List (List ℕ)) → Short names → length (flat item names) ≤ longestEntry * length names
 items-short [] h = omega arith
 items-short (x ∷ names) h = omega (arith, length-append x (flat item names), items-short names (h .1), h .0)
 
@@ -39,14 +39,14 @@ module _ (names : List (List ℕ)) (short : Short names) where
   named-short [] = tt
   named-short (a ∷ xs) = (name-short names short a, named-short xs)
 
-  named-length : (xs : List ℕ) → length (flat item (named names xs)) ≤ 19 * length xs
+  named-length : (xs : List ℕ) → length (flat item (named names xs)) ≤ longestEntry * length xs
   named-length xs = omega (arith, items-short (named names xs) (named-short xs), length-map xs (λ a. getD names a []))
 
-  rule-length : (r : Rule ℕ) → length (ruleText names r) ≤ 27 + 19 * occurrences r
+  rule-length : (r : Rule ℕ) → length (ruleText names r) ≤ 27 + longestEntry * occurrences r
   unfolding ruleLine openText
   rule-length r = simp length-append (omega (arith, named-length (r .head), named-length (r .body), named-length (r .nots)))
 
-  rules-length : (rs : List (Rule ℕ)) → length (flat (ruleText names) rs) ≤ 27 * length rs + 19 * sum occurrences rs
+  rules-length : (rs : List (Rule ℕ)) → length (flat (ruleText names) rs) ≤ 27 * length rs + longestEntry * sum occurrences rs
   rules-length [] = omega arith
   rules-length (r ∷ rs) = omega (arith, length-append (ruleText names r) (flat (ruleText names) rs), rule-length r, rules-length rs)
 
@@ -63,12 +63,12 @@ class-length ws w = omega (arith, filter-length (λ a. eqb (getD ws a 0) w) (fro
 
 module _ (p : Program) (names : List (List ℕ)) (short : Short names) where
   -- a class line, its word being of at most four bytes
-  class-line-length : (word : List ℕ) → length word ≤ 4 → (w : ℕ) → length (classLine p names word w) ≤ 7 + 19 * length (p .words)
+  class-line-length : (word : List ℕ) → length word ≤ 4 → (w : ℕ) → length (classLine p names word w) ≤ 7 + longestEntry * length (p .words)
   unfolding listLine openText
   class-line-length word h w =
       simp length-append (omega (arith, h, named-length names short (ofClass (p .words) w), class-length (p .words) w))
 
-  min-lines-length : (s c : ℕ) → length (flat (classLine p names minWord) (from s c)) ≤ c * (7 + 19 * length (p .words))
+  min-lines-length : (s c : ℕ) → length (flat (classLine p names minWord) (from s c)) ≤ c * (7 + longestEntry * length (p .words))
   min-lines-length s zero = omega arith
   min-lines-length s (suc c) =
       omega (arith, length-append (classLine p names minWord s) (flat (classLine p names minWord) (from (suc s) c)), class-line-length minWord (omega arith) s, min-lines-length (suc s) c)
@@ -81,8 +81,8 @@ module _ (p : Program) (names : List (List ℕ)) (short : Short names) where
   unfolding listLine openText declared-bytes
   declarations-length Plain e l c = simp length-append (omega (arith, items-short names short))
   declarations-length Preference e l c =
-      let line : 7 + 19 * length (p .words) ≤ 4871 = omega (arith, c .1) in
-      let all : p .classes * (7 + 19 * length (p .words)) ≤ 16 * 4871 = mul-le-mul (c .0) line in
+      let line : 7 + longestEntry * length (p .words) ≤ 4871 = omega (arith, c .1) in
+      let all : p .classes * (7 + longestEntry * length (p .words)) ≤ 16 * 4871 = mul-le-mul (c .0) line in
       omega (
         arith,
         length-append (flat (classLine p names minWord) (from 1 (p .classes))) (classLine p names varyWord varying ++ classLine p names fixWord fixed),
@@ -100,7 +100,7 @@ module _ (p : Program) (names : List (List ℕ)) (short : Short names) where
 pub text-fits : {p : Program} {names : List (List ℕ)} → Form p → NamesForm (p .kind) (p .atoms) names → length (textOf p names) ≤ textLimit
 unfolding textOf
 text-fits {p} {names} f g =
-    let short = all-imp (λ x. T (allowed (p .kind) x)) (λ x. length x ≤ 18) (allowed-short (p .kind)) names (g .all-allowed) in
+    let short = all-imp (λ x. T (allowed (p .kind) x)) (λ x. length x ≤ longestName) (allowed-short (p .kind)) names (g .all-allowed) in
     omega (
       arith,
       length-append (declarations (p .kind) p names) (flat (ruleText names) (p .rules)),

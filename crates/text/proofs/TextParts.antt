@@ -1,42 +1,28 @@
 -- The text of two stores: the declarations, then the rules.
-use Prim.Native.Nat.{ℕ, zero, suc, _+_, _-_, _≤_}
+use Prim.Native.Nat.{ℕ, suc, _+_, _-_, _≤_}
 use native.Mathlib.Nat.{add-sub-cancel-left}
 use native.Mathlib.Omega.{arith}
 use mathlib.Core.Path.{_≡_, refl, sym, ap, ap₂, _∙_, subst}
-use mathlib.Core.Bool.{Bool, _&&_, cond}
+use mathlib.Core.Bool.{Bool, cond}
 use mathlib.Core.List.{List, [], _∷_, _++_, map}
-use lib.Dec.{T, leb}
 use lib.ListN.{length, getD, take, drop, length-drop, length-take}
-use lib.Seq.{drop-drop}
 use borrow.Author.Tests.{eq-eqb, ne-eqb}
-use Rattle.kinds.specs.Limits.{atomLimit, ruleLimit}
 use Rattle.kinds.specs.declared.limits.Kind.{Kind}
 use Rattle.kinds.specs.declared.limits.Kind.the-variants.{Plain, Preference}
 use Rattle.rules.specs.Lists.{from}
-use Rattle.rules.proofs.Booleans.{T-and-l, T-and-r}
 use Rattle.rules.proofs.Lists.{part-rest}
 use Rattle.stores.specs.Program.{Program, ClassesForm}
-use Rattle.stores.specs.RuleStore.{encode, StoreOf, decode, kindOf, wordCount, places, ruleAt, rulesFrom, classes?, rule?, rules?, program?, store?}
-use Rattle.stores.proofs.RuleTests.{rule-law}
-use Rattle.stores.proofs.RuleStores.{store-law}
+use Rattle.stores.specs.RuleStore.{encode, StoreOf, decode, kindOf, wordCount, rulesFrom}
+use Rattle.stores.specs.StoredRules.{StoredRules}
+use Rattle.stores.proofs.RuleStores.{rules-count}
+use Rattle.stores.proofs.StoredRules.{stored-rules}
 use Rattle.name_store.proofs.NamePlaces.{length-decode}
 use Rattle.kinds.specs.Words.{open-bracket, atomsWord}
 use Rattle.text.specs.Text.{openText, listLine, named, declarations, textOf}
 use Rattle.text.specs.ClassRuns.{ClassWordsOf}
 use Rattle.text.specs.Items.{storedNames, atomItems, atomLine, ruleItems, classItem, minItems, classItems}
-use Rattle.text.specs.StoredRules.{RuleBelow, StoredRules}
 use Rattle.text.specs.Sources.{Sources, sourceText}
 use Rattle.output.proofs.Emitting.{Ahead}
-
--- the rules of a store that was tested
-stored-rules : (kind : Kind) (n used r : ℕ) (ws : List ℕ) → T (rules? kind n used r ws) → StoredRules n r ws
-unfolding rules?
-stored-rules kind n used zero ws h = tt
-stored-rules kind n used (suc r) ws h =
-    let rest = rules? kind n (used + places ws) r (drop (3 + places ws) ws) in
-    let here = rule-law kind n used ws .0 (T-and-l (rule? kind n used ws) rest h) in
-    let below : RuleBelow n (ruleAt ws) = record { heads = here .form .head-form .0; bodies = here .form .body-form .0; nots = here .form .nots-form .0 } in
-    (record { inside = here .inside; below = below }, stored-rules kind n (used + places ws) r (drop (3 + places ws) ws) (T-and-r (rule? kind n used ws) rest h))
 
 pub store-header : {rules : List ℕ} {p : Program} → StoreOf rules p → 4 ≤ length rules
 unfolding encode
@@ -68,13 +54,6 @@ module _ {rules names starts : List ℕ} (h : Sources rules names starts) where
   abbrev nameList : List (List ℕ)
   nameList = storedNames names starts
 
-  tested : T (program? (kindOf (getD rules 0 0)) (getD rules 1 0) (getD rules 2 0) (getD rules 3 0) (drop 4 rules))
-  unfolding store?
-  tested =
-      let program = program? (kindOf (getD rules 0 0)) (getD rules 1 0) (getD rules 2 0) (getD rules 3 0) (drop 4 rules) in
-      let t : T (store? rules) = store-law rules .1 (decode rules, h .store) in
-      T-and-r (leb (getD rules 0 0) 1) program (T-and-r (leb 4 (length rules)) (leb (getD rules 0 0) 1 && program) t)
-
   pub header : 4 ≤ length rules
   header = store-header (h .store)
 
@@ -100,14 +79,13 @@ module _ {rules names starts : List ℕ} (h : Sources rules names starts) where
         (subst (λ (q : Kind). ClassesForm q (getD rules 1 0) (getD rules 2 0) (take (wordCount q (getD rules 1 0)) (drop 4 rules))) k (h .store .form .classes-form))
 
     rules-of-kind : StoredRules (length starts) (getD rules 3 0) ruleWordsFrom
+    unfolding decode
     rules-of-kind =
-        let t = subst (λ (q : Kind). T (program? q (getD rules 1 0) (getD rules 2 0) (getD rules 3 0) (drop 4 rules))) k tested in
-        let r = rules? kind (getD rules 1 0) 0 (getD rules 3 0) (drop words (drop 4 rules)) in
-        let c = classes? kind (getD rules 1 0) (getD rules 2 0) (drop 4 rules) in
-        let few = leb (getD rules 3 0) (ruleLimit kind) in
-        let u : T r = T-and-r c r (T-and-r few (c && r) (T-and-r (leb (getD rules 1 0) (atomLimit kind)) (few && (c && r)) t)) in
-        subst (λ (l : List ℕ). StoredRules (length starts) (getD rules 3 0) l) (drop-drop words 4 rules ∙ sym (part-rest (4 + words) rules))
-        (subst (λ (m : ℕ). StoredRules m (getD rules 3 0) (drop words (drop 4 rules))) (sym counted) (stored-rules kind (getD rules 1 0) 0 (getD rules 3 0) (drop words (drop 4 rules)) u))
+        subst (StoredRules (length starts) (getD rules 3 0)) (sym (part-rest (4 + words) rules))
+        (subst (λ (m : ℕ). StoredRules m (getD rules 3 0) (drop (4 + words) rules)) (sym counted)
+        (subst (λ (q : Kind). StoredRules (getD rules 1 0) (getD rules 3 0) (drop (4 + wordCount q (getD rules 1 0)) rules)) k
+        (subst (λ (r : ℕ). StoredRules (getD rules 1 0) r (drop (4 + wordCount (kindOf (getD rules 0 0)) (getD rules 1 0)) rules)) (rules-count (getD rules 3 0) (drop (4 + wordCount (kindOf (getD rules 0 0)) (getD rules 1 0)) rules))
+        (stored-rules (h .store)))))
 
     parts : (declared : List ℕ) → declarations kind (programOf kind rules) nameList ≡ declared → Ahead (sourceText rules names starts) declared (ruleItems nameList (rulesFrom (getD rules 3 0) ruleWordsFrom))
     unfolding textOf ruleItems

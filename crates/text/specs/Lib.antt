@@ -2,5 +2,4 @@
 pub mod Text
 pub mod ClassRuns
 pub mod Items
-pub mod StoredRules
 pub mod Sources

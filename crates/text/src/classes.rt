@@ -1,5 +1,6 @@
 // The lines of a preference file's classes: the class words never fall, so each line's atoms are the next run of atoms.
 use crate::atoms::emit_line;
+use kinds::limits::ClassWord;
 ghost use mathlib.Core.Path.{_≡_};
 ghost use mathlib.Core.List.{_∷_};
 ghost use Prim.Native.Nat.{_-_, _≤_};
@@ -65,7 +66,7 @@ fn emit_min_lines(
     next
 }
 
-// The lines of all class words: 17 is varying, 18 fixed.
+// The lines of all class words.
 pub fn emit_classes(
     words: &[u16],
     classes: u16,
@@ -79,7 +80,7 @@ pub fn emit_classes(
 {
     let listed = emit_min_lines(words, classes, names, starts, out, at);
     let vary = class_end(words, 0, classes);
-    let fix = class_end(words, vary, 17);
+    let fix = class_end(words, vary, ClassWord::VARYING);
     let varied = emit_line(b"(vary", vary, fix, names, starts, out, listed);
     emit_line(b"(fix", fix, words.len(), names, starts, out, varied)
 }

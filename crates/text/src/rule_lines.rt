@@ -1,15 +1,15 @@
 // The lines of rules.
 use crate::atoms::emit_atoms;
 use output::bytes::emit;
-ghost use mathlib.Core.Path.{_≡_};
-ghost use Prim.Native.Nat.{_+_, _≤_, _<_};
+use stores::rule_words::rule_size;
+ghost use Prim.Native.Nat.{_<_};
 ghost use lib.ListN.{length};
 ghost use Rattle.rules.specs.Lists.{All};
 ghost use Rattle.name_store.specs.NameIndex.{Placed};
-ghost use Rattle.stores.specs.RuleStore.{places, ruleAt, rulesFrom};
+ghost use Rattle.stores.specs.RuleStore.{ruleAt, rulesFrom};
+ghost use Rattle.stores.specs.StoredRules.{StoredRule, StoredRules};
 ghost use Rattle.output.specs.Emitted.{Emitted, InRange};
 ghost use Rattle.text.specs.Items.{storedNames, atomPart, ruleItem, ruleItems};
-ghost use Rattle.text.specs.StoredRules.{StoredRule, StoredRules};
 
 // One list of a rule, after what stands before it.
 fn emit_part(
@@ -39,14 +39,6 @@ fn emit_rule(words: &[u16], names: &[u8], starts: &[u16], out: &mut [u8], at: us
     let bodied = emit_part(b") (body", &words[body..not], names, starts, out, headed);
     let negated = emit_part(b") (not", &words[not..end], names, starts, out, bodied);
     emit(b"))\n", out, negated)
-}
-
-// The words that the rule at the front takes.
-fn rule_size(words: &[u16]) -> usize
-    requires { ⌜ 3 + places (now words) ≤ length (now words) ⌝ }
-    ensures { λ r. ⌜ r ≡ 3 + places (now (words .entry)) ⌝ }
-{
-    3 + words[0] as usize + words[1] as usize + words[2] as usize
 }
 
 pub fn emit_rules(

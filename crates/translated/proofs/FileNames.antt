@@ -5,12 +5,13 @@ use mathlib.Core.Path.{_≡_, refl, sym, ap, ap₂, _∙_, subst}
 use mathlib.Core.List.{List, [], _∷_, _++_, map}
 use lib.ListN.{length, getD, take}
 use lib.Seq.{take-length}
+use Rattle.kinds.specs.Limits.{storeBytes}
 use Rattle.kinds.specs.declared.limits.Kind.the-variants.{Plain, Preference}
 use Rattle.rules.specs.Lists.{from}
 use Rattle.stores.specs.Program.{Form}
 use Rattle.stores.specs.RuleStore.{decode}
 use Rattle.name_store.specs.NameStore.{NamesForm, NamesOf, nameBytes, encodeNames, decodeNames}
-use Rattle.pairing.specs.Atoms.{decimal}
+use Rattle.kinds.specs.Words.{decimal}
 use Rattle.pairing.specs.Loops.{dot, loopedNames}
 use Rattle.pairing.specs.Translated.{translated, translatedNames}
 use Rattle.pairing.proofs.Looped.{looped-names}
@@ -100,7 +101,7 @@ module _ {ws : List ℕ} (h : PreferenceStore ws) where
     plain = plain-names (decode ws) (h .kind) (h .store .form) names (g .form)
 
     -- the store fits the scratch of the translator
-    pub names-fit : length (encodeNames (translatedNames (decode ws) names)) ≤ 20900
+    pub names-fit : length (encodeNames (translatedNames (decode ws) names)) ≤ storeBytes
     names-fit =
         let f : Form (translated (decode ws)) = plain-form (decode ws) (h .kind) (h .store .form) in
         omega (arith, names-length (translatedNames (decode ws) names) (short-of Plain (translatedNames (decode ws) names) (plain .all-allowed)), plain .count, f .atoms-fit)

@@ -1,26 +1,24 @@
 -- What the store of a preference program holds, place by place, and the store of its translation.
-use Prim.Native.Nat.{ℕ, suc, _+_, _-_, _*_, _≤_, _<_}
+use Prim.Native.Nat.{ℕ, suc, _+_, _-_, _*_, _≤_}
 use native.Mathlib.Omega.{arith}
 use mathlib.Core.Path.{_≡_, refl, sym, ap, _∙_, subst}
 use mathlib.Core.Bool.{not}
-use mathlib.Core.List.{List, [], _∷_, _++_}
+use mathlib.Core.List.{List, [], _∷_}
 use lib.Dec.{T, leb→le}
-use lib.ListN.{length, getD, take, drop, length-append, length-drop}
-use lib.Seq.{take-all, drop-at, drop-drop}
-use Rattle.kinds.specs.Limits.{classLimit, occurrenceLimit}
+use lib.ListN.{length, getD, take, drop, length-append}
+use Rattle.kinds.specs.Limits.{classLimit, storeWords}
 use Rattle.kinds.specs.declared.limits.Kind.{Kind}
-use Rattle.kinds.specs.declared.limits.Kind.the-variants.{Preference}
-use Rattle.rules.specs.Lists.{All, filter, flat, from, sum}
-use Rattle.rules.specs.Rules.{Rule, occurrences}
-use Rattle.rules.proofs.Lists.{all-filter, all-from, from-all, length-from}
+use Rattle.rules.specs.Lists.{All, filter, flat, from}
+use Rattle.rules.proofs.Lists.{all-filter, all-from, from-all, length-from, part-rest}
 use Rattle.stores.specs.Program.{Program, Form, ClassesForm, Rising}
 use Rattle.stores.specs.RuleStore.{ruleWords, encode, decode, wordCount, rulesFrom}
-use Rattle.stores.proofs.RuleTests.{rule-front, past-front}
+use Rattle.stores.specs.StoredRules.{StoredRules}
 use Rattle.stores.proofs.RuleStores.{rules-length}
+use Rattle.stores.proofs.StoredRules.{stored-rules}
 use Rattle.pairing.specs.Atoms.{originals, classWord, fixed?, minimised?, minimisedAtoms, unfixedAtoms, fixedAtoms, declared}
 use Rattle.pairing.specs.Loops.{looped}
 use Rattle.pairing.specs.Translated.{translated, numbers}
-use Rattle.pairing.proofs.Fit.{Fit, Inside, fit-of}
+use Rattle.pairing.proofs.Fit.{Fit, fit-of}
 use Rattle.pairing.proofs.SumLaws.{length-parts}
 use Rattle.pairing.proofs.Numbering.{count, minimised-first}
 use Rattle.pairing.proofs.Sums.{rules-sum}
@@ -29,25 +27,11 @@ use Rattle.pairing.proofs.PlainForm.{plain-form}
 use Rattle.output.specs.Emitted.{InRange}
 use Rattle.output.proofs.Emitting.{Ahead}
 use Rattle.steps.specs.declared.offsets.Offsets.{Offsets}
-use Rattle.steps.specs.FileRules.{FileRules}
 use Rattle.steps.specs.Offsets.{offsetsOf, Small, FileFits, ClassesFit}
 use Rattle.translated.specs.PreferenceStore.{PreferenceStore}
 use Rattle.steps.specs.Roles.{Low, FirstMinimised, minimisedCount, unfixedCount}
 use Rattle.steps.specs.StepWords.{stepWords}
 use Rattle.translated.proofs.StoreWords.{all-steps}
-
-file-rules : (n : ℕ) (rs : List (Rule ℕ)) → All (Inside n) rs → sum occurrences rs ≤ occurrenceLimit Preference → FileRules n (length rs) (flat ruleWords rs)
-file-rules n [] h l = tt
-file-rules n (r ∷ rs) h l =
-    let t : List ℕ = flat ruleWords rs in (
-      record {
-        inside = omega (arith, length-append (r .head ++ (r .body ++ r .nots)) t, length-append (r .head) (r .body ++ r .nots), length-append (r .body) (r .nots));
-        few = omega arith;
-        heads = subst (λ (q : Rule ℕ). All (λ a. a < n) (q .head)) (sym (rule-front r t)) (h .0 .head);
-        bodies = subst (λ (q : Rule ℕ). All (λ a. a < n) (q .body)) (sym (rule-front r t)) (h .0 .body);
-      },
-      subst (FileRules n (length rs)) (sym (past-front r t)) (file-rules n rs (h .1) (omega arith)),
-    )
 
 -- the class words and the words of the rules, as the code takes them
 abbrev pub classPart : List ℕ → List ℕ
@@ -101,18 +85,14 @@ module _ {ws : List ℕ} (h : PreferenceStore ws) where
   unfolding decode
   rules-at =
       ap (λ (k : Kind). rulesFrom (getD ws 3 0) (drop (4 + wordCount k (getD ws 1 0)) ws)) (h .kind)
-      ∙ ap (rulesFrom (getD ws 3 0)) (sym (take-all (length ws - (4 + getD ws 1 0)) (drop (4 + getD ws 1 0) ws) (omega (arith, length-drop (4 + getD ws 1 0) ws))))
+      ∙ ap (rulesFrom (getD ws 3 0)) (sym (part-rest (4 + getD ws 1 0) ws))
 
-  rule-words-at : flat ruleWords (p .rules) ≡ rulePart ws
-  unfolding encode
-  rule-words-at =
-      let n : length (p .words) ≡ getD ws 1 0 = fit .count ∙ atoms-at in
-      sym (drop-at (p .words) (flat ruleWords (p .rules)) (getD ws 1 0) n)
-      ∙ drop-four (getD ws 1 0) (h .store .words)
-      ∙ sym (take-all (length ws - (4 + getD ws 1 0)) (drop (4 + getD ws 1 0) ws) (omega (arith, length-drop (4 + getD ws 1 0) ws)))
-    where
-      drop-four : {a b c d : ℕ} {l : List ℕ} (n : ℕ) → a ∷ b ∷ c ∷ d ∷ l ≡ ws → drop n l ≡ drop (4 + n) ws
-      drop-four {a} {b} {c} {d} {l} n e = drop-drop n 4 (a ∷ b ∷ c ∷ d ∷ l) ∙ ap (λ (x : List ℕ). drop (4 + n) x) e
+  rules-stored : StoredRules (getD ws 1 0) (getD ws 3 0) (rulePart ws)
+  unfolding decode
+  rules-stored =
+      subst (StoredRules (getD ws 1 0) (getD ws 3 0)) (sym (part-rest (4 + getD ws 1 0) ws))
+      (subst (λ (k : Kind). StoredRules (getD ws 1 0) (getD ws 3 0) (drop (4 + wordCount k (getD ws 1 0)) ws)) (h .kind)
+      (subst (λ (r : ℕ). StoredRules (getD ws 1 0) r (drop (4 + wordCount (p .kind) (getD ws 1 0)) ws)) count-at (stored-rules (h .store))))
 
   pub class-count : length (classPart ws) ≡ getD ws 1 0
   class-count = sym (ap length words-at) ∙ fit .count ∙ atoms-at
@@ -178,9 +158,7 @@ module _ {ws : List ℕ} (h : PreferenceStore ws) where
         small = small;
         atoms = class-count ∙ n-is;
         rules =
-            subst (λ (n : ℕ). FileRules n (getD ws 3 0) (rulePart ws)) (atoms-at ∙ n-is)
-            (subst (λ (r : ℕ). FileRules (p .atoms) r (rulePart ws)) count-at
-            (subst (FileRules (p .atoms) (length (p .rules))) rule-words-at (file-rules (p .atoms) (p .rules) (fit .rules) (fit .occurrences-fit))));
+            subst (λ (n : ℕ). StoredRules n (getD ws 3 0) (rulePart ws)) n-is rules-stored;
       }
 
       pub classes-fit : ClassesFit (classPart ws) (getD ws 2 0) m o
@@ -240,7 +218,7 @@ module _ {ws : List ℕ} (h : PreferenceStore ws) where
       header-ahead = record { is = λ i. 0 ∷ atoms-are i ∷ 0 ∷ rules-are i ∷ steps-are i }
 
   -- the store fits the scratch of the translator
-  pub store-fits : length (encode (translated p)) ≤ 36604
+  pub store-fits : length (encode (translated p)) ≤ storeWords
   unfolding encode
   store-fits =
       let f : Form (translated p) = plain-form p (h .kind) (h .store .form) in

@@ -9,13 +9,15 @@ use lib.Dec.{T}
 use lib.ListN.{length, getD, take, drop, length-append, length-drop}
 use lib.Seq.{take-all, drop-drop, length-take-le, getD-drop, take-append-seam, drop-append-seam}
 use borrow.Author.Tests.{lt-ltb, le-ltb}
+use Rattle.kinds.specs.Words.{decimal}
+use Rattle.kinds.specs.Limits.{classLimit, longestName, longestEntry}
 use Rattle.kinds.specs.declared.limits.Kind.{Kind}
 use Rattle.rules.specs.Lists.{All, flat, from}
 use Rattle.rules.proofs.Lists.{all-imp}
 use Rattle.names.specs.Names.{allowed}
 use Rattle.name_store.specs.NameStore.{nameBytes, encodeNames, firstName, decodeNames}
 use Rattle.name_store.proofs.NameStores.{allowed-short}
-use Rattle.pairing.specs.Atoms.{decimal}
+use Rattle.pairing.proofs.Decimals.{short, decimal-short}
 use Rattle.pairing.specs.Loops.{dot}
 use Rattle.output.specs.Emitted.{Emitted, InRange}
 use Rattle.output.proofs.Emitting.{Ahead, Emitting, start, turn, finish, range-here}
@@ -36,11 +38,11 @@ dotted-ahead letter {bs} h =
 
 pub one-digit : (j : ℕ) → j < 10 → endBytes j ≡ 3 ∷ 69 ∷ 46 ∷ (48 + j) ∷ []
 unfolding endBytes
-one-digit j l = ap (λ (b : Bool). nameBytes (dot 69 (cond b ((48 + j) ∷ []) (49 ∷ (38 + j) ∷ [])))) (lt-ltb j 10 l)
+one-digit j l = ap (λ (x : List ℕ). nameBytes (dot 69 x)) (decimal-short j (omega arith)) ∙ ap (λ (b : Bool). nameBytes (dot 69 (cond b ((48 + j) ∷ []) (49 ∷ (38 + j) ∷ [])))) (lt-ltb j 10 l)
 
-pub two-digits : (j : ℕ) → 10 ≤ j → endBytes j ≡ 4 ∷ 69 ∷ 46 ∷ 49 ∷ (38 + j) ∷ []
+pub two-digits : (j : ℕ) → 10 ≤ j → j ≤ classLimit → endBytes j ≡ 4 ∷ 69 ∷ 46 ∷ 49 ∷ (38 + j) ∷ []
 unfolding endBytes
-two-digits j l = ap (λ (b : Bool). nameBytes (dot 69 (cond b ((48 + j) ∷ []) (49 ∷ (38 + j) ∷ [])))) (le-ltb j 10 l)
+two-digits j l u = ap (λ (x : List ℕ). nameBytes (dot 69 x)) (decimal-short j (omega arith)) ∙ ap (λ (b : Bool). nameBytes (dot 69 (cond b ((48 + j) ∷ []) (49 ∷ (38 + j) ∷ [])))) (le-ltb j 10 l)
 
 -- the names that are left, from a place in the bytes
 pub record NamesLeft (letter count : ℕ) (bytes before : List ℕ) (at : ℕ) (now : List ℕ) (next place i : ℕ) : Type 0 where
@@ -104,11 +106,11 @@ module _ {letter count : ℕ} {bytes before : List ℕ} {at : ℕ} {now : List �
 -- a store of short names
 
 pub Short : List (List ℕ) → Type 0
-Short names = All (λ x. length x ≤ 18) names
+Short names = All (λ x. length x ≤ longestName) names
 
 pub short-of : (kind : Kind) (names : List (List ℕ)) → All (λ x. T (allowed kind x)) names → Short names
 unfolding Short
-short-of kind names h = all-imp (λ x. T (allowed kind x)) (λ x. length x ≤ 18) (λ x t. allowed-short kind x t) names h
+short-of kind names h = all-imp (λ x. T (allowed kind x)) (λ x. length x ≤ longestName) (λ x t. allowed-short kind x t) names h
 
 rest-bytes : (x bs : List ℕ) → drop (1 + length x) (nameBytes x ++ bs) ≡ bs
 rest-bytes x bs = sym (drop-drop (length x) 1 (nameBytes x ++ bs)) ∙ drop-append-seam x bs
@@ -130,7 +132,7 @@ first-decoded (x ∷ names) (suc c) l =
     ap₂ (λ (y : List ℕ) (ys : List (List ℕ)). y ∷ ys) (take-append-seam x (flat nameBytes names))
     (ap (decodeNames c) (rest-bytes x (flat nameBytes names)) ∙ first-decoded names c (omega arith))
 
-pub names-length : (names : List (List ℕ)) → Short names → length (encodeNames names) ≤ 19 * length names
+pub names-length : (names : List (List ℕ)) → Short names → length (encodeNames names) ≤ longestEntry * length names
 unfolding Short encodeNames
 names-length [] h = omega arith
 names-length (x ∷ names) h = omega (arith, length-append x (flat nameBytes names), names-length names (h .1), h .0)

@@ -2,16 +2,17 @@
 use Prim.Native.Nat.{ℕ, zero, suc, _+_, _-_, _≤_}
 use mathlib.Core.List.{List, [], _∷_, _++_}
 use lib.ListN.{length, getD, drop}
+use Rattle.kinds.specs.Words.{decimal}
+use Rattle.kinds.specs.Limits.{longestName}
 use Rattle.rules.specs.Lists.{from}
 use Rattle.name_store.specs.NameStore.{nameBytes, decodeNames}
-use Rattle.pairing.specs.Atoms.{decimal}
 use Rattle.pairing.specs.Loops.{dot}
 use Rattle.steps.specs.StepWords.{each}
 
--- a name of at most 18 bytes at the front of the bytes
+-- a name at the front of the bytes, no longer than any
 pub record FileName (bs : List ℕ) : Type 0 where
   pub inside : 1 + getD bs 0 0 ≤ length bs
-  pub short : getD bs 0 0 ≤ 18
+  pub short : getD bs 0 0 ≤ longestName
 
 -- n names, one after the other
 abbrev pub FileNames : ℕ → List ℕ → Type 0

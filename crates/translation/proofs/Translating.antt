@@ -8,6 +8,7 @@ use mathlib.Core.List.{List}
 use lib.Dec.{T}
 use lib.ListN.{length, getD, take, drop}
 use lib.Seq.{take-at, length-sets, sets-eq}
+use Rattle.kinds.specs.Limits.{storeWords, storeBytes}
 use Rattle.kinds.specs.declared.limits.Kind.the-variants.{Plain, Preference}
 use Rattle.kinds.specs.declared.refusals.Refusal.the-variants.{RuleStore, NameStore}
 use Rattle.stores.specs.Program.{Program, Form}
@@ -21,7 +22,8 @@ use Rattle.pairing.proofs.PlainForm.{plain-form}
 use Rattle.pairing.proofs.PlainNames.{plain-names}
 use Rattle.text.specs.Text.{textOf}
 use Rattle.output.specs.Emitted.{Emitted}
-use Rattle.writer.specs.Answers.{fitted, fittedOutput, storesText}
+use Rattle.writer.specs.Answers.{fitted, storesText}
+use Rattle.writer.specs.Fitted.{fittedOutput}
 use Rattle.writer.specs.declared.Written.{Written}
 use Rattle.writer.specs.declared.Written.the-variants.{Refused}
 use Rattle.translation.specs.Answers.{translationText, storesTranslation, translateAnswer, translateOutput}
@@ -72,8 +74,8 @@ module _ {rules names : List ℕ} (h : PreferenceStore rules) (g : NamesOf names
       ∙ ap (textOf program) (decode-names names-form)
 
   -- the two scratch arrays, as the code hands them on
-  module _ {words words′ : List ℕ} {rules-end : ℕ} (e : Emitted words 0 (encode program) words′ rules-end) (few : 36604 ≤ length words)
-      {bytes bytes′ : List ℕ} {names-end : ℕ} (f : Emitted bytes 0 (encodeNames named) bytes′ names-end) (short : 20900 ≤ length bytes) where
+  module _ {words words′ : List ℕ} {rules-end : ℕ} (e : Emitted words 0 (encode program) words′ rules-end) (few : storeWords ≤ length words)
+      {bytes bytes′ : List ℕ} {names-end : ℕ} (f : Emitted bytes 0 (encodeNames named) bytes′ names-end) (short : storeBytes ≤ length bytes) where
     words-room : length (encode program) ≤ length words
     words-room = omega (arith, store-fits h)
 

@@ -12,17 +12,15 @@ use writer::write_checked;
 ghost use mathlib.Core.Path.{_≡_};
 ghost use Prim.Native.Nat.{_≤_};
 ghost use lib.ListN.{length};
+ghost use Rattle.kinds.specs.Limits.{storeWords, storeBytes};
 ghost use Rattle.kinds.specs.declared.limits.Kind.the-variants.{Preference};
+ghost use Rattle.rules.specs.Lists.{over};
 ghost use Rattle.stores.specs.RuleStore.{decode};
 ghost use Rattle.name_store.specs.NameStore.{NamesOf, decodeNames};
-ghost use Rattle.writer.specs.Answers.{fitted, fittedOutput};
+ghost use Rattle.writer.specs.Answers.{fitted, writtenBytes};
+ghost use Rattle.writer.specs.Fitted.{fittedOutput};
 ghost use Rattle.translation.specs.Answers.{storesTranslation, translateAnswer, translateOutput};
 ghost use Rattle.translated.specs.PreferenceStore.{PreferenceStore};
-
-// The largest stores of a plain program: four words, three a rule and one an occurrence; 18 bytes a name and its length.
-const WORDS: usize = 4 + 3 * Plain::RULES + Plain::OCCURRENCES;
-
-const BYTES: usize = 19 * Plain::ATOMS;
 
 // The stores of the plain program, then its text.
 fn translate_by(
@@ -32,7 +30,7 @@ fn translate_by(
     bytes: &mut [u8],
     out: &mut [u8],
 ) -> Written
-    requires { ⌜ PreferenceStore (now rules) × NamesOf (now names) Preference (decode (now rules) .atoms) (decodeNames (decode (now rules) .atoms) (now names)) × (36604 ≤ length (now words)) × (20900 ≤ length (now bytes)) ⌝ }
+    requires { ⌜ PreferenceStore (now rules) × NamesOf (now names) Preference (decode (now rules) .atoms) (decodeNames (decode (now rules) .atoms) (now names)) × (storeWords ≤ length (now words)) × (storeBytes ≤ length (now bytes)) ⌝ }
     ensures answer { λ r. ⌜ r ≡ fitted (storesTranslation (now (rules .entry)) (now (names .entry))) (length (now (out .entry))) ⌝ }
     ensures output { λ r. ⌜ now (out .exit) ≡ fittedOutput (storesTranslation (now (rules .entry)) (now (names .entry))) (now (out .entry)) ⌝ }
 {
@@ -41,14 +39,14 @@ fn translate_by(
     write_checked(&words[..rules_end], &bytes[..names_end], out)
 }
 
-// The same, with scratch for the stores.
-fn translate_checked(rules: &[u16], names: &[u8], out: &mut [u8]) -> Written
+// Writes the text of the ten steps of two stores that are known to be of the form.
+pub fn translate_checked(rules: &[u16], names: &[u8], out: &mut [u8]) -> Written
     requires { ⌜ PreferenceStore (now rules) × NamesOf (now names) Preference (decode (now rules) .atoms) (decodeNames (decode (now rules) .atoms) (now names)) ⌝ }
     ensures answer { λ r. ⌜ r ≡ fitted (storesTranslation (now (rules .entry)) (now (names .entry))) (length (now (out .entry))) ⌝ }
-    ensures output { λ r. ⌜ now (out .exit) ≡ fittedOutput (storesTranslation (now (rules .entry)) (now (names .entry))) (now (out .entry)) ⌝ }
+    ensures output { λ r. ⌜ now (out .exit) ≡ over (writtenBytes (fitted (storesTranslation (now (rules .entry)) (now (names .entry))) (length (now (out .entry)))) (storesTranslation (now (rules .entry)) (now (names .entry)))) (now (out .entry)) ⌝ }
 {
-    let mut words = [0u16; WORDS];
-    let mut bytes = [0u8; BYTES];
+    let mut words = [0u16; Plain::WORDS];
+    let mut bytes = [0u8; Plain::BYTES];
     translate_by(rules, names, &mut words, &mut bytes, out)
 }
 

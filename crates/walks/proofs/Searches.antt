@@ -7,24 +7,14 @@ use mathlib.Core.List.{List, [], _∷_}
 use native.Mathlib.Omega.{arith}
 use native.Mathlib.Decide.{decLe}
 use lib.Dec.{T, leb}
-use lib.ListN.{length, getD, take}
+use lib.ListN.{length}
 use borrow.Author.Tests.{le-leb, lt-leb}
 use Rattle.kinds.specs.declared.refusals.Refusal.{Refusal}
 use Rattle.rules.specs.Lists.{All}
 use Rattle.walks.specs.Walk.{search, capped}
+use Rattle.walks.specs.Meanings.{First}
 use Rattle.walks.specs.declared.answers.Verdict.{Verdict}
 use Rattle.walks.specs.declared.answers.Verdict.the-variants.{Yes, Broken, Beaten, Spent, Refused}
-
--- s is the first entry of the walk that is P, and k entries stand before it
-pub record First (P : ℕ → Type 0) (l : List ℕ) (s k : ℕ) : Type 0 where
-  pub inside : k < length l
-  pub place : getD l k 0 ≡ s
-  pub here : P s
-  pub earlier : All (λ x. P x → ⊥) (take k l)
-
--- the first entry that is P, its place counted from 1 being the units
-abbrev pub FirstAt : (ℕ → Type 0) → List ℕ → ℕ → ℕ → Type 0
-FirstAt P l s u = (k : ℕ) × (u ≡ suc k) × First P l s k
 
 abbrev pub unitsOf : Verdict → ℕ
 unitsOf (Yes u) = u

@@ -28,7 +28,7 @@ unfoldable pub preferredAnswer : List ℕ → ℕ → ℕ → Verdict
 preferredAnswer ws set budget = guarded VerdictRefused Preference ws (ltb set) budget (preferredVerdict (decode ws .words) (decode ws .rules) set budget)
 
 unfoldable pub stableAnswer : List ℕ → ℕ → ℕ → Verdict
-stableAnswer ws set budget = guarded VerdictRefused Plain ws (ltb set) budget (stableVerdict (decode ws .rules) set budget)
+stableAnswer ws set budget = guarded VerdictRefused Plain ws (ltb set) budget (stableVerdict (decode ws .atoms) (decode ws .rules) set budget)
 
 unfoldable pub nextAnswer : List ℕ → ℕ → ℕ → NextState
 nextAnswer ws start budget = guarded NextRefused Preference ws (leb start) budget (nextVerdict (decode ws .words) (decode ws .rules) start budget)

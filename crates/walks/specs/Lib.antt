@@ -1,3 +1,5 @@
--- The walks, their units and the answers (document 01, "Verdicts").
+-- The walks, their units and the answers (document 01, "Verdicts"), and what the answers mean.
 pub mod Walk
 pub mod Answers
+pub mod Meanings
+pub mod Listings

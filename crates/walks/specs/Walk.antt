@@ -1,9 +1,9 @@
 -- The walks of the two verdicts, one unit a set tried, and the next state (document 01, "Verdicts").
-use Prim.Native.Nat.{ℕ, suc, _+_, _-_, _^_}
-use mathlib.Core.Bool.{Bool, cond}
+use Prim.Native.Nat.{ℕ, suc, _+_, _^_}
+use mathlib.Core.Bool.{Bool, not, _&&_, cond}
 use mathlib.Core.List.{List, [], _∷_}
-use lib.Dec.{leb}
-use lib.ListN.{length}
+use lib.Dec.{leb, eqb}
+use lib.ListN.{length, drop}
 use Rattle.rules.specs.Lists.{filter, from}
 use Rattle.rules.specs.Sets.{has}
 use Rattle.rules.specs.Rules.{Rule, reduct, model?, firstBroken}
@@ -15,17 +15,24 @@ use Rattle.walks.specs.declared.answers.Verdict.the-variants.{Yes, Broke
 use Rattle.walks.specs.declared.answers.NextState.{NextState}
 use Rattle.walks.specs.declared.answers.NextState.the-variants.{State, Nothing, Spent as NextSpent, Refused as NextRefused}
 
--- all sets that agree with m on the fixed atoms, by rising number
+-- all sets of n atoms, in the order of the walks: by rising number
+unfoldable pub walkOrder : ℕ → List ℕ
+walkOrder n = from 0 (2 ^ n)
+
+-- all sets that agree with m on the fixed atoms
 unfoldable pub preferredWalk : List ℕ → ℕ → List ℕ
-preferredWalk ws m = filter (λ s. agree? (ofClass ws fixed) s m) (from 0 (2 ^ length ws))
+preferredWalk ws m = filter (λ s. agree? (ofClass ws fixed) s m) (walkOrder (length ws))
 
--- m's proper subsets, by rising number
-unfoldable pub stableWalk : ℕ → List ℕ
-stableWalk m = filter (λ s. subset? s m) (from 0 m)
+abbrev pub proper? : ℕ → ℕ → Bool
+proper? s m = subset? s m && not (eqb s m)
 
--- the sets from the start on, by rising number
+-- the proper subsets of m, a set of n atoms
+unfoldable pub stableWalk : ℕ → ℕ → List ℕ
+stableWalk n m = filter (λ s. proper? s m) (walkOrder n)
+
+-- the sets from the start on
 unfoldable pub candidates : List ℕ → ℕ → List ℕ
-candidates ws start = from start (2 ^ length ws - start)
+candidates ws start = drop start (walkOrder (length ws))
 
 -- the first better set of a walk, one unit a set tried; u units were counted before
 unfoldable pub search : (ℕ → Bool) → List ℕ → ℕ → Verdict
@@ -46,16 +53,16 @@ preferredNeeds ws rs m =
     let walked = search (λ s. beats? ws rs s m) (preferredWalk ws m) 0 in
     cond (model? rs (has m)) walked (Broken (firstBroken rs (has m)))
 
-unfoldable pub stableNeeds : List (Rule ℕ) → ℕ → Verdict
-stableNeeds rs m =
-    let walked = search (λ s. model? (reduct rs (has m)) (has s)) (stableWalk m) 0 in
+unfoldable pub stableNeeds : ℕ → List (Rule ℕ) → ℕ → Verdict
+stableNeeds n rs m =
+    let walked = search (λ s. model? (reduct rs (has m)) (has s)) (stableWalk n m) 0 in
     cond (model? rs (has m)) walked (Broken (firstBroken rs (has m)))
 
 unfoldable pub preferredVerdict : List ℕ → List (Rule ℕ) → ℕ → ℕ → Verdict
 preferredVerdict ws rs m budget = capped budget (preferredNeeds ws rs m)
 
-unfoldable pub stableVerdict : List (Rule ℕ) → ℕ → ℕ → Verdict
-stableVerdict rs m budget = capped budget (stableNeeds rs m)
+unfoldable pub stableVerdict : ℕ → List (Rule ℕ) → ℕ → ℕ → Verdict
+stableVerdict n rs m budget = capped budget (stableNeeds n rs m)
 
 -- a candidate costs 1 unit and, if it is a model, the units of its verdict
 abbrev pub after : Verdict → ℕ → ℕ → (ℕ → NextState) → NextState

@@ -9,7 +9,7 @@ use lib.Dec.{T}
 use lib.ListN.{length, getD, take, drop, length-append}
 use lib.Seq.{take-at, length-take-le, sets-eq}
 use borrow.Author.Tests.{le-leb, lt-leb}
-use Rattle.kinds.specs.Limits.{atomLimit}
+use Rattle.kinds.specs.Limits.{atomLimit, longestName}
 use Rattle.kinds.specs.declared.limits.Kind.{Kind}
 use Rattle.kinds.specs.declared.limits.Kind.the-variants.{Plain}
 use Rattle.kinds.specs.declared.refusals.Refusal.the-variants.{Output, RuleStore, NameStore}
@@ -18,8 +18,10 @@ use Rattle.rules.proofs.Booleans.{is-true, is-false}
 use Rattle.names.specs.Names.{allowed}
 use Rattle.stores.specs.RuleStore.{StoreOf, decode, ruleStore, store?}
 use Rattle.name_store.specs.NameStore.{encodeNames, NamesOf, decodeNames, names?}
-use Rattle.name_store.specs.NameIndex.{Placed}
+use Rattle.name_store.specs.NameIndex.{Placed, Indexed}
 use Rattle.stores.specs.declared.rule_store.RuleStore.the-variants.{Of, Refused as NoStore}
+use Rattle.name_store.proofs.NamePlaces.{length-decode}
+use Rattle.name_store.proofs.NameEntries.{length-filled, filled}
 use Rattle.name_store.proofs.NameStores.{allowed-short, decoded-names, encoded-length}
 use Rattle.stores.proofs.RuleStores.{store-law, of-kind, refused}
 use Rattle.stores.proofs.StoreHeader.{atoms-small}
@@ -27,7 +29,8 @@ use Rattle.text.specs.Text.{textOf}
 use Rattle.output.specs.Emitted.{Emitted}
 use Rattle.text.specs.Items.{storedNames, StoredNames}
 use Rattle.text.specs.Sources.{Sources, sourceText}
-use Rattle.writer.specs.Answers.{fitted, fittedOutput, storesText, writeAnswer, writeOutput}
+use Rattle.writer.specs.Answers.{fitted, storesText, writeAnswer, writeOutput}
+use Rattle.writer.specs.Fitted.{fittedOutput}
 use Rattle.writer.specs.declared.Written.{Written}
 use Rattle.writer.specs.declared.Written.the-variants.{Text, Refused}
 use Rattle.text.proofs.TextLength.{text-fits}
@@ -54,7 +57,7 @@ module _ {rules names : List ℕ} (s : StoreOf rules (decode rules)) (m : NamesO
   names-short : length names ≤ 65536
   names-short =
       let all = decodeNames (decode rules .atoms) names in
-      let short = all-imp (λ x. T (allowed (decode rules .kind) x)) (λ x. length x ≤ 18) (allowed-short (decode rules .kind)) all (m .form .all-allowed) in
+      let short = all-imp (λ x. T (allowed (decode rules .kind) x)) (λ x. length x ≤ longestName) (allowed-short (decode rules .kind)) all (m .form .all-allowed) in
       omega (arith, encoded-length all short, ap length (m .bytes), m .form .count, s .form .atoms-fit, atoms-small (decode rules .kind))
 
   module _ (starts : List ℕ) (n : length starts ≡ getD rules 1 0) where
@@ -137,10 +140,27 @@ module _ (rules names before : List ℕ) where
       no-names g = let t = fits ∙ g in (rw (is-store, t), rw (is-store, t))
 
       module _ (g : b ≡ true) where
-        pub both-stores : StoreOf rules (decode rules) × NamesOf names (decode rules .kind) (decode rules .atoms) (decodeNames (decode rules .atoms) names)
-        both-stores = (store-here, decoded-names (decode rules .kind) (decode rules .atoms) names (subst T (sym (fits ∙ g)) tt))
+        names-here : NamesOf names (decode rules .kind) (decode rules .atoms) (decodeNames (decode rules .atoms) names)
+        names-here = decoded-names (decode rules .kind) (decode rules .atoms) names (subst T (sym (fits ∙ g)) tt)
 
-        pub answered : {r : Written} {after : List ℕ} → (r ≡ fitted (storesText rules names) (length before)) × (after ≡ fittedOutput (storesText rules names) before)
-            → (r ≡ writeAnswer rules names (length before)) × (after ≡ writeOutput rules names before)
-        unfolding writeAnswer writeOutput
-        answered h = let t = fits ∙ g in (rw (is-store, t) (h .0), rw (is-store, t) (h .1))
+        -- the places that the check of the names has found
+        module _ {starts heads next : List ℕ} (x : Indexed (decodeNames (getD rules 1 0) names) names starts heads next) where
+          abbrev found : List ℕ
+          found = take (getD rules 1 0) starts
+
+          pub found-length : length found ≡ getD rules 1 0
+          found-length = length-filled (getD rules 1 0) x
+
+          pub found-inside : getD rules 1 0 ≤ length starts
+          found-inside = omega (arith, x .placed .room, length-decode (getD rules 1 0) names)
+
+          pub found-sources : Sources rules names found
+          found-sources = sources store-here names-here found found-length (filled (getD rules 1 0) x .placed)
+
+          pub answered : {r : Written} {after : List ℕ} → (r ≡ fitted (sourceText rules names found) (length before)) × (after ≡ fittedOutput (sourceText rules names found) before)
+              → (r ≡ writeAnswer rules names (length before)) × (after ≡ writeOutput rules names before)
+          unfolding writeAnswer writeOutput
+          answered h =
+              let t = fits ∙ g in
+              let e = text-same store-here names-here found found-length in
+              (rw (is-store, t, ← e) (h .0), rw (is-store, t, ← e) (h .1))

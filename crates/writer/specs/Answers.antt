@@ -7,7 +7,7 @@ use lib.ListN.{length}
 use Rattle.kinds.specs.declared.refusals.Refusal.the-variants.{Output, RuleStore, NameStore}
 use Rattle.stores.specs.RuleStore.{store?, decode}
 use Rattle.name_store.specs.NameStore.{names?, decodeNames}
-use Rattle.output.specs.Emitted.{over}
+use Rattle.rules.specs.Lists.{over}
 use Rattle.text.specs.Text.{textOf}
 use Rattle.writer.specs.declared.Written.{Written}
 use Rattle.writer.specs.declared.Written.the-variants.{Text, Refused}
@@ -20,10 +20,6 @@ fitted text room = cond (leb (length text) room) (Text (length text)) (Refused O
 abbrev pub writtenBytes : Written → List ℕ → List ℕ
 writtenBytes (Text k) text = text
 writtenBytes (Refused f) text = []
-
--- a text in an output, if there is room for it
-abbrev pub fittedOutput : List ℕ → List ℕ → List ℕ
-fittedOutput text before = over (writtenBytes (fitted text (length before)) text) before
 
 -- the text of two stores
 unfoldable pub storesText : List ℕ → List ℕ → List ℕ

@@ -1,2 +1,3 @@
 -- What the writer answers.
 pub mod Answers
+pub mod Fitted

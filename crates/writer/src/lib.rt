@@ -2,7 +2,8 @@
 use kinds::limits::Kind;
 use kinds::limits::Plain;
 use kinds::refusals::Refusal;
-use name_store::store::check_names;
+use name_store::index::BUCKETS;
+use name_store::store::index_names;
 use store_check::store_forms::check_rules;
 use stores::rule_store::RuleStore;
 use text::atoms::place_names;
@@ -11,10 +12,12 @@ ghost use mathlib.Core.Path.{_≡_};
 ghost use Prim.Native.Nat.{_≤_};
 ghost use lib.ListN.{length};
 ghost use Rattle.kinds.specs.Limits.{atomLimit};
+ghost use Rattle.rules.specs.Lists.{over};
 ghost use Rattle.stores.specs.RuleStore.{StoreOf, decode};
 ghost use Rattle.name_store.specs.NameStore.{NamesOf, decodeNames};
 ghost use Rattle.text.specs.Sources.{Sources, sourceText};
-ghost use Rattle.writer.specs.Answers.{fitted, fittedOutput, storesText, writeAnswer, writeOutput};
+ghost use Rattle.writer.specs.Answers.{fitted, writtenBytes, storesText, writeAnswer, writeOutput};
+ghost use Rattle.writer.specs.Fitted.{fittedOutput};
 
 // What the writer and the translator answer: the bytes written, or the refusal.
 pub enum Written {
@@ -54,7 +57,7 @@ fn write_by(rules: &[u16], names: &[u8], table: &mut [u16], out: &mut [u8]) -> W
 pub fn write_checked(rules: &[u16], names: &[u8], out: &mut [u8]) -> Written
     requires { ⌜ StoreOf (now rules) (decode (now rules)) × NamesOf (now names) (decode (now rules) .kind) (decode (now rules) .atoms) (decodeNames (decode (now rules) .atoms) (now names)) ⌝ }
     ensures answer { λ r. ⌜ r ≡ fitted (storesText (now (rules .entry)) (now (names .entry))) (length (now (out .entry))) ⌝ }
-    ensures output { λ r. ⌜ now (out .exit) ≡ fittedOutput (storesText (now (rules .entry)) (now (names .entry))) (now (out .entry)) ⌝ }
+    ensures output { λ r. ⌜ now (out .exit) ≡ over (writtenBytes (fitted (storesText (now (rules .entry)) (now (names .entry))) (length (now (out .entry)))) (storesText (now (rules .entry)) (now (names .entry)))) (now (out .entry)) ⌝ }
 {
     let mut table = [0u16; Plain::ATOMS];
     write_by(rules, names, &mut table, out)
@@ -72,10 +75,13 @@ pub fn write(rules: &[u16], names: &[u8], out: &mut [u8]) -> Written
         };
     };
     let atoms = rules[1] as usize;
-    if !check_names(names, kind, atoms) {
+    let mut starts = [0u16; Plain::ATOMS];
+    let mut heads = [0u16; BUCKETS];
+    let mut next = [0u16; Plain::ATOMS];
+    if !index_names(names, kind, atoms, &mut starts, &mut heads, &mut next) {
         return Written::Refused {
             refusal: Refusal::NameStore,
         };
     }
-    write_checked(rules, names, out)
+    write_text(rules, names, &starts[..atoms], out)
 }

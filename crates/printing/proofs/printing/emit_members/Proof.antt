@@ -1,7 +1,7 @@
 use Rattle.printing.proofs.PrintedLines.{member-next, members-end}
 use Rattle.output.proofs.Emitting.{Emitting, start, turn, finish, range-here, length-kept}
 use Rattle.text.specs.Items.{storedNames}
-use Rattle.printing.specs.Printed.{members}
+use Rattle.printing.specs.Parts.{members}
 use lib.ListN.{length}
 use Prim.Native.Nat.{_-_}
 use borrow.Author.Needs.{needs}

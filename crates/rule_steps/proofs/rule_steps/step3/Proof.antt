@@ -1,5 +1,5 @@
-use Rattle.rule_steps.proofs.RuleSteps.{RulesLeft, rules-begin, rules-end, rule-stored, place-inside, rule-range, rules-again}
-use Rattle.steps.specs.StepWords.{words3}
+use Rattle.text.proofs.RuleLoop.{RulesLeft, rules-begin, rules-end, rule-stored, place-inside, rule-range, rules-again}
+use Rattle.steps.specs.StepWords.{each, words3}
 use Rattle.output.proofs.Emitting.{length-kept}
 use native.Mathlib.Omega.{arith}
 use lib.ListN.{length}
@@ -15,6 +15,7 @@ abbrev μ-loop : tie.MeasureT-loop
 μ-loop words count classes s u out₀ at next₀ from₀ i₀ out next from i = count - i
 
 loop-holds : tie.Need-loop-holds Inv-loop μ-loop
+unfolding each
 loop-holds c = rules-begin (c .before .before .before .pre .1) (c .before .before .before .pre .3)
 
 mul-rule-size : tie.Need-mul-rule-size Inv-loop μ-loop
@@ -63,6 +64,7 @@ same-length : tie.Need-same-length Inv-loop μ-loop
 same-length c = length-kept (c .before .loop .inv .so)
 
 returns : tie.Need-returns Inv-loop μ-loop
+unfolding each
 returns c = rules-end (c .before .loop .inv) (c .loop-test .left)
 
 pub step3-spec : {M : Type 1} → statement M

@@ -1,12 +1,10 @@
-use Rattle.steps.proofs.StepLaws.{run-next, run-ends}
+use Rattle.steps.proofs.StepLaws.{run-next, run-ends, own-low, own-small, own-words}
 use Rattle.steps.specs.StepWords.{each, words6}
-use Rattle.output.proofs.Emitting.{Emitting, start, turn, finish, range-here, length-kept}
+use Rattle.output.proofs.Emitting.{Emitting, start, turn, finish, range-here, length-kept, renamed, range-renamed}
 use Rattle.rules.specs.Lists.{from}
 use Prim.Native.Nat.{_-_}
 use native.Mathlib.Omega.{arith}
-use Rattle.output.proofs.Emitting.{renamed, range-renamed}
 use mathlib.Core.Path.{sym}
-use Rattle.steps.proofs.StepLaws.{own-low, own-small, own-words}
 use borrow.Author.Needs.{needs}
 use Rattle.steps.proofs.steps.step6.Statement.{statement}
 use Rattle.steps.proofs.steps.step6.Tie as tie

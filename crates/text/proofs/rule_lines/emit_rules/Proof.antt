@@ -1,6 +1,6 @@
-use Rattle.text.proofs.RuleItems.{RulesLeft, rules-begin, rules-end, rule-stored, place-inside, rule-range, rules-again}
+use Rattle.text.proofs.RuleLoop.{RulesLeft, rules-begin, rules-end, rule-stored, place-inside, rule-range, rules-again}
 use Rattle.output.proofs.Emitting.{length-kept}
-use Rattle.text.specs.Items.{storedNames}
+use Rattle.text.specs.Items.{storedNames, ruleItem, ruleItems}
 use lib.ListN.{length}
 use native.Mathlib.Omega.{arith}
 use Prim.Native.Nat.{_-_}
@@ -9,12 +9,13 @@ use Rattle.text.proofs.rule_lines.emit_rules.Statement.{statement}
 use Rattle.text.proofs.rule_lines.emit_rules.Tie as tie
 
 abbrev Inv-loop : tie.InvT-loop
-Inv-loop words count names starts out₀ at next₀ from₀ i₀ out next from i = RulesLeft (storedNames names starts) (length starts) count words out₀ at out next from i
+Inv-loop words count names starts out₀ at next₀ from₀ i₀ out next from i = RulesLeft (ruleItem (storedNames names starts)) (length starts) count words out₀ at out next from i
 
 abbrev μ-loop : tie.MeasureT-loop
 μ-loop words count names starts out₀ at next₀ from₀ i₀ out next from i = count - i
 
 loop-holds : tie.Need-loop-holds Inv-loop μ-loop
+unfolding ruleItem ruleItems
 loop-holds c = rules-begin (c .before .before .before .before .pre .1) (c .before .before .before .before .pre .2)
 
 mul-rule-size : tie.Need-mul-rule-size Inv-loop μ-loop
@@ -63,6 +64,7 @@ same-length : tie.Need-same-length Inv-loop μ-loop
 same-length c = length-kept (c .before .loop .inv .so)
 
 returns : tie.Need-returns Inv-loop μ-loop
+unfolding ruleItem ruleItems
 returns c = rules-end (c .before .loop .inv) (c .loop-test .left)
 
 pub emit-rules-spec : {M : Type 1} → statement M

@@ -27,13 +27,13 @@ slice-aggregate-emit-2 : tie.Need-slice-aggregate-emit-2
 slice-aggregate-emit-2 c = search needs
 
 emit-requires-2 : tie.Need-emit-requires-2
-emit-requires-2 c κs = range-renamed (c .before .before .before .before .pre .1) (two-digits _ (c .before .before .if1 .left))
+emit-requires-2 c κs = range-renamed (c .before .before .before .before .pre .1) (two-digits _ (c .before .before .if1 .left) (c .before .before .before .before .pre .0))
 
 same-length-2 : tie.Need-same-length-2
 same-length-2 c = search needs
 
 returns-2 : tie.Need-returns-2
-returns-2 c = renamed (c .before .before .emit2 .ensures) (sym (two-digits _ (c .before .before .before .before .before .if1 .left)))
+returns-2 c = renamed (c .before .before .emit2 .ensures) (sym (two-digits _ (c .before .before .before .before .before .if1 .left) (c .before .before .before .before .before .before .before .pre .0)))
 
 pub end-name-spec : {M : Type 1} → statement M
 end-name-spec =

@@ -1,0 +1,15 @@
+-- The lists of a rule that step 3 goes over.
+use Prim.Native.Nat.{ℕ, _≤_, _<_}
+use mathlib.Core.List.{List}
+use lib.ListN.{length}
+use Rattle.kinds.specs.Limits.{atomLimit, occurrenceLimit}
+use Rattle.kinds.specs.declared.limits.Kind.the-variants.{Plain, Preference}
+use Rattle.rules.specs.Lists.{All}
+
+-- the head and the body of a rule over the atoms that have class words
+pub record Lists3 (ws heads bodies : List ℕ) : Type 0 where
+  pub few : length ws ≤ atomLimit Preference
+  pub few-heads : length heads ≤ occurrenceLimit Plain
+  pub few-bodies : length bodies ≤ occurrenceLimit Plain
+  pub heads-below : All (λ a. a < length ws) heads
+  pub bodies-below : All (λ a. a < length ws) bodies

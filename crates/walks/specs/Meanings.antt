@@ -1,0 +1,102 @@
+-- What each answer means (document 01, "Verdicts").
+use Prim.Native.Nat.{ℕ, suc, _+_, _^_, _≤_, _<_}
+use mathlib.Core.Path.{_≡_}
+use mathlib.Core.Logic.{_↔_, _⊎_}
+use mathlib.Core.List.{List, [], _∷_}
+use lib.ListN.{length, getD, take}
+use Rattle.kinds.specs.declared.refusals.Refusal.{Refusal}
+use Rattle.rules.specs.Lists.{All, Any, Distinct}
+use Rattle.rules.specs.Sets.{has}
+use Rattle.rules.specs.Rules.{Rule, Model, FirstBroken, reduct}
+use Rattle.rules.specs.Stable.{Stable}
+use Rattle.rules.specs.Preferred.{Beats, Preferred}
+use Rattle.walks.specs.Walk.{preferredWalk, stableWalk, candidates, preferredVerdict, stableVerdict, nextVerdict}
+use Rattle.walks.specs.declared.answers.Verdict.the-variants.{Yes, Broken, Beaten, Spent, Refused}
+use Rattle.walks.specs.declared.answers.NextState.the-variants.{State, Nothing, Spent as NextSpent, Refused as NextRefused}
+
+-- each set of n atoms once, and nothing else
+pub record EachSetOnce (n : ℕ) (l : List ℕ) : Type 0 where
+  pub once : Distinct l
+  pub only : All (λ s. s < 2 ^ n) l
+  pub each : (s : ℕ) → s < 2 ^ n → Any (λ x. x ≡ s) l
+
+-- s is the first entry of the walk that is P, and k entries stand before it
+pub record First (P : ℕ → Type 0) (l : List ℕ) (s k : ℕ) : Type 0 where
+  pub inside : k < length l
+  pub place : getD l k 0 ≡ s
+  pub here : P s
+  pub earlier : All (λ x. P x → ⊥) (take k l)
+
+-- the first entry that is P, its place counted from 1 being the units
+abbrev pub FirstAt : (ℕ → Type 0) → List ℕ → ℕ → ℕ → Type 0
+FirstAt P l s u = (k : ℕ) × (u ≡ suc k) × First P l s k
+
+-- s is the least number from a on that is P
+pub record Least (P : ℕ → Type 0) (a s : ℕ) : Type 0 where
+  pub above : a ≤ s
+  pub here : P s
+  pub least : (t : ℕ) → a ≤ t → t < s → P t → ⊥
+
+-- the preferred verdict
+
+-- the units needed, one a set tried: the whole walk where m is preferred, else up to the first set that beats it, that one included
+abbrev pub PreferredUnits : List ℕ → List (Rule ℕ) → ℕ → ℕ → Type 0
+PreferredUnits ws rs m u =
+    (Preferred ws rs m × (u ≡ length (preferredWalk ws m)))
+    ⊎ ((s : ℕ) × Model rs (has m) × FirstAt (λ s. Beats ws rs s m) (preferredWalk ws m) s u)
+
+pub record PreferredMeans (ws : List ℕ) (rs : List (Rule ℕ)) (m budget : ℕ) : Type 0 where
+  pub yes : (u : ℕ) → preferredVerdict ws rs m budget ≡ Yes u ↔ (Preferred ws rs m × (u ≡ length (preferredWalk ws m)) × (u ≤ budget))
+  -- no model: the first broken rule
+  pub broken : (i : ℕ) → preferredVerdict ws rs m budget ≡ Broken i ↔ FirstBroken rs (has m) i
+  -- the first set of the walk that beats m, with its place
+  pub beaten : (s u : ℕ) → preferredVerdict ws rs m budget ≡ Beaten s u ↔ (Model rs (has m) × FirstAt (λ s. Beats ws rs s m) (preferredWalk ws m) s u × (u ≤ budget))
+  -- exactly when the units needed exceed the budget
+  pub spent : (u : ℕ) → preferredVerdict ws rs m budget ≡ Spent u ↔ ((u ≡ budget) × ((n : ℕ) × PreferredUnits ws rs m n × (budget < n)))
+  pub never-refused : (f : Refusal) → preferredVerdict ws rs m budget ≡ Refused f → ⊥
+
+-- the stable verdict
+
+abbrev pub StableUnits : ℕ → List (Rule ℕ) → ℕ → ℕ → Type 0
+StableUnits n rs m u =
+    (Stable rs m × (u ≡ length (stableWalk n m)))
+    ⊎ ((s : ℕ) × Model rs (has m) × FirstAt (λ s. Model (reduct rs (has m)) (has s)) (stableWalk n m) s u)
+
+pub record StableMeans (n : ℕ) (rs : List (Rule ℕ)) (m budget : ℕ) : Type 0 where
+  pub yes : (u : ℕ) → stableVerdict n rs m budget ≡ Yes u ↔ (Stable rs m × (u ≡ length (stableWalk n m)) × (u ≤ budget))
+  pub broken : (i : ℕ) → stableVerdict n rs m budget ≡ Broken i ↔ FirstBroken rs (has m) i
+  -- the first proper subset that is a model of the reduct, with its place
+  pub beaten : (s u : ℕ) → stableVerdict n rs m budget ≡ Beaten s u ↔ (Model rs (has m) × FirstAt (λ s. Model (reduct rs (has m)) (has s)) (stableWalk n m) s u × (u ≤ budget))
+  pub spent : (u : ℕ) → stableVerdict n rs m budget ≡ Spent u ↔ ((u ≡ budget) × ((k : ℕ) × StableUnits n rs m k × (budget < k)))
+  pub never-refused : (f : Refusal) → stableVerdict n rs m budget ≡ Refused f → ⊥
+
+-- the next state
+
+-- a candidate costs 1 unit and, if it is a model, the units of its verdict
+abbrev pub CandidateUnits : List ℕ → List (Rule ℕ) → ℕ → ℕ → Type 0
+CandidateUnits ws rs s c = ((Model rs (has s) → ⊥) × (c ≡ 1)) ⊎ ((u : ℕ) × PreferredUnits ws rs s u × (c ≡ suc u))
+
+-- the units of each set of a list together
+abbrev pub TotalUnits : (ℕ → ℕ → Type 0) → List ℕ → ℕ → Type 0
+TotalUnits Units [] u = u ≡ 0
+TotalUnits Units (s ∷ l) u = (c v : ℕ) × Units s c × TotalUnits Units l v × (u ≡ c + v)
+
+-- the first preferred set among the candidates, with the units of those up to it
+abbrev pub FoundState : List ℕ → List (Rule ℕ) → ℕ → ℕ → ℕ → Type 0
+FoundState ws rs start s u = (k : ℕ) × First (Preferred ws rs) (candidates ws start) s k × TotalUnits (CandidateUnits ws rs) (take (suc k) (candidates ws start)) u
+
+-- no candidate is preferred, with the units of all
+abbrev pub NoState : List ℕ → List (Rule ℕ) → ℕ → ℕ → Type 0
+NoState ws rs start u = All (λ s. Preferred ws rs s → ⊥) (candidates ws start) × TotalUnits (CandidateUnits ws rs) (candidates ws start) u
+
+abbrev pub NextUnits : List ℕ → List (Rule ℕ) → ℕ → ℕ → Type 0
+NextUnits ws rs start u = ((s : ℕ) × FoundState ws rs start s u) ⊎ NoState ws rs start u
+
+pub record NextMeans (ws : List ℕ) (rs : List (Rule ℕ)) (start budget : ℕ) : Type 0 where
+  pub state : (s u : ℕ) → nextVerdict ws rs start budget ≡ State s u ↔ (FoundState ws rs start s u × (u ≤ budget))
+  -- the least preferred set with number at or above the start
+  pub least : (s u : ℕ) → nextVerdict ws rs start budget ≡ State s u → (s < 2 ^ length ws) × Least (Preferred ws rs) start s
+  pub nothing : (u : ℕ) → nextVerdict ws rs start budget ≡ Nothing u ↔ (NoState ws rs start u × (u ≤ budget))
+  pub none-above : (u : ℕ) → nextVerdict ws rs start budget ≡ Nothing u → (s : ℕ) → start ≤ s → s < 2 ^ length ws → Preferred ws rs s → ⊥
+  pub spent : (u : ℕ) → nextVerdict ws rs start budget ≡ NextSpent u ↔ ((u ≡ budget) × ((n : ℕ) × NextUnits ws rs start n × (budget < n)))
+  pub never-refused : (f : Refusal) → nextVerdict ws rs start budget ≡ NextRefused f → ⊥
