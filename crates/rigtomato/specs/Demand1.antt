@@ -4,23 +4,28 @@ use mathlib.Core.Path.{_≡_}
 use mathlib.Core.Logic.{_↔_, _⊎_}
 use mathlib.Core.List.{List, _++_}
 use lib.ListN.{length, drop}
-use Rattle.kinds.specs.Limits.{walkAtoms, budgetLimit}
+use Rattle.kinds.specs.Limits.{streamLimit, walkAtoms, budgetLimit}
 use Rattle.kinds.specs.declared.limits.Kind.{Kind}
 use Rattle.kinds.specs.declared.limits.Kind.the-variants.{Plain, Preference}
 use Rattle.kinds.specs.declared.refusals.Refusal.{Refusal}
-use Rattle.kinds.specs.declared.refusals.Refusal.the-variants.{Output, RuleStore, TooManyAtoms, SetNumber, Budget, NameStore}
+use Rattle.kinds.specs.declared.refusals.Refusal.the-variants.{TextTooLong, Output, RuleStore, TooManyAtoms, SetNumber, Budget, NameStore}
 use Rattle.stores.specs.Program.{Program}
-use Rattle.stores.specs.RuleStore.{StoreOf, decode}
-use Rattle.name_store.specs.NameStore.{NamesOf}
+use Rattle.rules.specs.Lists.{over}
+use Rattle.stores.specs.RuleStore.{StoreOf, encode, decode}
+use Rattle.name_store.specs.NameStore.{NamesOf, encodeNames}
+use Rattle.faults.specs.EarliestFault.{Refuses, Accepts}
+use Rattle.delivery.specs.declared.answers.Read.the-variants.{Accepted, Refused as NotRead}
+use Rattle.delivery.specs.Answers.{readAnswer, readRules, readNames}
+use Rattle.reader.specs.WrittenText.{WrittenText}
 use Rattle.writer.specs.declared.Written.{Written}
 use Rattle.writer.specs.declared.Written.the-variants.{Text, Refused as NotWritten}
 use Rattle.writer.specs.Answers.{storesText, writeAnswer, writeOutput}
 use Rattle.translation.specs.Answers.{storesTranslation, translateAnswer, translateOutput}
-use Rattle.walks.specs.declared.answers.Verdict.{Verdict}
 use Rattle.walks.specs.declared.answers.Verdict.the-variants.{Refused as NotJudged}
-use Rattle.walks.specs.declared.answers.NextState.{NextState}
 use Rattle.walks.specs.declared.answers.NextState.the-variants.{Refused as NotSearched}
 use Rattle.walks.specs.Answers.{preferredAnswer, stableAnswer, nextAnswer}
+use Rattle.printing.specs.Printed.{refusedText, shown}
+use Rattle.programs.specs.Programs.{translatePrinted, statesPrinted}
 
 -- tested in this order: refusal x where its sentence holds, else what the later ones say
 abbrev pub Tested : Refusal → Type 0 → (Refusal → Type 0) → Refusal → Type 0
@@ -61,6 +66,19 @@ pub record Writes (answer : Written) (text before after : List ℕ) : Type 0 whe
   pub refused : (r : Refusal) → answer ≡ NotWritten r → after ≡ before
   pub written : (size : ℕ) → answer ≡ Text size → after ≡ text ++ drop size before
 
+-- the reader: 1, then 2 to 8 with their line (crate `faults`), then 9 for either output
+abbrev pub NoRoom : Program → List (List ℕ) → ℕ → ℕ → Type 0
+NoRoom p names words bytes = TooShort (encode p) words ⊎ TooShort (encodeNames names) bytes
+
+pub record ReadRefuses (text rules names : List ℕ) : Type 0 where
+  pub refused : (r : Refusal) (line : ℕ) → readAnswer text (length rules) (length names) ≡ NotRead r line
+      ↔ (Refuses text r line ⊎ ((p : Program) × (ns : List (List ℕ)) × Accepts text p ns × NoRoom p ns (length rules) (length names) × (r ≡ Output) × (line ≡ 0)))
+  pub accepted : (words bytes : ℕ) → readAnswer text (length rules) (length names) ≡ Accepted words bytes
+      ↔ ((p : Program) × (ns : List (List ℕ)) × Accepts text p ns × (NoRoom p ns (length rules) (length names) → ⊥) × (words ≡ length (encode p)) × (bytes ≡ length (encodeNames ns)))
+  pub kept : (r : Refusal) (line : ℕ) → readAnswer text (length rules) (length names) ≡ NotRead r line → (readRules text rules names ≡ rules) × (readNames text rules names ≡ names)
+  pub filled : (words bytes : ℕ) → readAnswer text (length rules) (length names) ≡ Accepted words bytes → (p : Program) (ns : List (List ℕ)) → Accepts text p ns
+      → (readRules text rules names ≡ encode p ++ drop words rules) × (readNames text rules names ≡ encodeNames ns ++ drop bytes names)
+
 -- the writer: 10, 14, 9
 pub record WriteRefuses (rules names before : List ℕ) : Type 0 where
   pub refused : (r : Refusal) → writeAnswer rules names (length before) ≡ NotWritten r
@@ -89,3 +107,27 @@ pub record VerdictRefuses (rules : List ℕ) (number budget : ℕ) : Type 0 wher
   pub preferred : (r : Refusal) → preferredAnswer rules number budget ≡ NotJudged r ↔ CallRefused Preference rules (λ top. top ≤ number) budget r
   pub stable : (r : Refusal) → stableAnswer rules number budget ≡ NotJudged r ↔ CallRefused Plain rules (λ top. top ≤ number) budget r
   pub next-state : (r : Refusal) → nextAnswer rules number budget ≡ NotSearched r ↔ CallRefused Preference rules (λ top. top < number) budget r
+
+-- the two programs: all that is printed where the lent output has room for it, else nothing
+pub record PrintsInto (text before : List ℕ) : Type 0 where
+  pub all : length text ≤ length before → over (shown text before) before ≡ text ++ drop (length text) before
+  pub nothing : length before < length text → over (shown text before) before ≡ before
+
+-- what they print where they refuse: a text past their limit, one that the reader refuses, a plain program; the lister over 60 atoms
+pub record PrintRefuses (text : List ℕ) : Type 0 where
+  pub too-long : streamLimit < length text → (translatePrinted text ≡ refusedText TextTooLong 0) × (statesPrinted text ≡ refusedText TextTooLong 0)
+  pub refused : length text ≤ streamLimit → (r : Refusal) (line : ℕ) → Refuses text r line → (translatePrinted text ≡ refusedText r line) × (statesPrinted text ≡ refusedText r line)
+  pub plain : length text ≤ streamLimit → (p : Program) (names : List (List ℕ)) → Accepts text p names → p .kind ≡ Plain
+      → (translatePrinted text ≡ refusedText RuleStore 0) × (statesPrinted text ≡ refusedText RuleStore 0)
+  pub many-atoms : length text ≤ streamLimit → (p : Program) (names : List (List ℕ)) → Accepts text p names → p .kind ≡ Preference → walkAtoms < p .atoms
+      → statesPrinted text ≡ refusedText TooManyAtoms 0
+
+pub record Demand1 : Type 0 where
+  pub read : (text rules names : List ℕ) → ReadRefuses text rules names
+  -- a text is accepted exactly when it is the text of a program of the form
+  pub accepted : (text : List ℕ) → ((p : Program) × (names : List (List ℕ)) × Accepts text p names) ↔ WrittenText text
+  pub write : (rules names before : List ℕ) → WriteRefuses rules names before
+  pub translate : (rules names before : List ℕ) → TranslateRefuses rules names before
+  pub verdicts : (rules : List ℕ) (number budget : ℕ) → VerdictRefuses rules number budget
+  pub programs : (text : List ℕ) → PrintRefuses text
+  pub printed : (text before : List ℕ) → PrintsInto text before
