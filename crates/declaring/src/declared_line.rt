@@ -211,7 +211,16 @@ pub fn declare_atoms(
     let counts = gathered.counts;
     let before = counts.atoms;
     let filled = gathered.bytes;
-    match entries::enter_names(line, shape.from, bytes, starts, firsts, links, before, filled) {
+    match entries::enter_names(
+        line,
+        shape.from,
+        bytes,
+        starts,
+        firsts,
+        links,
+        before,
+        filled,
+    ) {
         Entered::All { atoms, bytes: used } => keep_names(
             kind,
             gathered,

@@ -1,7 +1,7 @@
 -- The scratch decodes to the state that it holds, and a list written behind what is filled.
 use Prim.Native.Nat.{ℕ, _+_, _≤_}
 use native.Mathlib.Omega.{arith}
-use mathlib.Core.Path.{_≡_, sym, ap, ap₂, _∙_}
+use mathlib.Core.Path.{_≡_, refl, sym, ap, ap₂, _∙_}
 use mathlib.Core.Bool.{true, _&&_}
 use mathlib.Core.List.{List, [], _∷_, _++_, append-assoc, append-nil}
 use lib.Dec.{leb}
@@ -11,7 +11,7 @@ use Rattle.kinds.specs.Limits.{atomLimit, ruleLimit, occurrenceLimit, within}
 use Rattle.kinds.specs.declared.limits.Counts.{Counts}
 use Rattle.kinds.specs.declared.limits.Kind.{Kind}
 use Rattle.kinds.specs.declared.limits.Kind.the-variants.{Plain, Preference}
-use borrow.Author.Tests.{leb-true}
+use borrow.Author.Tests.{leb-true, le-leb}
 use Rattle.rules.specs.Lists.{sum, flat}
 use Rattle.rules.specs.Rules.{Rule, occurrences}
 use Rattle.rules.proofs.Booleans.{both-true}
@@ -119,6 +119,9 @@ within-limits kind c e =
     let a = both-true (leb (c .atoms) (atomLimit kind)) (leb (c .rules) (ruleLimit kind) && leb (c .occurrences) (occurrenceLimit kind)) e in
     let b = both-true (leb (c .rules) (ruleLimit kind)) (leb (c .occurrences) (occurrenceLimit kind)) (a .1) in
     record { atoms = leb-true _ _ (a .0); rules = leb-true _ _ (b .0); occurrences = leb-true _ _ (b .1) }
+
+pub limits-within : {kind : Kind} {c : Counts} → Fits kind c → within kind c ≡ true
+limits-within f = rw (le-leb _ _ (f .atoms), le-leb _ _ (f .rules), le-leb _ _ (f .occurrences))
 
 -- the counts are small
 pub record Small (g : Gathered) : Type 0 where
