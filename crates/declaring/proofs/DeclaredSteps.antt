@@ -8,7 +8,7 @@ use lib.Dec.{T, leb}
 use lib.ListN.{length, drop, length-append, length-replicate}
 use lib.Seq.{sets, length-sets}
 use borrow.Author.Tests.{lt-leb, leb-true, not-false}
-use Rattle.kinds.specs.Limits.{atomLimit, classLimit}
+use Rattle.kinds.specs.Limits.{atomLimit, classLimit, within}
 use Rattle.kinds.specs.declared.limits.Kind.{Kind}
 use Rattle.kinds.specs.declared.limits.Kind.the-variants.{Plain, Preference}
 use Rattle.kinds.specs.declared.refusals.Refusal.{Refusal}
@@ -23,17 +23,17 @@ use Rattle.stores.specs.RuleStore.{ruleWords, wordCount}
 use Rattle.name_store.proofs.NameStores.{allowed-short}
 use Rattle.lines.specs.declared.stage.Stage.{Stage}
 use Rattle.lines.specs.declared.stage.Stage.the-variants.{Declaring, Fixing, Ruling}
-use Rattle.lines.specs.declared.forms.Keyword.{Keyword}
+use Rattle.lines.specs.declared.forms.DeclaredShape.{DeclaredShape}
 use Rattle.gathering.specs.declared.gathered.Gathered.{Gathered}
 use Rattle.gathering.specs.declared.gathered.Line.{Line}
 use Rattle.gathering.specs.declared.gathered.Line.the-variants.{Next}
 use Rattle.lines.specs.Items.{items}
 use Rattle.lines.specs.Forms.{Form, Word, atoms, min, vary, fix}
-use Rattle.lines.specs.Faults.{State, next, fault, expects, ruling?, classesAfter, classWords, twice, refusedName, first, declared, declare, stepForm}
+use Rattle.lines.specs.Faults.{State, countsOf, next, fault, expects, ruling?, classesAfter, classWords, twice, refusedName, first, declared, declare, stepForm}
 use Rattle.lines.specs.Shapes.{wordOf, Declared}
 use Rattle.numbering.specs.Entries.{Room, Stored, Short, AllEntered, SomeEntered, among}
-use Rattle.gathering.specs.Gathered.{storedWords, Filled, Held, LineSays, LineIs, firstLine, countsIf, withNames, keptNames, KeptNames, pastRefusal}
-use Rattle.gathering.proofs.HeldState.{fill-more, held-is, held-small, atoms-small}
+use Rattle.gathering.specs.Gathered.{storedWords, Filled, Held, HeldIndex, LineSays, LineIs, firstLine, countsIf, atomCounts, withNames, keptNames, KeptNames, pastRefusal}
+use Rattle.gathering.proofs.HeldState.{fill-more, atoms-is, rules-is, occurrences-is, held-is, names-are, held-small, atoms-small, within-limits}
 use Rattle.numbering.proofs.NewNames.{decoded}
 use Rattle.numbering.proofs.Entering.{twice-split, twice-apart}
 
@@ -68,31 +68,38 @@ class-room : (kind : Kind) (n : ℕ) → n ≤ atomLimit kind → 4 + wordCount 
 class-room Plain n h = omega arith
 class-room Preference n h = omega arith
 
-module _ {kind : Kind} {st : State} {g : Gathered} {words bytes starts heads links marks : List ℕ} (h : Held kind st g words bytes starts heads links marks)
-    {l : List ℕ} {f : Form} {word : Keyword} {from count : ℕ} {refused : Bool} (p : Declared kind l f word from count refused) where
+module _ {kind : Kind} {st : State} {g : Gathered} {words bytes starts firsts links : List ℕ} (h : Held kind st g words bytes) (x : HeldIndex g bytes starts firsts links)
+    {l : List ℕ} {f : Form} {s : DeclaredShape} (p : Declared kind l f s) where
   abbrev w : Word
-  w = wordOf word
+  w = wordOf (s .word)
 
   abbrev xs : List (List ℕ)
-  xs = items (drop from l)
+  xs = items (drop (s .from) l)
 
   step-is : stepForm st f ≡ declare st w xs
   step-is = ap (stepForm st) (p .form)
 
   pub held-room : Room bytes starts links
-  held-room = record { bytes-long = h .bytes-room; starts-long = h .starts-room; links-long = h .links-room }
+  held-room = record { bytes-long = h .bytes-room; starts-long = x .starts-room; links-long = x .links-room }
 
   pub room-kept : {bytes′ starts′ links′ : List ℕ} → length bytes′ ≡ length bytes → length starts′ ≡ length starts → length links′ ≡ length links → Room bytes′ starts′ links′
-  room-kept b c k = record { bytes-long = b ∙ h .bytes-room; starts-long = c ∙ h .starts-room; links-long = k ∙ h .links-room }
+  room-kept b c k = record { bytes-long = b ∙ h .bytes-room; starts-long = c ∙ x .starts-room; links-long = k ∙ x .links-room }
 
-  pub held-stored : Stored (st .names) bytes starts heads links (g .atoms) (g .bytes)
-  held-stored = record { index = h .index; count = h .atoms-is; ends = h .bytes-is; short = h .short; few = held-small h .atoms }
+  pub held-stored : Stored (st .names) bytes starts firsts links (g .counts .atoms) (g .bytes)
+  held-stored =
+      record {
+        index = subst (λ ns. Indexed ns bytes starts firsts links) (sym (names-are h)) (x .index);
+        count = atoms-is h;
+        ends = h .bytes-is;
+        short = h .short;
+        few = held-small h .atoms;
+      }
 
   module _ {r : Bool} (e : r ≡ expects kind (g .stage) w) where
     is-expected : r ≡ expects (st .kind) (st .stage) w
     is-expected = e ∙ (λ i. expects (sym (h .kind-is) i) (h .stage-is i) w)
 
-    names-refused : some (refusedName (st .kind)) xs ≡ refused
+    names-refused : some (refusedName (st .kind)) xs ≡ s .refused
     names-refused = ap (λ k. some (refusedName k) xs) (h .kind-is) ∙ sym (p .is-refused)
 
     pub not-expected : not r ≡ true → stepForm st f ≡ fault BrokenForm
@@ -100,11 +107,11 @@ module _ {kind : Kind} {st : State} {g : Gathered} {words bytes starts heads lin
     not-expected d = step-is ∙ rw (sym is-expected, d)
 
     module _ (d : not r ≡ false) where
-      pub name-refused : refused ≡ true → stepForm st f ≡ fault Name
+      pub name-refused : s .refused ≡ true → stepForm st f ≡ fault Name
       unfolding declare
       name-refused t = step-is ∙ rw (sym is-expected, d, names-refused, t)
 
-      module _ (t : refused ≡ false) where
+      module _ (t : s .refused ≡ false) where
         pub all-short : Short xs
         all-short = taken-short kind xs (sym (p .is-refused) ∙ t)
 
@@ -113,54 +120,62 @@ module _ {kind : Kind} {st : State} {g : Gathered} {words bytes starts heads lin
         declared-twice z = step-is ∙ rw (sym is-expected, d, names-refused, t, z)
 
         abbrev over : Bool
-        over = not (leb (length (st .names) + length xs) (atomLimit (st .kind)) && leb (classesAfter w (st .classes)) classLimit)
+        over = not (within (st .kind) (countsOf (declared st w xs)) && leb (classesAfter w (st .classes)) classLimit)
 
         step-counts : twice (st .names) xs ≡ false → stepForm st f ≡ first over Limit (next (declared st w xs))
         unfolding declare
         step-counts z = step-is ∙ rw (sym is-expected, d, names-refused, t, z)
 
         -- more names than the store has room for
-        module _ {bytes′ starts′ heads′ links′ : List ℕ} {at : ℕ} (s : SomeEntered (st .names) l from bytes′ starts′ heads′ links′ at) (c : length starts′ ≡ length starts) where
+        module _ {bytes′ starts′ firsts′ links′ : List ℕ} {at : ℕ} (some-in : SomeEntered (st .names) l (s .from) bytes′ starts′ firsts′ links′ at) (c : length starts′ ≡ length starts) where
           abbrev held : List (List ℕ)
-          held = st .names ++ s .passed
+          held = st .names ++ some-in .passed
 
-          names-are : decodeNames (length starts′) bytes′ ≡ held
-          names-are = ap (λ k. decodeNames k bytes′) (c ∙ h .starts-room ∙ sym (s .full)) ∙ decoded (s .index)
+          full-names : decodeNames (length starts′) bytes′ ≡ held
+          full-names = ap (λ k. decodeNames k bytes′) (c ∙ x .starts-room ∙ sym (some-in .full)) ∙ decoded (some-in .index)
 
-          pub full-index : Indexed (decodeNames (length starts′) bytes′) bytes′ starts′ heads′ links′
-          full-index = subst (λ ns. Indexed ns bytes′ starts′ heads′ links′) (sym names-are) (s .index)
+          pub full-index : Indexed (decodeNames (length starts′) bytes′) bytes′ starts′ firsts′ links′
+          full-index = subst (λ ns. Indexed ns bytes′ starts′ firsts′ links′) (sym full-names) (some-in .index)
 
           pub rest-short : Short (items (drop at l))
-          rest-short = all-app-r (λ x. length x ≤ 18) (s .passed) (items (drop at l)) (subst Short (sym (s .all)) all-short)
+          rest-short = all-app-r (λ x. length x ≤ 18) (some-in .passed) (items (drop at l)) (subst Short (sym (some-in .all)) all-short)
 
           parts : twice (st .names) xs ≡ (some (among held) (items (drop at l)) || twice [] (items (drop at l)))
           parts =
-              ap (twice (st .names)) (sym (s .all))
-              ∙ twice-split (st .names) (s .passed) (items (drop at l))
-              ∙ ap (λ b. b || twice held (items (drop at l))) (s .once)
+              ap (twice (st .names)) (sym (some-in .all))
+              ∙ twice-split (st .names) (some-in .passed) (items (drop at l))
+              ∙ ap (λ b. b || twice held (items (drop at l))) (some-in .once)
               ∙ ap (λ ns. twice ns (items (drop at l))) (sym (append-nil held))
               ∙ twice-apart held [] (items (drop at l))
 
           is-over : over ≡ true
           is-over =
-              let many : atomLimit (st .kind) < length (st .names) + length xs =
-              omega (arith, s .full, s .more, length-append (st .names) (s .passed), ap length (sym (s .all)) ∙ length-append (s .passed) (items (drop at l)), atoms-small (st .kind)) in
-              rw (lt-leb (length (st .names) + length xs) (atomLimit (st .kind)) many)
+              let many : atomLimit (st .kind) < length (st .names ++ xs) =
+              omega (
+                arith,
+                some-in .full,
+                some-in .more,
+                length-append (st .names) (some-in .passed),
+                length-append (st .names) xs,
+                ap length (sym (some-in .all)) ∙ length-append (some-in .passed) (items (drop at l)),
+                atoms-small (st .kind),
+              ) in
+              rw (lt-leb (length (st .names ++ xs)) (atomLimit (st .kind)) many)
 
           pub past-room : {a : Refusal} → a ≡ pastRefusal (some (among (decodeNames (length starts′) bytes′)) (items (drop at l)) || twice [] (items (drop at l))) → stepForm st f ≡ fault a
-          past-room {a} k = go (twice (st .names) xs) refl (k ∙ ap pastRefusal (ap (λ ns. some (among ns) (items (drop at l)) || twice [] (items (drop at l))) names-are ∙ sym parts))
+          past-room {a} k = go (twice (st .names) xs) refl (k ∙ ap pastRefusal (ap (λ ns. some (among ns) (items (drop at l)) || twice [] (items (drop at l))) full-names ∙ sym parts))
             where
               go : (b : Bool) → twice (st .names) xs ≡ b → a ≡ pastRefusal b → stepForm st f ≡ fault a
               go true z q = declared-twice z ∙ ap fault (sym q)
               go false z q = step-counts z ∙ rw is-over (ap fault (sym q))
 
         -- every name is entered
-        module _ {bytes′ starts′ heads′ links′ : List ℕ} {n used : ℕ} (a : AllEntered (st .names) xs bytes′ starts′ heads′ links′ n used)
+        module _ {bytes′ starts′ firsts′ links′ : List ℕ} {n used : ℕ} (a : AllEntered (st .names) xs bytes′ starts′ firsts′ links′ n used)
             (b : length bytes′ ≡ length bytes) (c : length starts′ ≡ length starts) (k : length links′ ≡ length links) where
           abbrev class-list : List ℕ
           class-list = classWords w (st .classes) (length xs)
 
-          class-list-is : classWords w (g .classes) count ≡ class-list
+          class-list-is : classWords w (g .classes) (s .count) ≡ class-list
           class-list-is = ap₂ (classWords w) (h .classes-is) (p .is-count)
 
           before-rules : ruling? (st .stage) ≡ false
@@ -169,18 +184,22 @@ module _ {kind : Kind} {st : State} {g : Gathered} {words bytes starts heads lin
           no-rules : st .program-rules ≡ []
           no-rules = h .no-rules before-rules
 
-          many : n ≡ g .atoms + length xs
-          many = omega (arith, a .stored .count, h .atoms-is, length-append (st .names) xs)
+          many : n ≡ g .counts .atoms + length xs
+          many = omega (arith, a .stored .count, atoms-is h, length-append (st .names) xs)
 
-          class-count : wordCount kind (g .atoms) + length class-list ≡ wordCount kind n
+          class-count : wordCount kind (g .counts .atoms) + length class-list ≡ wordCount kind n
           class-count =
-              subst (λ q. wordCount q (g .atoms) + length class-list ≡ wordCount q (g .atoms + length xs)) (h .kind-is) (expected (st .kind) (st .stage) w (sym is-expected ∙ not-false r d) .1 (st .classes) (length xs) (g .atoms))
+              subst (λ q. wordCount q (g .counts .atoms) + length class-list ≡ wordCount q (g .counts .atoms + length xs)) (h .kind-is) (expected (st .kind) (st .stage) w (sym is-expected ∙ not-false r d) .1 (st .classes) (length xs) (g .counts .atoms))
               ∙ ap (wordCount kind) (sym many)
 
-          counts-are : over ≡ not (leb n (atomLimit kind) && leb (classesAfter w (g .classes)) classLimit)
-          counts-are =
-              let total : length (st .names) + length xs ≡ n = omega (arith, a .stored .count, length-append (st .names) xs) in
-              λ i. not (leb (total i) (atomLimit (h .kind-is i)) && leb (classesAfter w (sym (h .classes-is) i)) classLimit)
+          new-counts : atomCounts (g .counts) n ≡ countsOf (declared st w xs)
+          new-counts = λ i. record { atoms = a .stored .count i; rules = rules-is h i; occurrences = occurrences-is h i }
+
+          abbrev fits : Bool
+          fits = within kind (atomCounts (g .counts) n)
+
+          over-is : over ≡ not (fits && leb (classesAfter w (g .classes)) classLimit)
+          over-is = λ i. not (within (h .kind-is i) (sym new-counts i) && leb (classesAfter w (sym (h .classes-is) i)) classLimit)
 
           stored-words : storedWords st ≡ st .words
           stored-words = ap (λ rs. st .words ++ flat ruleWords rs) no-rules ∙ append-nil (st .words)
@@ -191,58 +210,64 @@ module _ {kind : Kind} {st : State} {g : Gathered} {words bytes starts heads lin
               ∙ sym (append-nil (st .words ++ class-list))
               ∙ ap (λ rs. (st .words ++ class-list) ++ flat ruleWords rs) (sym no-rules)
 
-          fits-words : n ≤ atomLimit kind → g .words + length class-list ≤ length words
-          fits-words l = omega (arith, h .words-room, h .stored .ends, ap length stored-words, h .class-words, class-count, class-room kind n l)
+          fits-words : fits ≡ true → g .words + length class-list ≤ length words
+          fits-words t =
+              omega (
+                arith,
+                h .words-room,
+                h .stored .ends,
+                ap length stored-words,
+                h .class-words,
+                class-count,
+                class-room kind n (within-limits kind (atomCounts (g .counts) n) t .atoms),
+              )
 
           abbrev end : ℕ
-          end = g .words + length (classWords w (g .classes) count)
+          end = g .words + length (classWords w (g .classes) (s .count))
 
-          written : {words₂ : List ℕ} → words₂ ≡ sets words (g .words) (classWords w (g .classes) count) → words₂ ≡ sets words (g .words) class-list
+          written : {words₂ : List ℕ} → words₂ ≡ sets words (g .words) (classWords w (g .classes) (s .count)) → words₂ ≡ sets words (g .words) class-list
           written q = q ∙ ap (sets words (g .words)) class-list-is
 
-          declared-held : n ≤ atomLimit kind → classesAfter w (g .classes) ≤ classLimit → {words₂ : List ℕ} → words₂ ≡ sets words (g .words) (classWords w (g .classes) count)
-              → Held kind (declared st w xs) (withNames g w n used end) words₂ bytes′ starts′ heads′ links′ marks
+          declared-held : fits ≡ true → classesAfter w (g .classes) ≤ classLimit → {words₂ : List ℕ} → words₂ ≡ sets words (g .words) (classWords w (g .classes) (s .count))
+              → Held kind (declared st w xs) (withNames g w n used end) words₂ bytes′
           declared-held l m {words₂} q =
               record {
                 kind-is = h .kind-is;
                 stage-is = refl;
                 classes-is = ap (classesAfter w) (h .classes-is);
-                atoms-is = a .stored .count;
-                rules-is = h .rules-is;
-                occurrences-is = h .occurrences-is;
+                counts-are = new-counts;
                 class-words = length-append (st .words) class-list ∙ ap (λ x. x + length class-list) (h .class-words) ∙ class-count;
                 stored =
                     subst (λ x. Filled words₂ 4 end x) stored-after
                     (subst (λ x. Filled words₂ 4 (g .words + length x) (storedWords st ++ class-list)) (sym class-list-is)
                     (subst (λ x. Filled x 4 (g .words + length class-list) (storedWords st ++ class-list)) (sym (written q)) (fill-more (h .stored) class-list (fits-words l))));
-                index = a .stored .index;
+                names-stored = a .stored .index .placed .stored;
                 bytes-is = a .stored .ends;
                 short = a .stored .short;
-                atoms-fit = l;
-                rules-fit = h .rules-fit;
-                occurrences-fit = h .occurrences-fit;
+                counts-fit = l;
                 classes-fit = m;
                 no-rules = λ z. no-rules;
-                marks-below = h .marks-below;
-                words-room = ap length q ∙ length-sets words (g .words) (classWords w (g .classes) count) ∙ h .words-room;
+                words-room = ap length q ∙ length-sets words (g .words) (classWords w (g .classes) (s .count)) ∙ h .words-room;
                 bytes-room = b ∙ h .bytes-room;
-                starts-room = c ∙ h .starts-room;
-                links-room = k ∙ h .links-room;
-                marks-room = h .marks-room;
               }
 
-          pub declared-line : {words₂ : List ℕ} {o : Line} → KeptNames kind g w count n used words words₂ o → LineIs kind st f words₂ bytes′ starts′ heads′ links′ marks o
+          declared-index : HeldIndex (withNames g w n used end) bytes′ starts′ firsts′ links′
+          declared-index =
+              let names : decodeNames n bytes′ ≡ st .names ++ xs = ap (λ j. decodeNames j bytes′) (a .stored .count) ∙ decoded (a .stored .index) in
+              record { index = subst (λ ns. Indexed ns bytes′ starts′ firsts′ links′) (sym names) (a .stored .index); starts-room = c ∙ x .starts-room; links-room = k ∙ x .links-room }
+
+          pub declared-line : {words₂ : List ℕ} {o : Line} → KeptNames kind g w (s .count) n used words words₂ o → LineIs kind st f words₂ bytes′ starts′ firsts′ links′ o
           unfolding keptNames
-          declared-line {words₂} {o} s = record { says = go (leb n (atomLimit kind) && leb (classesAfter w (g .classes)) classLimit) refl (step-counts (a .once) ∙ ap (λ x. first x Limit (next (declared st w xs))) counts-are) (s .answer) (s .words) }
+          declared-line {words₂} {o} q = record { says = go (fits && leb (classesAfter w (g .classes)) classLimit) refl (step-counts (a .once) ∙ ap (λ y. first y Limit (next (declared st w xs))) over-is) (q .answer) (q .words) }
             where
-              go : (x : Bool) → (leb n (atomLimit kind) && leb (classesAfter w (g .classes)) classLimit) ≡ x → stepForm st f ≡ first (not x) Limit (next (declared st w xs))
-                  → o ≡ firstLine (not x) Limit (Next (withNames g w n used end))
-                  → words₂ ≡ sets words (g .words) (countsIf o (classWords w (g .classes) count))
-                  → LineSays kind st f words₂ bytes′ starts′ heads′ links′ marks o
-              go false q z y v = subst (LineSays kind st f words₂ bytes′ starts′ heads′ links′ marks) (sym y) z
+              go : (t : Bool) → (fits && leb (classesAfter w (g .classes)) classLimit) ≡ t → stepForm st f ≡ first (not t) Limit (next (declared st w xs))
+                  → o ≡ firstLine (not t) Limit (Next (withNames g w n used end))
+                  → words₂ ≡ sets words (g .words) (countsIf o (classWords w (g .classes) (s .count)))
+                  → LineSays kind st f words₂ bytes′ starts′ firsts′ links′ o
+              go false q z y v = subst (LineSays kind st f words₂ bytes′ starts′ firsts′ links′) (sym y) z
               go true q z y v =
-                  let within = both-true (leb n (atomLimit kind)) (leb (classesAfter w (g .classes)) classLimit) q in
-                  let held = declared-held (leb-true n (atomLimit kind) (within .0)) (leb-true (classesAfter w (g .classes)) classLimit (within .1)) (v ∙ ap (λ j. sets words (g .words) (countsIf j (classWords w (g .classes) count))) y) in
+                  let both = both-true fits (leb (classesAfter w (g .classes)) classLimit) q in
+                  let held = declared-held (both .0) (leb-true (classesAfter w (g .classes)) classLimit (both .1)) (v ∙ ap (λ j. sets words (g .words) (countsIf j (classWords w (g .classes) (s .count)))) y) in
                   let is = held-is held in
-                  subst (LineSays kind st f words₂ bytes′ starts′ heads′ links′ marks) (sym y)
-                  (z ∙ ap next is, subst (λ j. Held kind j (withNames g w n used end) words₂ bytes′ starts′ heads′ links′ marks) is held)
+                  subst (LineSays kind st f words₂ bytes′ starts′ firsts′ links′) (sym y)
+                  (z ∙ ap next is, subst (λ j. Held kind j (withNames g w n used end) words₂ bytes′) is held, declared-index)

@@ -3,12 +3,11 @@ use Prim.Native.Nat.{ℕ, _+_, _^_, _≤_, _<_, zero-le}
 use native.Mathlib.Numerals.{add-one}
 use native.Mathlib.Omega.{arith}
 use mathlib.Core.Path.{_≡_, refl, sym, ap, _∙_}
-use mathlib.Core.Bool.{Bool, true, false, not, _&&_, _||_}
+use mathlib.Core.Bool.{Bool, true, false, not, _||_}
 use mathlib.Core.List.{List, [], _∷_}
-use lib.Dec.{leb}
 use lib.ListN.{replicate, length-replicate, replicate-append-replicate}
-use borrow.Author.Tests.{lt-leb, le-leb}
-use Rattle.kinds.specs.Limits.{atomLimit, classLimit}
+use borrow.Author.Tests.{lt-leb, le-leb, not-true, not-false}
+use Rattle.kinds.specs.Limits.{classLimit, within}
 use Rattle.kinds.specs.declared.limits.Kind.{Kind}
 use Rattle.kinds.specs.declared.refusals.Refusal.the-variants.{DeclaredTwice, Limit}
 use Rattle.output.specs.Emitted.{Emitted, InRange}
@@ -21,14 +20,7 @@ use Rattle.lines.specs.declared.stage.Stage.{Stage}
 use Rattle.lines.specs.Forms.{Word}
 use Rattle.lines.specs.Faults.{stageAfter, classesAfter, classWords}
 use Rattle.lines.specs.Shapes.{wordOf}
-use Rattle.gathering.specs.Gathered.{keptNames, KeptNames, pastRefusal}
-
-module _ (kind : Kind) (atoms classes : ℕ) {limit : ℕ} (e : limit ≡ atomLimit kind) where
-  pub atoms-over : limit < atoms → false ≡ (leb atoms (atomLimit kind) && leb classes classLimit)
-  atoms-over l = let f = lt-leb atoms (atomLimit kind) (omega arith) in rw f
-
-  pub atoms-in : atoms ≤ limit → leb classes classLimit ≡ (leb atoms (atomLimit kind) && leb classes classLimit)
-  atoms-in l = let f = le-leb atoms (atomLimit kind) (omega arith) in rw f
+use Rattle.gathering.specs.Gathered.{atomCounts, keptNames, KeptNames, pastRefusal}
 
 -- one class more
 pub min-classes : (classes : ℕ) {word : Keyword} → word ≡ Min → classes + 1 ≡ classesAfter (wordOf word) classes
@@ -69,22 +61,26 @@ module _ (classes count : ℕ) {before : List ℕ} {at : ℕ} {word : Keyword} w
     fix-words e p = renamed p (ap (λ w. classWords (wordOf w) classes count) (sym e))
 
 -- the answer
-module _ (kind : Kind) (g : Gathered) (w : Word) (count atoms used : ℕ) (before : List ℕ) {classes : ℕ} (c : classes ≡ classesAfter w (g .classes)) {fits : Bool} (e : fits ≡ (leb atoms (atomLimit kind) && leb classes classLimit)) where
-  is-fits : fits ≡ (leb atoms (atomLimit kind) && leb (classesAfter w (g .classes)) classLimit)
-  is-fits = e ∙ ap (λ k. leb atoms (atomLimit kind) && leb k classLimit) c
-
-  pub names-over : not fits ≡ true → KeptNames kind g w count atoms used before before (Fault Limit)
+module _ (kind : Kind) (g : Gathered) (w : Word) (count atoms used : ℕ) (before : List ℕ) {classes : ℕ} (c : classes ≡ classesAfter w (g .classes))
+    {fits : Bool} (e : fits ≡ within kind (atomCounts (g .counts) atoms)) where
+  pub atoms-over : not fits ≡ true → KeptNames kind g w count atoms used before before (Fault Limit)
   unfolding keptNames
-  names-over d = record { answer = rw (sym is-fits, d); words = refl }
+  atoms-over d = record { answer = rw (sym e, not-true fits d); words = refl }
 
-  pub names-kept : not fits ≡ false → {stage : Stage} → stage ≡ stageAfter w → {after : List ℕ} {end : ℕ} → Emitted before (g .words) (classWords w (g .classes) count) after end
-      → KeptNames kind g w count atoms used before after (Next (record { stage = stage; classes = classes; atoms = atoms; rules = g .rules; occurrences = g .occurrences; words = end; bytes = used }))
-  unfolding keptNames
-  names-kept d s p =
-      record {
-        answer = rw (sym is-fits, d) (λ i. Next (record { stage = s i; classes = c i; atoms = atoms; rules = g .rules; occurrences = g .occurrences; words = p .place i; bytes = used }));
-        words = p .bytes;
-      }
+  module _ (d : not fits ≡ false) where
+    pub classes-over : classLimit < classes → KeptNames kind g w count atoms used before before (Fault Limit)
+    unfolding keptNames
+    classes-over l = let many = lt-leb (classesAfter w (g .classes)) classLimit (omega (arith, c)) in record { answer = rw (sym e, not-false fits d, many); words = refl }
+
+    pub names-kept : classes ≤ classLimit → {stage : Stage} → stage ≡ stageAfter w → {after : List ℕ} {end : ℕ} → Emitted before (g .words) (classWords w (g .classes) count) after end
+        → KeptNames kind g w count atoms used before after (Next (record { stage = stage; classes = classes; counts = atomCounts (g .counts) atoms; words = end; bytes = used }))
+    unfolding keptNames
+    names-kept l s p =
+        let few = le-leb (classesAfter w (g .classes)) classLimit (omega (arith, c)) in
+        record {
+          answer = rw (sym e, not-false fits d, few) (λ i. Next (record { stage = s i; classes = c i; counts = atomCounts (g .counts) atoms; words = p .place i; bytes = used }));
+          words = p .bytes;
+        }
 
 -- past the room
 pub past-known : {a : Bool} (b : Bool) {q : Bool} → q ≡ a → q ≡ true → DeclaredTwice ≡ pastRefusal (a || b)

@@ -1,9 +1,11 @@
 // A line that declares atoms, against what the lines before have given.
 use gathering::gathered::Gathered;
 use gathering::gathered::Line;
+use kinds::limits::Counts;
 use kinds::limits::Kind;
 use kinds::limits::Preference;
 use kinds::refusals::Refusal;
+use lines::forms::DeclaredShape;
 use lines::forms::Keyword;
 use lines::stage::Stage;
 use numbering::entries;
@@ -11,11 +13,10 @@ use numbering::entries::Entered;
 use output::words::push;
 ghost use mathlib.Core.Path.{_≡_};
 ghost use Prim.Native.Nat.{_+_, _^_, _≤_, _<_};
-ghost use mathlib.Core.Bool.{_&&_, _||_};
+ghost use mathlib.Core.Bool.{_||_};
 ghost use mathlib.Core.List.{[]};
-ghost use lib.Dec.{leb};
 ghost use lib.ListN.{length, drop, replicate};
-ghost use Rattle.kinds.specs.Limits.{atomLimit, classLimit, textLimit};
+ghost use Rattle.kinds.specs.Limits.{classLimit, textLimit};
 ghost use Rattle.rules.specs.Lists.{some};
 ghost use Rattle.name_store.specs.NameStore.{decodeNames};
 ghost use Rattle.name_store.specs.NameIndex.{Indexed, buckets};
@@ -25,7 +26,7 @@ ghost use Rattle.lines.specs.Forms.{formOf};
 ghost use Rattle.lines.specs.Faults.{expects, stageAfter, classesAfter, classWords, twice};
 ghost use Rattle.lines.specs.Shapes.{wordOf, Declared};
 ghost use Rattle.numbering.specs.Entries.{Room, Short, among};
-ghost use Rattle.gathering.specs.Gathered.{stateOf, Held, LineIs, pastRefusal, KeptNames};
+ghost use Rattle.gathering.specs.Gathered.{stateOf, Held, HeldIndex, LineIs, pastRefusal, KeptNames};
 
 fn is_expected(kind: Kind, stage: Stage, word: Keyword) -> bool
     ensures { λ r. ⌜ r ≡ expects kind stage (wordOf word) ⌝ }
@@ -115,15 +116,6 @@ fn put_class_words(
     }
 }
 
-fn names_fit(kind: Kind, atoms: usize, classes: usize) -> bool
-    ensures { λ r. ⌜ r ≡ (leb atoms (atomLimit kind) && leb classes classLimit) ⌝ }
-{
-    if kind.atoms() < atoms {
-        return false;
-    }
-    classes <= Preference::CLASSES
-}
-
 // A line whose names are all entered.
 fn keep_names(
     kind: Kind,
@@ -139,21 +131,28 @@ fn keep_names(
 {
     let before = gathered.classes;
     let classes = classes_after(word, before);
-    let fits = names_fit(kind, atoms, classes);
+    let counted = gathered.counts;
+    let rules = counted.rules;
+    let occurrences = counted.occurrences;
+    let counts = Counts {
+        atoms,
+        rules,
+        occurrences,
+    };
+    let fits = counts.within(kind);
     if !fits {
         return Line::Fault(Refusal::Limit);
     }
+    if Preference::CLASSES < classes {
+        return Line::Fault(Refusal::Limit);
+    }
     let stage = stage_after(word);
-    let rules = gathered.rules;
-    let occurrences = gathered.occurrences;
     let at = gathered.words;
     let end = put_class_words(word, before, count, words, at);
     Line::Next(Gathered {
         stage,
         classes,
-        atoms,
-        rules,
-        occurrences,
+        counts,
         words: end,
         bytes: used,
     })
@@ -165,60 +164,68 @@ fn past_limit(
     at: usize,
     bytes: &mut [u8],
     starts: &mut [u16],
-    heads: &mut [u16],
+    firsts: &mut [u16],
     links: &mut [u16],
 ) -> Refusal
     requires { ⌜ (at ≤ length (now line)) × Short (items (drop at (now line))) ⌝ }
-    requires { ⌜ Room (now bytes) (now starts) (now links) × (buckets ≤ length (now heads)) ⌝ }
-    requires { ⌜ Indexed (decodeNames (length (now starts)) (now bytes)) (now bytes) (now starts) (now heads) (now links) ⌝ }
+    requires { ⌜ Room (now bytes) (now starts) (now links) × (buckets ≤ length (now firsts)) ⌝ }
+    requires { ⌜ Indexed (decodeNames (length (now starts)) (now bytes)) (now bytes) (now starts) (now firsts) (now links) ⌝ }
     ensures { λ r. ⌜ r ≡ pastRefusal (some (among (decodeNames (length (now (starts .entry))) (now (bytes .entry)))) (items (drop at (now (line .entry)))) || twice [] (items (drop at (now (line .entry))))) ⌝ }
 {
-    if entries::any_known(line, at, bytes, starts, heads, links) {
+    if entries::any_known(line, at, bytes, starts, firsts, links) {
         return Refusal::DeclaredTwice;
     }
-    if entries::any_twice(line, at, bytes, starts, heads, links) {
+    if entries::any_twice(line, at, bytes, starts, firsts, links) {
         return Refusal::DeclaredTwice;
     }
     Refusal::Limit
 }
 
-// A line of the form that declares atoms, its names at the place that the form gives. The marks are only carried along.
+// A line of the form that declares atoms, its names at the place that the form gives.
 pub fn declare_atoms(
     line: &[u8],
     kind: Kind,
     gathered: Gathered,
-    word: Keyword,
-    from: usize,
-    count: usize,
-    refused: bool,
+    shape: DeclaredShape,
     words: &mut [u16],
     bytes: &mut [u8],
     starts: &mut [u16],
     firsts: &mut [u16],
     links: &mut [u16],
-    marks: &[u16],
 ) -> Line
-    requires { ⌜ Declared kind (now line) (formOf (now line)) word from count refused ⌝ }
+    requires { ⌜ Declared kind (now line) (formOf (now line)) shape ⌝ }
     requires { ⌜ length (now line) ≤ textLimit ⌝ }
-    requires { ⌜ Held kind (stateOf kind gathered (now words) (now bytes)) gathered (now words) (now bytes) (now starts) (now firsts) (now links) (now marks) ⌝ }
-    ensures { λ r. ⌜ LineIs kind (stateOf kind gathered (now (words .entry)) (now (bytes .entry))) (formOf (now (line .entry))) (now (words .exit)) (now (bytes .exit)) (now (starts .exit)) (now (firsts .exit)) (now (links .exit)) (now (marks .entry)) r ⌝ }
+    requires { ⌜ Held kind (stateOf kind gathered (now words) (now bytes)) gathered (now words) (now bytes) ⌝ }
+    requires { ⌜ HeldIndex gathered (now bytes) (now starts) (now firsts) (now links) ⌝ }
+    ensures { λ r. ⌜ LineIs kind (stateOf kind gathered (now (words .entry)) (now (bytes .entry))) (formOf (now (line .entry))) (now (words .exit)) (now (bytes .exit)) (now (starts .exit)) (now (firsts .exit)) (now (links .exit)) r ⌝ }
 {
     let stage = gathered.stage;
+    let word = shape.word;
     let expected = is_expected(kind, stage, word);
     if !expected {
         return Line::Fault(Refusal::Form);
     }
-    if refused {
+    if shape.refused {
         return Line::Fault(Refusal::Name);
     }
-    let before = gathered.atoms;
+    let counts = gathered.counts;
+    let before = counts.atoms;
     let filled = gathered.bytes;
-    match entries::enter_names(line, from, bytes, starts, firsts, links, before, filled) {
+    match entries::enter_names(
+        line,
+        shape.from,
+        bytes,
+        starts,
+        firsts,
+        links,
+        before,
+        filled,
+    ) {
         Entered::All { atoms, bytes: used } => keep_names(
             kind,
             gathered,
             word,
-            count,
+            shape.count,
             atoms,
             used,
             words,

@@ -12,15 +12,16 @@ use Rattle.kinds.specs.declared.limits.Kind.{Kind}
 use Rattle.kinds.specs.declared.refusals.Refusal.the-variants.{Output}
 use Rattle.name_store.specs.NameStore.{encodeNames}
 use Rattle.stores.specs.RuleStore.{kindWord, encode}
-use Rattle.output.specs.Emitted.{Emitted, InRange, over}
+use Rattle.rules.specs.Lists.{over}
+use Rattle.output.specs.Emitted.{Emitted, InRange}
 use Rattle.delivery.specs.declared.answers.Read.the-variants.{Accepted, Refused}
 use Rattle.gathering.specs.declared.gathered.Gathered.{Gathered}
 use Rattle.lines.specs.Faults.{State}
-use Rattle.delivery.specs.Answers.{ruleWordsOf, nameBytesOf}
+use Rattle.lines.specs.Said.{programOf}
 use Rattle.gathering.specs.Gathered.{storedWords, Held}
 use Rattle.delivery.specs.Delivered.{headerWords, Delivered}
 use Rattle.output.proofs.Emitting.{sets-seam}
-use Rattle.gathering.proofs.HeldState.{behind, held-small}
+use Rattle.gathering.proofs.HeldState.{behind, atoms-is, rules-is, held-small}
 
 over-is : (d w : List ℕ) → length w ≤ length d → sets d 0 w ≡ over w d
 over-is d w l = sets-seam [] d w l
@@ -29,30 +30,30 @@ and-false : (a : Bool) → (a && false) ≡ false
 and-false true = refl
 and-false false = refl
 
-module _ {kind : Kind} {st : State} {g : Gathered} {words bytes starts heads links marks : List ℕ} (h : Held kind st g words bytes starts heads links marks) where
-  pub header-small : (g .atoms < 65536) × (g .classes < 65536) × (g .rules < 65536)
+module _ {kind : Kind} {st : State} {g : Gathered} {words bytes : List ℕ} (h : Held kind st g words bytes) where
+  pub header-small : (g .counts .atoms < 65536) × (g .classes < 65536) × (g .counts .rules < 65536)
   header-small = let s = held-small h in (omega (arith, s .atoms), omega (arith, h .classes-fit), omega (arith, s .rules))
 
-  header-is : headerWords kind g ++ storedWords st ≡ ruleWordsOf st
+  header-is : headerWords kind g ++ storedWords st ≡ encode (programOf st)
   unfolding encode
-  header-is = λ i. kindWord (sym (h .kind-is) i) ∷ h .atoms-is i ∷ h .classes-is i ∷ h .rules-is i ∷ storedWords st
+  header-is = λ i. kindWord (sym (h .kind-is) i) ∷ atoms-is h i ∷ h .classes-is i ∷ rules-is h i ∷ storedWords st
 
-  pub words-length : length (ruleWordsOf st) ≡ g .words
+  pub words-length : length (encode (programOf st)) ≡ g .words
   words-length = omega (arith, ap length header-is, h .stored .ends)
 
-  pub bytes-length : length (nameBytesOf st) ≡ g .bytes
+  pub bytes-length : length (encodeNames (st .names)) ≡ g .bytes
   bytes-length = sym (h .bytes-is)
 
   module _ {words′ : List ℕ} {e : ℕ} (w : Emitted words 0 (headerWords kind g) words′ e) where
-    with-header : words′ ≡ ruleWordsOf st ++ h .stored .rest
+    with-header : words′ ≡ encode (programOf st) ++ h .stored .rest
     with-header =
         w .bytes
         ∙ sets-seam [] words (headerWords kind g) (omega (arith, h .words-room))
         ∙ ap (λ x. headerWords kind g ++ x) (behind (h .stored))
         ∙ ap (λ x. x ++ h .stored .rest) header-is
 
-    pub words-part : take (g .words) words′ ≡ ruleWordsOf st
-    words-part = ap (take (g .words)) with-header ∙ take-at (ruleWordsOf st) (h .stored .rest) (g .words) words-length
+    pub words-part : take (g .words) words′ ≡ encode (programOf st)
+    words-part = ap (take (g .words)) with-header ∙ take-at (encode (programOf st)) (h .stored .rest) (g .words) words-length
 
     pub words-part-length : g .words ≡ length (take (g .words) words′)
     words-part-length = sym (ap length words-part ∙ words-length)
@@ -60,8 +61,8 @@ module _ {kind : Kind} {st : State} {g : Gathered} {words bytes starts heads lin
     pub words-range : InRange 0 (take (g .words) words′)
     words-range = record { below = omega (arith, words-part-length, held-small h .words) }
 
-  pub bytes-part : take (g .bytes) bytes ≡ nameBytesOf st
-  bytes-part = ap (take (g .bytes)) (sym (h .index .placed .stored)) ∙ take-at (encodeNames (st .names)) (drop (length (encodeNames (st .names))) bytes) (g .bytes) bytes-length
+  pub bytes-part : take (g .bytes) bytes ≡ encodeNames (st .names)
+  bytes-part = ap (take (g .bytes)) (sym (h .names-stored)) ∙ take-at (encodeNames (st .names)) (drop (length (encodeNames (st .names))) bytes) (g .bytes) bytes-length
 
   pub bytes-part-length : g .bytes ≡ length (take (g .bytes) bytes)
   bytes-part-length = sym (ap length bytes-part ∙ bytes-length)
@@ -72,24 +73,24 @@ module _ {kind : Kind} {st : State} {g : Gathered} {words bytes starts heads lin
   module _ (rules names : List ℕ) where
     pub rules-short : length rules < g .words → Delivered st rules names rules names (Refused Output 0)
     rules-short l =
-        let a : leb (length (ruleWordsOf st)) (length rules) ≡ false = lt-leb (length (ruleWordsOf st)) (length rules) (omega (arith, words-length)) in
+        let a : leb (length (encode (programOf st))) (length rules) ≡ false = lt-leb (length (encode (programOf st))) (length rules) (omega (arith, words-length)) in
         record { answer = rw a; rules-after = refl; names-after = refl }
 
     module _ (l : g .words ≤ length rules) where
       pub names-short : length names < g .bytes → Delivered st rules names rules names (Refused Output 0)
       names-short m =
-          let b : leb (length (nameBytesOf st)) (length names) ≡ false = lt-leb (length (nameBytesOf st)) (length names) (omega (arith, bytes-length)) in
-          record { answer = rw (b, and-false (leb (length (ruleWordsOf st)) (length rules))); rules-after = refl; names-after = refl }
+          let b : leb (length (encodeNames (st .names))) (length names) ≡ false = lt-leb (length (encodeNames (st .names))) (length names) (omega (arith, bytes-length)) in
+          record { answer = rw (b, and-false (leb (length (encode (programOf st))) (length rules))); rules-after = refl; names-after = refl }
 
       pub both-written : g .bytes ≤ length names → {words′ : List ℕ} {e : ℕ} → Emitted words 0 (headerWords kind g) words′ e
           → {rules′ : List ℕ} {p : ℕ} → Emitted rules 0 (take (g .words) words′) rules′ p
           → {names′ : List ℕ} {q : ℕ} → Emitted names 0 (take (g .bytes) bytes) names′ q
           → Delivered st rules names rules′ names′ (Accepted (g .words) (g .bytes))
       both-written m w u v =
-          let a : leb (length (ruleWordsOf st)) (length rules) ≡ true = le-leb (length (ruleWordsOf st)) (length rules) (omega (arith, words-length)) in
-          let b : leb (length (nameBytesOf st)) (length names) ≡ true = le-leb (length (nameBytesOf st)) (length names) (omega (arith, bytes-length)) in
+          let a : leb (length (encode (programOf st))) (length rules) ≡ true = le-leb (length (encode (programOf st))) (length rules) (omega (arith, words-length)) in
+          let b : leb (length (encodeNames (st .names))) (length names) ≡ true = le-leb (length (encodeNames (st .names))) (length names) (omega (arith, bytes-length)) in
           record {
             answer = rw (a, b) (λ i. Accepted (sym words-length i) (sym bytes-length i));
-            rules-after = u .bytes ∙ ap (sets rules 0) (words-part w) ∙ over-is rules (ruleWordsOf st) (omega (arith, words-length));
-            names-after = v .bytes ∙ ap (sets names 0) bytes-part ∙ over-is names (nameBytesOf st) (omega (arith, bytes-length));
+            rules-after = u .bytes ∙ ap (sets rules 0) (words-part w) ∙ over-is rules (encode (programOf st)) (omega (arith, words-length));
+            names-after = v .bytes ∙ ap (sets names 0) bytes-part ∙ over-is names (encodeNames (st .names)) (omega (arith, bytes-length));
           }

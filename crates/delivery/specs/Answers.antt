@@ -5,31 +5,24 @@ use mathlib.Core.List.{List, []}
 use lib.Dec.{leb}
 use lib.ListN.{length}
 use Rattle.kinds.specs.declared.refusals.Refusal.the-variants.{Output}
+use Rattle.stores.specs.Program.{Program}
 use Rattle.stores.specs.RuleStore.{encode}
 use Rattle.name_store.specs.NameStore.{encodeNames}
-use Rattle.output.specs.Emitted.{over}
+use Rattle.rules.specs.Lists.{over}
 use Rattle.delivery.specs.declared.answers.Read.{Read}
 use Rattle.delivery.specs.declared.answers.Read.the-variants.{Accepted, Refused}
-use Rattle.lines.specs.Faults.{State}
-use Rattle.lines.specs.Said.{Said, accepted, refused, said, programOf}
-
--- the two stores of the lines
-abbrev pub ruleWordsOf : State → List ℕ
-ruleWordsOf st = encode (programOf st)
-
-abbrev pub nameBytesOf : State → List ℕ
-nameBytesOf st = encodeNames (st .names)
+use Rattle.lines.specs.Said.{Said, accepted, refused, said}
 
 abbrev pub answerOf : Said → ℕ → ℕ → Read
-answerOf (accepted st) words bytes =
-    cond (leb (length (ruleWordsOf st)) words && leb (length (nameBytesOf st)) bytes)
-    (Accepted (length (ruleWordsOf st)) (length (nameBytesOf st)))
+answerOf (accepted p names) words bytes =
+    cond (leb (length (encode p)) words && leb (length (encodeNames names)) bytes)
+    (Accepted (length (encode p)) (length (encodeNames names)))
     (Refused Output 0)
 answerOf (refused f k) words bytes = Refused f k
 
 -- what is written: both stores or nothing
-abbrev pub writtenIf : Read → (State → List ℕ) → Said → List ℕ
-writtenIf (Accepted w b) store (accepted st) = store st
+abbrev pub writtenIf : Read → (Program → List (List ℕ) → List ℕ) → Said → List ℕ
+writtenIf (Accepted w b) store (accepted p names) = store p names
 writtenIf (Accepted w b) store (refused f k) = []
 writtenIf (Refused f k) store s = []
 
@@ -37,7 +30,7 @@ unfoldable pub readAnswer : List ℕ → ℕ → ℕ → Read
 readAnswer text words bytes = answerOf (said text) words bytes
 
 unfoldable pub readRules : List ℕ → List ℕ → List ℕ → List ℕ
-readRules text rules names = over (writtenIf (readAnswer text (length rules) (length names)) ruleWordsOf (said text)) rules
+readRules text rules names = over (writtenIf (readAnswer text (length rules) (length names)) (λ p ns. encode p) (said text)) rules
 
 unfoldable pub readNames : List ℕ → List ℕ → List ℕ → List ℕ
-readNames text rules names = over (writtenIf (readAnswer text (length rules) (length names)) nameBytesOf (said text)) names
+readNames text rules names = over (writtenIf (readAnswer text (length rules) (length names)) (λ p ns. encodeNames ns) (said text)) names

@@ -1,4 +1,4 @@
--- What a text says, and the reader's answer.
+-- The reader's answer, and what it leaves in the two outputs.
 pub mod Delivered
 pub mod Answers
 pub mod ReadsAs

@@ -3,18 +3,20 @@ use Prim.Native.Nat.{ℕ, _≤_}
 use mathlib.Core.Path.{_≡_}
 use mathlib.Core.List.{List}
 use lib.ListN.{length}
-use Rattle.output.specs.Emitted.{over}
-use Rattle.lines.specs.Faults.{State}
+use Rattle.stores.specs.Program.{Program}
+use Rattle.stores.specs.RuleStore.{encode}
+use Rattle.name_store.specs.NameStore.{encodeNames}
+use Rattle.rules.specs.Lists.{over}
 use Rattle.delivery.specs.declared.answers.Read.the-variants.{Accepted}
 use Rattle.lines.specs.Said.{accepted, said}
-use Rattle.delivery.specs.Answers.{readAnswer, readRules, readNames, ruleWordsOf, nameBytesOf}
+use Rattle.delivery.specs.Answers.{readAnswer, readRules, readNames}
 
--- Reading a text is accepted with any outputs that are long enough, and fills both from the text's lines.
-pub record ReadsAs (text : List ℕ) (st : State) : Type 0 where
-  pub lines : said text ≡ accepted st
-  pub answer : (rules names : List ℕ) → length (ruleWordsOf st) ≤ length rules → length (nameBytesOf st) ≤ length names
-      → readAnswer text (length rules) (length names) ≡ Accepted (length (ruleWordsOf st)) (length (nameBytesOf st))
-  pub rules-filled : (rules names : List ℕ) → length (ruleWordsOf st) ≤ length rules → length (nameBytesOf st) ≤ length names
-      → readRules text rules names ≡ over (ruleWordsOf st) rules
-  pub names-filled : (rules names : List ℕ) → length (ruleWordsOf st) ≤ length rules → length (nameBytesOf st) ≤ length names
-      → readNames text rules names ≡ over (nameBytesOf st) names
+-- Reading a text is accepted with any outputs that are long enough, and fills both with the stores of what the text says.
+pub record ReadsAs (text : List ℕ) (p : Program) (names : List (List ℕ)) : Type 0 where
+  pub lines : said text ≡ accepted p names
+  pub answer : (rules-out names-out : List ℕ) → length (encode p) ≤ length rules-out → length (encodeNames names) ≤ length names-out
+      → readAnswer text (length rules-out) (length names-out) ≡ Accepted (length (encode p)) (length (encodeNames names))
+  pub rules-filled : (rules-out names-out : List ℕ) → length (encode p) ≤ length rules-out → length (encodeNames names) ≤ length names-out
+      → readRules text rules-out names-out ≡ over (encode p) rules-out
+  pub names-filled : (rules-out names-out : List ℕ) → length (encode p) ≤ length rules-out → length (encodeNames names) ≤ length names-out
+      → readNames text rules-out names-out ≡ over (encodeNames names) names-out

@@ -21,12 +21,13 @@ fn kind_word(kind: Kind) -> u16
 }
 
 fn put_header(kind: Kind, gathered: Gathered, words: &mut [u16]) -> usize
-    requires { ⌜ (gathered .atoms < 65536) × (gathered .classes < 65536) × (gathered .rules < 65536) ⌝ }
+    requires { ⌜ (gathered .counts .atoms < 65536) × (gathered .classes < 65536) × (gathered .counts .rules < 65536) ⌝ }
     ensures { λ r. ⌜ Emitted (now (words .entry)) 0 (headerWords kind gathered) (now (words .exit)) r ⌝ }
 {
-    let atoms = gathered.atoms;
+    let counts = gathered.counts;
+    let atoms = counts.atoms;
     let classes = gathered.classes;
-    let rules = gathered.rules;
+    let rules = counts.rules;
     let second = push(kind_word(kind), words, 0);
     let third = push(atoms as u16, words, second);
     let fourth = push(classes as u16, words, third);
@@ -38,14 +39,10 @@ pub fn deliver(
     gathered: Gathered,
     words: &mut [u16],
     bytes: &[u8],
-    starts: &[u16],
-    firsts: &[u16],
-    links: &[u16],
-    marks: &[u16],
     rules: &mut [u16],
     names: &mut [u8],
 ) -> Read
-    requires { ⌜ Held kind (stateOf kind gathered (now words) (now bytes)) gathered (now words) (now bytes) (now starts) (now firsts) (now links) (now marks) ⌝ }
+    requires { ⌜ Held kind (stateOf kind gathered (now words) (now bytes)) gathered (now words) (now bytes) ⌝ }
     ensures { λ r. ⌜ Delivered (stateOf kind gathered (now (words .entry)) (now (bytes .entry))) (now (rules .entry)) (now (names .entry)) (now (rules .exit)) (now (names .exit)) r ⌝ }
 {
     let filled = gathered.words;

@@ -3,14 +3,13 @@ use Prim.Native.Nat.{ℕ, suc, _+_, _*_, _≤_, _<_}
 use native.Mathlib.Nat.{add-zero}
 use native.Mathlib.Omega.{arith}
 use mathlib.Core.Path.{_≡_, refl, sym, ap, _∙_, subst}
-use mathlib.Core.Bool.{Bool, true, false, not, _&&_}
+use mathlib.Core.Bool.{Bool, true, false, not}
 use mathlib.Core.List.{List, [], _∷_, _++_, map, append-assoc}
 use mathlib.Core.Logic.{_≢_}
-use lib.Dec.{leb}
 use lib.ListN.{length, drop, set, length-append, length-map}
 use lib.Seq.{sets, length-sets, set-comm}
 use borrow.Author.Tests.{lt-ltb, not-false}
-use Rattle.kinds.specs.Limits.{atomLimit, ruleLimit, occurrenceLimit}
+use Rattle.kinds.specs.Limits.{atomLimit, ruleLimit, occurrenceLimit, within}
 use Rattle.kinds.specs.declared.limits.Kind.{Kind}
 use Rattle.kinds.specs.declared.limits.Kind.the-variants.{Plain, Preference}
 use Rattle.kinds.specs.declared.refusals.Refusal.the-variants.{Form as BrokenForm, Name, Undeclared, TwiceInList, Limit, FilledNot}
@@ -25,12 +24,13 @@ use Rattle.numbering.specs.declared.numbers.Numbers.{Numbers}
 use Rattle.numbering.specs.declared.numbers.Numbers.the-variants as Answer
 use Rattle.lines.specs.Items.{items}
 use Rattle.lines.specs.Forms.{Form}
-use Rattle.lines.specs.Faults.{State, next, fault, ruling?, refusedName, undeclared, numberOf, anyOf, first, filled, numbered, with-rule, addRule, stepForm}
+use Rattle.lines.specs.Faults.{State, countsOf, next, fault, ruling?, refusedName, numberOf, anyOf, first, filled, numbered, with-rule, addRule, stepForm}
 use Rattle.lines.specs.Shapes.{Ruled}
+use Rattle.lines.specs.declared.forms.RuleShape.{RuleShape}
+use Rattle.numbering.specs.Entries.{among}
 use Rattle.numbering.specs.Numbers.{ruleNumbers, RuleNumbered, RuleNumbersSay, RuleNumbersIs}
-use Rattle.gathering.specs.Gathered.{storedWords, Filled, Held, LineSays, LineIs, filledCount, firstLine, withRule, countsIf, keptRule, Kept}
-use Rattle.gathering.proofs.KeptRules.{limits-kept}
-use Rattle.gathering.proofs.HeldState.{fill-more, held-is, flat-last, sum-last}
+use Rattle.gathering.specs.Gathered.{storedWords, Filled, Held, HeldIndex, HeldMarks, LineSays, LineIs, MarksSay, MarksAre, filledCount, firstLine, ruleCounts, withRule, countsIf, keptRule, Kept}
+use Rattle.gathering.proofs.HeldState.{fill-more, atoms-is, rules-is, occurrences-is, held-is, flat-last, sum-last, within-limits}
 
 -- the counts are written after the numbers behind them
 
@@ -61,19 +61,18 @@ pub rule-numbers-list : {names hs bs ns : List (List ℕ)} {stamp : ℕ} {before
 rule-numbers-list {names} {hs} {bs} {ns} {stamp} {before} {at} {marks} {after} h e = subst (RuleNumbersSay names hs bs ns stamp before at marks after) e (h .says)
 
 pub rule-numbers-unknown : {names hs bs ns : List (List ℕ)} {stamp : ℕ} {before : List ℕ} {at : ℕ} {marks after : List ℕ} {r : Numbers} → RuleNumbersIs names hs bs ns stamp before at marks after r
-    → r ≡ Answer.Undeclared → anyOf (some (undeclared names)) hs bs ns ≡ true
+    → r ≡ Answer.Undeclared → anyOf (some (λ x. not (among names x))) hs bs ns ≡ true
 rule-numbers-unknown {names} {hs} {bs} {ns} {stamp} {before} {at} {marks} {after} h e = subst (RuleNumbersSay names hs bs ns stamp before at marks after) e (h .says)
 
-module _ {kind : Kind} {st : State} {g : Gathered} {words bytes starts heads links marks : List ℕ} (h : Held kind st g words bytes starts heads links marks)
-    {l : List ℕ} {f : Form} {head body nots hc bc nc : ℕ} {refused : Bool} (p : Ruled kind l f head body nots hc bc nc refused) where
+module _ {kind : Kind} {st : State} {g : Gathered} {words bytes : List ℕ} (h : Held kind st g words bytes) {l : List ℕ} {f : Form} {s : RuleShape} (p : Ruled kind l f s) where
   abbrev hs : List (List ℕ)
-  hs = items (drop head l)
+  hs = items (drop (s .lists .head) l)
 
   abbrev bs : List (List ℕ)
-  bs = items (drop body l)
+  bs = items (drop (s .lists .body) l)
 
   abbrev ns : List (List ℕ)
-  ns = items (drop nots l)
+  ns = items (drop (s .lists .not) l)
 
   step-is : stepForm st f ≡ addRule st hs bs ns
   step-is = ap (stepForm st) (p .form)
@@ -81,7 +80,7 @@ module _ {kind : Kind} {st : State} {g : Gathered} {words bytes starts heads lin
   is-ruling : {r : Bool} → r ≡ ruling? (g .stage) → r ≡ ruling? (st .stage)
   is-ruling e = e ∙ ap ruling? (h .stage-is)
 
-  names-refused : anyOf (some (refusedName (st .kind))) hs bs ns ≡ refused
+  names-refused : anyOf (some (refusedName (st .kind))) hs bs ns ≡ s .refused
   names-refused = ap (λ k. anyOf (some (refusedName k)) hs bs ns) (h .kind-is) ∙ sym (p .is-refused)
 
   module _ {r : Bool} (e : r ≡ ruling? (g .stage)) where
@@ -90,56 +89,59 @@ module _ {kind : Kind} {st : State} {g : Gathered} {words bytes starts heads lin
     not-ruling d = step-is ∙ rw (sym (is-ruling e), d)
 
     module _ (d : not r ≡ false) where
-      pub name-not-taken : refused ≡ true → stepForm st f ≡ fault Name
+      pub name-not-taken : s .refused ≡ true → stepForm st f ≡ fault Name
       unfolding addRule
       name-not-taken t = step-is ∙ rw (sym (is-ruling e), d, names-refused, t)
 
-      module _ (t : refused ≡ false) {names : List (List ℕ)} (same : names ≡ st .names) where
-        pub not-declared : anyOf (some (undeclared names)) hs bs ns ≡ true → stepForm st f ≡ fault Undeclared
+      module _ (t : s .refused ≡ false) {names : List (List ℕ)} (same : names ≡ st .names) where
+        pub not-declared : anyOf (some (λ x. not (among names x))) hs bs ns ≡ true → stepForm st f ≡ fault Undeclared
         unfolding addRule
         not-declared u = step-is ∙ rw (sym (is-ruling e), d, names-refused, t, sym same, u)
 
         module _ {stamp : ℕ} {words₁ marks₁ : List ℕ} {end : ℕ} {again : Bool} (w : RuleNumbered names hs bs ns stamp words (g .words + 3) marks₁ words₁ end again) where
           pub twice-in-list : again ≡ true → stepForm st f ≡ fault TwiceInList
           unfolding addRule
-          twice-in-list s = step-is ∙ rw (sym (is-ruling e), d, names-refused, t, sym same, w .declared, sym (w .is-twice), s)
+          twice-in-list a = step-is ∙ rw (sym (is-ruling e), d, names-refused, t, sym same, w .declared, sym (w .is-twice), a)
 
-          abbrev over : Bool
-          over = not (leb (g .rules + 1) (ruleLimit kind) && leb (g .occurrences + (hc + bc + nc)) (occurrenceLimit kind))
+          abbrev more : ℕ
+          more = s .heads + s .bodies + s .nots
+
+          abbrev fits : Bool
+          fits = within kind (ruleCounts (g .counts) more)
 
           abbrev new-rule : Rule ℕ
           new-rule = numbered (st .names) hs bs ns
 
-          counts-are : not (leb (suc (length (st .program-rules))) (ruleLimit (st .kind)) && leb (sum occurrences (st .program-rules) + (length hs + length bs + length ns)) (occurrenceLimit (st .kind))) ≡ over
-          counts-are =
-              let rules : suc (length (st .program-rules)) ≡ g .rules + 1 = omega (arith, h .rules-is) in
-              let places : sum occurrences (st .program-rules) + (length hs + length bs + length ns) ≡ g .occurrences + (hc + bc + nc) = omega (arith, h .occurrences-is, p .is-heads, p .is-bodies, p .is-nots) in
-              λ i. not (leb (rules i) (ruleLimit (h .kind-is i)) && leb (places i) (occurrenceLimit (h .kind-is i)))
+          rule-places : occurrences new-rule ≡ more
+          rule-places = omega (arith, length-map hs (numberOf (st .names)), length-map bs (numberOf (st .names)), length-map ns (numberOf (st .names)), p .is-heads, p .is-bodies, p .is-nots)
 
-          full-is : filled (st .kind) ns ≡ filledCount kind nc
+          new-counts : ruleCounts (g .counts) more ≡ countsOf (with-rule st new-rule)
+          new-counts =
+              let rules : g .counts .rules + 1 ≡ length (st .program-rules ++ (new-rule ∷ [])) = omega (arith, rules-is h, length-append (st .program-rules) (new-rule ∷ [])) in
+              let places : g .counts .occurrences + more ≡ sum occurrences (st .program-rules ++ (new-rule ∷ [])) = omega (arith, occurrences-is h, sum-last (st .program-rules) new-rule, rule-places) in
+              λ i. record { atoms = atoms-is h i; rules = rules i; occurrences = places i }
+
+          fits-is : within (st .kind) (countsOf (with-rule st new-rule)) ≡ fits
+          fits-is = λ i. within (h .kind-is i) (sym new-counts i)
+
+          full-is : filled (st .kind) ns ≡ filledCount kind (s .nots)
           full-is = ap (λ k. filled k ns) (h .kind-is) ∙ filled-count kind ns ∙ ap (filledCount kind) (sym (p .is-nots))
 
-          module _ (s : again ≡ false) where
-            step-counts : stepForm st f ≡ first over Limit (first (filledCount kind nc) FilledNot (next (with-rule st new-rule)))
+          module _ (a : again ≡ false) where
+            step-counts : stepForm st f ≡ first (not fits) Limit (first (filledCount kind (s .nots)) FilledNot (next (with-rule st new-rule)))
             unfolding addRule
-            step-counts = step-is ∙ rw (sym (is-ruling e), d, names-refused, t, sym same, w .declared, sym (w .is-twice), s, counts-are, full-is)
+            step-counts = step-is ∙ rw (fits-is, full-is, sym (is-ruling e), d, names-refused, t, sym same, w .declared, sym (w .is-twice), a)
 
-            module _ (is-stamp : stamp ≡ 3 * g .rules + 1) (marks-kept : length marks₁ ≡ length marks) where
-              abbrev more : ℕ
-              more = hc + bc + nc
-
+            module _ (is-stamp : stamp ≡ 3 * g .counts .rules + 1) where
               abbrev counts : List ℕ
-              counts = hc ∷ bc ∷ nc ∷ []
+              counts = s .heads ∷ s .bodies ∷ s .nots ∷ []
 
               rule-words : counts ++ ruleNumbers names hs bs ns ≡ ruleWords new-rule
               rule-words =
-                  let of-head : hc ≡ length (map (numberOf (st .names)) hs) = p .is-heads ∙ sym (length-map hs (numberOf (st .names))) in
-                  let of-body : bc ≡ length (map (numberOf (st .names)) bs) = p .is-bodies ∙ sym (length-map bs (numberOf (st .names))) in
-                  let of-nots : nc ≡ length (map (numberOf (st .names)) ns) = p .is-nots ∙ sym (length-map ns (numberOf (st .names))) in
+                  let of-head : s .heads ≡ length (map (numberOf (st .names)) hs) = p .is-heads ∙ sym (length-map hs (numberOf (st .names))) in
+                  let of-body : s .bodies ≡ length (map (numberOf (st .names)) bs) = p .is-bodies ∙ sym (length-map bs (numberOf (st .names))) in
+                  let of-nots : s .nots ≡ length (map (numberOf (st .names)) ns) = p .is-nots ∙ sym (length-map ns (numberOf (st .names))) in
                   λ i. of-head i ∷ of-body i ∷ of-nots i ∷ ruleNumbers (same i) hs bs ns
-
-              rule-places : occurrences new-rule ≡ more
-              rule-places = omega (arith, length-map hs (numberOf (st .names)), length-map bs (numberOf (st .names)), length-map ns (numberOf (st .names)), p .is-heads, p .is-bodies, p .is-nots)
 
               words-length : length (ruleWords new-rule) ≡ 3 + more
               words-length = omega (arith, rule-places, rules-length (new-rule ∷ []), length-append (ruleWords new-rule) [])
@@ -154,8 +156,9 @@ module _ {kind : Kind} {st : State} {g : Gathered} {words bytes starts heads lin
               is-end : end ≡ g .words + length (ruleWords new-rule)
               is-end = omega (arith, w .written .place, ap length rule-words)
 
-              room : g .rules + 1 ≤ ruleLimit kind → g .occurrences + more ≤ occurrenceLimit kind → g .words + length (ruleWords new-rule) ≤ length words
-              room a b =
+              room : fits ≡ true → g .words + length (ruleWords new-rule) ≤ length words
+              room b =
+                  let c = within-limits kind (ruleCounts (g .counts) more) b in
                   omega (
                     arith,
                     words-length,
@@ -164,9 +167,9 @@ module _ {kind : Kind} {st : State} {g : Gathered} {words bytes starts heads lin
                     length-append (st .words) (flat ruleWords (st .program-rules)),
                     rules-length (st .program-rules),
                     h .class-words,
-                    h .rules-is,
-                    h .occurrences-is,
-                    store-fits kind (g .atoms) (g .rules + 1) (g .occurrences + more) (h .atoms-fit) a b,
+                    rules-is h,
+                    occurrences-is h,
+                    store-fits kind (g .counts .atoms) (g .counts .rules + 1) (g .counts .occurrences + more) (c .atoms) (c .rules) (c .occurrences),
                   )
 
               stored-more : storedWords st ++ ruleWords new-rule ≡ storedWords (with-rule st new-rule)
@@ -174,51 +177,50 @@ module _ {kind : Kind} {st : State} {g : Gathered} {words bytes starts heads lin
                   append-assoc (st .words) (flat ruleWords (st .program-rules)) (ruleWords new-rule)
                   ∙ ap (λ x. st .words ++ x) (sym (flat-last (st .program-rules) new-rule))
 
-              rule-held : g .rules + 1 ≤ ruleLimit kind → g .occurrences + more ≤ occurrenceLimit kind → {words₂ : List ℕ} → words₂ ≡ sets words₁ (g .words) counts
-                  → Held kind (with-rule st new-rule) (withRule g more end) words₂ bytes starts heads links marks₁
-              rule-held a b {words₂} q =
+              rule-held : fits ≡ true → {words₂ : List ℕ} → words₂ ≡ sets words₁ (g .words) counts → Held kind (with-rule st new-rule) (withRule g more end) words₂ bytes
+              rule-held b {words₂} q =
                   record {
                     kind-is = h .kind-is;
                     stage-is = h .stage-is;
                     classes-is = h .classes-is;
-                    atoms-is = h .atoms-is;
-                    rules-is = omega (arith, h .rules-is, length-append (st .program-rules) (new-rule ∷ []));
-                    occurrences-is = omega (arith, h .occurrences-is, sum-last (st .program-rules) new-rule, rule-places);
+                    counts-are = new-counts;
                     class-words = h .class-words;
                     stored =
                         subst (λ x. Filled words₂ 4 end x) stored-more
                         (subst (λ k. Filled words₂ 4 k (storedWords st ++ ruleWords new-rule)) (sym is-end)
-                        (subst (λ x. Filled x 4 (g .words + length (ruleWords new-rule)) (storedWords st ++ ruleWords new-rule)) (sym (after-counts q)) (fill-more (h .stored) (ruleWords new-rule) (room a b))));
-                    index = h .index;
+                        (subst (λ x. Filled x 4 (g .words + length (ruleWords new-rule)) (storedWords st ++ ruleWords new-rule)) (sym (after-counts q)) (fill-more (h .stored) (ruleWords new-rule) (room b))));
+                    names-stored = h .names-stored;
                     bytes-is = h .bytes-is;
                     short = h .short;
-                    atoms-fit = h .atoms-fit;
-                    rules-fit = a;
-                    occurrences-fit = b;
+                    counts-fit = b;
                     classes-fit = h .classes-fit;
                     no-rules = λ z. absurd (let y : true ≡ false = sym (not-false r d) ∙ is-ruling e ∙ z in let x : _≡_ {A = ℕ} 0 1 = cc in omega arith);
-                    marks-below = record { mark = λ x. omega (arith, w .below .mark x, is-stamp) };
                     words-room = ap length (after-counts q) ∙ length-sets words (g .words) (ruleWords new-rule) ∙ h .words-room;
                     bytes-room = h .bytes-room;
-                    starts-room = h .starts-room;
-                    links-room = h .links-room;
-                    marks-room = marks-kept ∙ h .marks-room;
                   }
 
-              pub rule-line : {words₂ : List ℕ} {a : Line} → Kept kind g hc bc nc end words₁ words₂ a → LineIs kind st f words₂ bytes starts heads links marks₁ a
-              unfolding keptRule
-              rule-line {words₂} {a} k =
-                  record { says = go over refl (filledCount kind nc) step-counts (k .answer) (k .words) }
-                where
-                  go : (x : Bool) → over ≡ x → (y : Bool) → stepForm st f ≡ first x Limit (first y FilledNot (next (with-rule st new-rule)))
-                      → a ≡ firstLine x Limit (firstLine y FilledNot (Next (withRule g more end)))
-                      → words₂ ≡ sets words₁ (g .words) (countsIf a counts)
-                      → LineSays kind st f words₂ bytes starts heads links marks₁ a
-                  go true q y s c v = subst (LineSays kind st f words₂ bytes starts heads links marks₁) (sym c) s
-                  go false q true s c v = subst (LineSays kind st f words₂ bytes starts heads links marks₁) (sym c) s
-                  go false q false s c v =
-                      let within = limits-kept kind (g .rules + 1) (g .occurrences + more) refl q in
-                      let held = rule-held (within .0) (within .1) (v ∙ ap (λ z. sets words₁ (g .words) (countsIf z counts)) c) in
-                      let is = held-is held in
-                      subst (LineSays kind st f words₂ bytes starts heads links marks₁) (sym c)
-                      (s ∙ ap next is, subst (λ z. Held kind z (withRule g more end) words₂ bytes starts heads links marks₁) is held)
+              module _ {words₂ : List ℕ} {o : Line} (k : Kept kind g (s .heads) (s .bodies) (s .nots) end words₁ words₂ o) where
+                pub rule-line : {starts firsts links : List ℕ} → HeldIndex g bytes starts firsts links → LineIs kind st f words₂ bytes starts firsts links o
+                unfolding keptRule
+                rule-line {starts} {firsts} {links} x = record { says = go fits refl (filledCount kind (s .nots)) step-counts (k .answer) (k .words) }
+                  where
+                    go : (b : Bool) → fits ≡ b → (y : Bool) → stepForm st f ≡ first (not b) Limit (first y FilledNot (next (with-rule st new-rule)))
+                        → o ≡ firstLine (not b) Limit (firstLine y FilledNot (Next (withRule g more end)))
+                        → words₂ ≡ sets words₁ (g .words) (countsIf o counts)
+                        → LineSays kind st f words₂ bytes starts firsts links o
+                    go false q y z c v = subst (LineSays kind st f words₂ bytes starts firsts links) (sym c) z
+                    go true q true z c v = subst (LineSays kind st f words₂ bytes starts firsts links) (sym c) z
+                    go true q false z c v =
+                        let held = rule-held q (v ∙ ap (λ j. sets words₁ (g .words) (countsIf j counts)) c) in
+                        let is = held-is held in
+                        subst (LineSays kind st f words₂ bytes starts firsts links) (sym c)
+                        (z ∙ ap next is, subst (λ j. Held kind j (withRule g more end) words₂ bytes) is held, record { index = x .index; starts-room = x .starts-room; links-room = x .links-room })
+
+                pub rule-marks : {marks : List ℕ} → length marks₁ ≡ length marks → HeldMarks g marks → MarksAre marks₁ o
+                unfolding keptRule
+                rule-marks n m = record { says = go fits (filledCount kind (s .nots)) (k .answer) }
+                  where
+                    go : (b y : Bool) → o ≡ firstLine (not b) Limit (firstLine y FilledNot (Next (withRule g more end))) → MarksSay marks₁ o
+                    go false y c = subst (MarksSay marks₁) (sym c) tt
+                    go true true c = subst (MarksSay marks₁) (sym c) tt
+                    go true false c = subst (MarksSay marks₁) (sym c) (record { below = record { mark = λ x. omega (arith, w .below .mark x, is-stamp) }; room = n ∙ m .room })

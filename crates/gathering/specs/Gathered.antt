@@ -6,13 +6,13 @@ use mathlib.Core.List.{List, [], _∷_, _++_}
 use lib.Dec.{leb, ltb}
 use lib.ListN.{length, take, drop}
 use lib.Seq.{sets}
-use Rattle.kinds.specs.Limits.{atomLimit, ruleLimit, occurrenceLimit, classLimit}
+use Rattle.kinds.specs.Limits.{classLimit, within}
+use Rattle.kinds.specs.declared.limits.Counts.{Counts}
 use Rattle.kinds.specs.declared.limits.Kind.{Kind}
 use Rattle.kinds.specs.declared.limits.Kind.the-variants.{Plain, Preference}
 use Rattle.kinds.specs.declared.refusals.Refusal.{Refusal}
 use Rattle.kinds.specs.declared.refusals.Refusal.the-variants.{DeclaredTwice, Limit, FilledNot}
-use Rattle.rules.specs.Lists.{sum, flat}
-use Rattle.rules.specs.Rules.{occurrences}
+use Rattle.rules.specs.Lists.{flat}
 use Rattle.name_store.specs.NameStore.{encodeNames, decodeNames}
 use Rattle.name_store.specs.NameIndex.{Indexed}
 use Rattle.stores.specs.RuleStore.{ruleWords, wordCount, rulesFrom, Below}
@@ -21,16 +21,16 @@ use Rattle.gathering.specs.declared.gathered.Line.{Line}
 use Rattle.gathering.specs.declared.gathered.Line.the-variants as Line
 use Rattle.lines.specs.Forms.{Form, Word}
 use Rattle.numbering.specs.Scratch.{scratchWords, scratchBytes, scratchAtoms}
-use Rattle.lines.specs.Faults.{State, next, fault, ruling?, stageAfter, classesAfter, classWords, stepForm}
+use Rattle.lines.specs.Faults.{State, countsOf, next, fault, ruling?, stageAfter, classesAfter, classWords, stepForm}
 
 unfoldable pub stateOf : Kind → Gathered → List ℕ → List ℕ → State
 stateOf kind g words bytes = record {
   kind = kind;
   stage = g .stage;
   classes = g .classes;
-  words = take (wordCount kind (g .atoms)) (drop 4 words);
-  names = decodeNames (g .atoms) bytes;
-  program-rules = rulesFrom (g .rules) (drop (4 + wordCount kind (g .atoms)) words);
+  words = take (wordCount kind (g .counts .atoms)) (drop 4 words);
+  names = decodeNames (g .counts .atoms) bytes;
+  program-rules = rulesFrom (g .counts .rules) (drop (4 + wordCount kind (g .counts .atoms)) words);
 }
 
 -- the class words and the rules, as a rule store has them behind its header
@@ -45,39 +45,50 @@ pub record Filled (d : List ℕ) (skipped used : ℕ) (list : List ℕ) : Type 0
   pub before : length front ≡ skipped
   pub ends : used ≡ skipped + length list
 
--- the scratch holds a state
-pub record Held (kind : Kind) (st : State) (g : Gathered) (words bytes starts heads links marks : List ℕ) : Type 0 where
+-- the scratch stores hold a state
+pub record Held (kind : Kind) (st : State) (g : Gathered) (words bytes : List ℕ) : Type 0 where
   pub kind-is : st .kind ≡ kind
   pub stage-is : g .stage ≡ st .stage
   pub classes-is : g .classes ≡ st .classes
-  pub atoms-is : g .atoms ≡ length (st .names)
-  pub rules-is : g .rules ≡ length (st .program-rules)
-  pub occurrences-is : g .occurrences ≡ sum occurrences (st .program-rules)
-  pub class-words : length (st .words) ≡ wordCount kind (g .atoms)
+  pub counts-are : g .counts ≡ countsOf st
+  pub class-words : length (st .words) ≡ wordCount kind (g .counts .atoms)
   pub stored : Filled words 4 (g .words) (storedWords st)
-  pub index : Indexed (st .names) bytes starts heads links
+  pub names-stored : encodeNames (st .names) ++ drop (length (encodeNames (st .names))) bytes ≡ bytes
   pub bytes-is : g .bytes ≡ length (encodeNames (st .names))
-  pub short : g .bytes ≤ 19 * g .atoms
-  pub atoms-fit : g .atoms ≤ atomLimit kind
-  pub rules-fit : g .rules ≤ ruleLimit kind
-  pub occurrences-fit : g .occurrences ≤ occurrenceLimit kind
+  pub short : g .bytes ≤ 19 * g .counts .atoms
+  pub counts-fit : within kind (g .counts) ≡ true
   pub classes-fit : g .classes ≤ classLimit
   pub no-rules : ruling? (st .stage) ≡ false → st .program-rules ≡ []
-  pub marks-below : Below (3 * g .rules + 1) marks
   pub words-room : length words ≡ scratchWords
   pub bytes-room : length bytes ≡ scratchBytes
+
+-- the names' index
+pub record HeldIndex (g : Gathered) (bytes starts firsts links : List ℕ) : Type 0 where
+  pub index : Indexed (decodeNames (g .counts .atoms) bytes) bytes starts firsts links
   pub starts-room : length starts ≡ scratchAtoms
   pub links-room : length links ≡ scratchAtoms
-  pub marks-room : length marks ≡ scratchAtoms
+
+-- no atom has a mark of the next rule
+pub record HeldMarks (g : Gathered) (marks : List ℕ) : Type 0 where
+  pub below : Below (3 * g .counts .rules + 1) marks
+  pub room : length marks ≡ scratchAtoms
 
 -- what a line's answer says of the step that its form makes
-abbrev pub LineSays : Kind → State → Form → List ℕ → List ℕ → List ℕ → List ℕ → List ℕ → List ℕ → Line → Type 0
-LineSays kind st f words bytes starts heads links marks (Line.Next g) =
-    (stepForm st f ≡ next (stateOf kind g words bytes)) × Held kind (stateOf kind g words bytes) g words bytes starts heads links marks
-LineSays kind st f words bytes starts heads links marks (Line.Fault r) = stepForm st f ≡ fault r
+abbrev pub LineSays : Kind → State → Form → List ℕ → List ℕ → List ℕ → List ℕ → List ℕ → Line → Type 0
+LineSays kind st f words bytes starts firsts links (Line.Next g) =
+    (stepForm st f ≡ next (stateOf kind g words bytes)) × Held kind (stateOf kind g words bytes) g words bytes × HeldIndex g bytes starts firsts links
+LineSays kind st f words bytes starts firsts links (Line.Fault r) = stepForm st f ≡ fault r
 
-pub record LineIs (kind : Kind) (st : State) (f : Form) (words bytes starts heads links marks : List ℕ) (r : Line) : Type 0 where
-  pub says : LineSays kind st f words bytes starts heads links marks r
+pub record LineIs (kind : Kind) (st : State) (f : Form) (words bytes starts firsts links : List ℕ) (r : Line) : Type 0 where
+  pub says : LineSays kind st f words bytes starts firsts links r
+
+-- what it leaves in the marks
+abbrev pub MarksSay : List ℕ → Line → Type 0
+MarksSay marks (Line.Next g) = HeldMarks g marks
+MarksSay marks (Line.Fault r) = Unit {0}
+
+pub record MarksAre (marks : List ℕ) (r : Line) : Type 0 where
+  pub says : MarksSay marks r
 
 -- a rule
 
@@ -89,14 +100,16 @@ abbrev pub firstLine : Bool → Refusal → Line → Line
 firstLine true f r = Line.Fault f
 firstLine false f r = r
 
+-- the counts with one rule more
+abbrev pub ruleCounts : Counts → ℕ → Counts
+ruleCounts c more = record { atoms = c .atoms; rules = c .rules + 1; occurrences = c .occurrences + more }
+
 -- one rule more, whose words end at `end`
 abbrev pub withRule : Gathered → ℕ → ℕ → Gathered
 withRule g more end = record {
   stage = g .stage;
   classes = g .classes;
-  atoms = g .atoms;
-  rules = g .rules + 1;
-  occurrences = g .occurrences + more;
+  counts = ruleCounts (g .counts) more;
   words = end;
   bytes = g .bytes;
 }
@@ -107,7 +120,7 @@ countsIf (Line.Fault f) w = []
 
 unfoldable pub keptRule : Kind → Gathered → ℕ → ℕ → ℕ → Line
 keptRule kind g more nots end =
-    firstLine (not (leb (g .rules + 1) (ruleLimit kind) && leb (g .occurrences + more) (occurrenceLimit kind))) Limit
+    firstLine (not (within kind (ruleCounts (g .counts) more))) Limit
     (firstLine (filledCount kind nots) FilledNot (Line.Next (withRule g more end)))
 
 pub record Kept (kind : Kind) (g : Gathered) (heads bodies nots end : ℕ) (before after : List ℕ) (r : Line) : Type 0 where
@@ -116,20 +129,22 @@ pub record Kept (kind : Kind) (g : Gathered) (heads bodies nots end : ℕ) (befo
 
 -- a line that declares atoms
 
+-- the counts with so many atoms
+abbrev pub atomCounts : Counts → ℕ → Counts
+atomCounts c n = record { atoms = n; rules = c .rules; occurrences = c .occurrences }
+
 abbrev pub withNames : Gathered → Word → ℕ → ℕ → ℕ → Gathered
 withNames g w atoms used end = record {
   stage = stageAfter w;
   classes = classesAfter w (g .classes);
-  atoms = atoms;
-  rules = g .rules;
-  occurrences = g .occurrences;
+  counts = atomCounts (g .counts) atoms;
   words = end;
   bytes = used;
 }
 
 unfoldable pub keptNames : Kind → Gathered → Word → ℕ → ℕ → ℕ → Line
 keptNames kind g w atoms used end =
-    firstLine (not (leb atoms (atomLimit kind) && leb (classesAfter w (g .classes)) classLimit)) Limit (Line.Next (withNames g w atoms used end))
+    firstLine (not (within kind (atomCounts (g .counts) atoms) && leb (classesAfter w (g .classes)) classLimit)) Limit (Line.Next (withNames g w atoms used end))
 
 pub record KeptNames (kind : Kind) (g : Gathered) (w : Word) (count atoms used : ℕ) (before after : List ℕ) (r : Line) : Type 0 where
   pub answer : r ≡ keptNames kind g w atoms used (g .words + length (classWords w (g .classes) count))

@@ -1,13 +1,12 @@
 // What the lines so far have given: counts, beside the scratch stores that they are gathered in.
+use kinds::limits::Counts;
 use kinds::refusals::Refusal;
 use lines::stage::Stage;
 
 pub struct Gathered {
     pub stage: Stage,
     pub classes: usize,
-    pub atoms: usize,
-    pub rules: usize,
-    pub occurrences: usize,
+    pub counts: Counts,
     // How far the scratch words and bytes are filled.
     pub words: usize,
     pub bytes: usize,

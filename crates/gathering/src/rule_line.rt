@@ -1,24 +1,24 @@
 // A rule's line against what the lines before have given.
 use crate::gathered::Gathered;
 use crate::gathered::Line;
+use kinds::limits::Counts;
 use kinds::limits::Kind;
 use kinds::refusals::Refusal;
+use lines::forms::RuleShape;
 use lines::stage::Stage;
 use numbering::numbers;
 use numbering::numbers::Numbers;
 use output::words::push;
 ghost use mathlib.Core.Path.{_≡_};
 ghost use Prim.Native.Nat.{_+_, _^_, _≤_, _<_};
-ghost use mathlib.Core.Bool.{_&&_};
 ghost use mathlib.Core.List.{[], _∷_};
-ghost use lib.Dec.{leb};
 ghost use lib.ListN.{length};
-ghost use Rattle.kinds.specs.Limits.{ruleLimit, occurrenceLimit, textLimit};
+ghost use Rattle.kinds.specs.Limits.{textLimit};
 ghost use Rattle.output.specs.Emitted.{Emitted};
 ghost use Rattle.lines.specs.Forms.{formOf};
 ghost use Rattle.lines.specs.Faults.{ruling?};
 ghost use Rattle.lines.specs.Shapes.{Ruled};
-ghost use Rattle.gathering.specs.Gathered.{stateOf, Held, LineIs, filledCount, Kept};
+ghost use Rattle.gathering.specs.Gathered.{stateOf, Held, HeldIndex, HeldMarks, LineIs, MarksAre, filledCount, Kept};
 
 pub fn is_ruling(stage: Stage) -> bool
     ensures { λ r. ⌜ r ≡ ruling? stage ⌝ }
@@ -28,15 +28,6 @@ pub fn is_ruling(stage: Stage) -> bool
         Stage::Fixing => false,
         Stage::Ruling => true,
     }
-}
-
-fn rule_fits(kind: Kind, rules: usize, occurrences: usize) -> bool
-    ensures { λ r. ⌜ r ≡ (leb rules (ruleLimit kind) && leb occurrences (occurrenceLimit kind)) ⌝ }
-{
-    if kind.rules() < rules {
-        return false;
-    }
-    occurrences <= kind.occurrences()
 }
 
 // A filled `not` list in a preference file.
@@ -68,12 +59,19 @@ fn keep_rule(
     end: usize,
     words: &mut [u16],
 ) -> Line
-    requires { ⌜ (heads + bodies + nots < 2 ^ 62) × (gathered .rules < 2 ^ 62) × (gathered .occurrences < 2 ^ 62) × (gathered .words < 2 ^ 62) ⌝ }
+    requires { ⌜ (heads + bodies + nots < 2 ^ 62) × (gathered .counts .rules < 2 ^ 62) × (gathered .counts .occurrences < 2 ^ 62) × (gathered .words < 2 ^ 62) ⌝ }
     ensures { λ r. ⌜ Kept kind gathered heads bodies nots end (now (words .entry)) (now (words .exit)) r ⌝ }
 {
-    let rules = gathered.rules + 1;
-    let occurrences = gathered.occurrences + (heads + bodies + nots);
-    let fits = rule_fits(kind, rules, occurrences);
+    let before = gathered.counts;
+    let atoms = before.atoms;
+    let rules = before.rules + 1;
+    let occurrences = before.occurrences + (heads + bodies + nots);
+    let counts = Counts {
+        atoms,
+        rules,
+        occurrences,
+    };
+    let fits = counts.within(kind);
     if !fits {
         return Line::Fault(Refusal::Limit);
     }
@@ -82,16 +80,13 @@ fn keep_rule(
     }
     let stage = gathered.stage;
     let classes = gathered.classes;
-    let atoms = gathered.atoms;
     let bytes = gathered.bytes;
     let at = gathered.words;
     put_counts(heads, bodies, nots, words, at);
     Line::Next(Gathered {
         stage,
         classes,
-        atoms,
-        rules,
-        occurrences,
+        counts,
         words: end,
         bytes,
     })
@@ -102,13 +97,7 @@ pub fn add_rule(
     line: &[u8],
     kind: Kind,
     gathered: Gathered,
-    head: usize,
-    body: usize,
-    not: usize,
-    heads: usize,
-    bodies: usize,
-    nots: usize,
-    refused: bool,
+    shape: RuleShape,
     words: &mut [u16],
     bytes: &[u8],
     starts: &[u16],
@@ -116,28 +105,31 @@ pub fn add_rule(
     links: &[u16],
     marks: &mut [u16],
 ) -> Line
-    requires { ⌜ Ruled kind (now line) (formOf (now line)) head body not heads bodies nots refused ⌝ }
+    requires { ⌜ Ruled kind (now line) (formOf (now line)) shape ⌝ }
     requires { ⌜ length (now line) ≤ textLimit ⌝ }
-    requires { ⌜ Held kind (stateOf kind gathered (now words) (now bytes)) gathered (now words) (now bytes) (now starts) (now firsts) (now links) (now marks) ⌝ }
-    ensures { λ r. ⌜ LineIs kind (stateOf kind gathered (now (words .entry)) (now (bytes .entry))) (formOf (now (line .entry))) (now (words .exit)) (now (bytes .entry)) (now (starts .entry)) (now (firsts .entry)) (now (links .entry)) (now (marks .exit)) r ⌝ }
+    requires { ⌜ Held kind (stateOf kind gathered (now words) (now bytes)) gathered (now words) (now bytes) ⌝ }
+    requires { ⌜ HeldIndex gathered (now bytes) (now starts) (now firsts) (now links) ⌝ }
+    requires { ⌜ HeldMarks gathered (now marks) ⌝ }
+    ensures { λ r. ⌜ LineIs kind (stateOf kind gathered (now (words .entry)) (now (bytes .entry))) (formOf (now (line .entry))) (now (words .exit)) (now (bytes .entry)) (now (starts .entry)) (now (firsts .entry)) (now (links .entry)) r ⌝ }
+    ensures { λ r. ⌜ MarksAre (now (marks .exit)) r ⌝ }
 {
     let stage = gathered.stage;
     let ruling = is_ruling(stage);
     if !ruling {
         return Line::Fault(Refusal::Form);
     }
-    if refused {
+    if shape.refused {
         return Line::Fault(Refusal::Name);
     }
-    let atoms = gathered.atoms;
-    let rules = gathered.rules;
+    let counts = gathered.counts;
+    let atoms = counts.atoms;
+    let rules = counts.rules;
     let at = gathered.words + 3;
     let stamp = (3 * rules + 1) as u16;
+    let lists = shape.lists;
     let Numbers::List { end, twice } = numbers::rule_numbers(
         line,
-        head,
-        body,
-        not,
+        lists,
         bytes,
         &starts[..atoms],
         firsts,
@@ -152,5 +144,13 @@ pub fn add_rule(
     if twice {
         return Line::Fault(Refusal::TwiceInList);
     }
-    keep_rule(kind, gathered, heads, bodies, nots, end, words)
+    keep_rule(
+        kind,
+        gathered,
+        shape.heads,
+        shape.bodies,
+        shape.nots,
+        end,
+        words,
+    )
 }

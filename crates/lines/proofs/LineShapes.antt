@@ -26,7 +26,7 @@ module _ (kind : Kind) (l : List ℕ) (w : Keyword) {tag : List ℕ} (p : tag �
     unfolding declaredForm
     not-closed d = rw (cuts, sym e ∙ d)
 
-    pub declaring : q ≡ true → Declared kind l (declaredForm (wordOf w) l) w from count refused
+    pub declaring : q ≡ true → Declared kind l (declaredForm (wordOf w) l) (record { word = w; from = from; count = count; refused = refused })
     unfolding declaredForm
     declaring d = record { form = rw (cuts, sym e ∙ d); inside = h .in-from; is-count = h .is-count; is-refused = h .is-refused }
 
@@ -51,14 +51,14 @@ module _ (kind : Kind) (l : List ℕ) where
         unfolding ruleForm
         not-ended d = rw (h .cuts, b .cuts, n .cuts, sym e ∙ d)
 
-        pub ruling : q ≡ true → {refused : Bool} → refused ≡ (hr || (br || nr)) → Ruled kind l (ruleForm l) head body nots heads bodies not-count refused
+        pub ruling : q ≡ true → {refused : Bool} → refused ≡ (hr || (br || nr)) → Ruled kind l (ruleForm l) (record { lists = record { head = head; body = body; not = nots }; heads = heads; bodies = bodies; nots = not-count; refused = refused })
         unfolding ruleForm
         ruling d g =
             record {
               form = rw (h .cuts, b .cuts, n .cuts, sym e ∙ d);
               in-head = h .in-from;
               in-body = b .in-from;
-              in-nots = n .in-from;
+              in-not = n .in-from;
               is-heads = h .is-count;
               is-bodies = b .is-count;
               is-nots = n .is-count;

@@ -20,6 +20,8 @@ use Rattle.lines.specs.declared.forms.Names.{Names}
 use Rattle.lines.specs.declared.forms.Names.the-variants as Found
 use Rattle.lines.specs.declared.forms.Keyword.{Keyword}
 use Rattle.lines.specs.declared.forms.Keyword.the-variants.{Atoms, Min, Vary, Fix}
+use Rattle.lines.specs.declared.forms.DeclaredShape.{DeclaredShape}
+use Rattle.lines.specs.declared.forms.RuleShape.{RuleShape}
 use Rattle.lines.specs.declared.forms.Shape.{Shape}
 use Rattle.lines.specs.declared.forms.Shape.the-variants as Line
 use Rattle.lines.specs.Items.{run, items, span}
@@ -60,25 +62,25 @@ wordOf Vary = vary
 wordOf Fix = fix
 
 -- the line's form f declares the names that stand from a place on
-pub record Declared (kind : Kind) (l : List ℕ) (f : Form) (w : Keyword) (from count : ℕ) (refused : Bool) : Type 0 where
-  pub form : f ≡ declares (wordOf w) (items (drop from l))
-  pub inside : from ≤ length l
-  pub is-count : count ≡ length (items (drop from l))
-  pub is-refused : refused ≡ some (refusedName kind) (items (drop from l))
+pub record Declared (kind : Kind) (l : List ℕ) (f : Form) (d : DeclaredShape) : Type 0 where
+  pub form : f ≡ declares (wordOf (d .word)) (items (drop (d .from) l))
+  pub inside : d .from ≤ length l
+  pub is-count : d .count ≡ length (items (drop (d .from) l))
+  pub is-refused : d .refused ≡ some (refusedName kind) (items (drop (d .from) l))
 
 -- the line's form f is a rule whose lists stand from three places on
-pub record Ruled (kind : Kind) (l : List ℕ) (f : Form) (head body nots heads bodies not-count : ℕ) (refused : Bool) : Type 0 where
-  pub form : f ≡ rules (items (drop head l)) (items (drop body l)) (items (drop nots l))
-  pub in-head : head ≤ length l
-  pub in-body : body ≤ length l
-  pub in-nots : nots ≤ length l
-  pub is-heads : heads ≡ length (items (drop head l))
-  pub is-bodies : bodies ≡ length (items (drop body l))
-  pub is-nots : not-count ≡ length (items (drop nots l))
-  pub is-refused : refused ≡ anyOf (some (refusedName kind)) (items (drop head l)) (items (drop body l)) (items (drop nots l))
+pub record Ruled (kind : Kind) (l : List ℕ) (f : Form) (r : RuleShape) : Type 0 where
+  pub form : f ≡ rules (items (drop (r .lists .head) l)) (items (drop (r .lists .body) l)) (items (drop (r .lists .not) l))
+  pub in-head : r .lists .head ≤ length l
+  pub in-body : r .lists .body ≤ length l
+  pub in-not : r .lists .not ≤ length l
+  pub is-heads : r .heads ≡ length (items (drop (r .lists .head) l))
+  pub is-bodies : r .bodies ≡ length (items (drop (r .lists .body) l))
+  pub is-nots : r .nots ≡ length (items (drop (r .lists .not) l))
+  pub is-refused : r .refused ≡ anyOf (some (refusedName kind)) (items (drop (r .lists .head) l)) (items (drop (r .lists .body) l)) (items (drop (r .lists .not) l))
 
 -- what a shape says of a line and its form
 abbrev pub ShapeIs : Kind → List ℕ → Form → Shape → Type 0
-ShapeIs kind l f (Line.Declares w from count refused) = Declared kind l f w from count refused
-ShapeIs kind l f (Line.Rule head body nots heads bodies not-count refused) = Ruled kind l f head body nots heads bodies not-count refused
+ShapeIs kind l f (Line.Declares d) = Declared kind l f d
+ShapeIs kind l f (Line.Rule r) = Ruled kind l f r
 ShapeIs kind l f Line.Broken = f ≡ broken

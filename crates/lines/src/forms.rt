@@ -38,22 +38,31 @@ pub enum Keyword {
 
 // The form of a line: where its lists start, how many names they have, and whether one of these is refused.
 pub enum Shape {
-    Declares {
-        word: Keyword,
-        from: usize,
-        count: usize,
-        refused: bool,
-    },
-    Rule {
-        head: usize,
-        body: usize,
-        not: usize,
-        heads: usize,
-        bodies: usize,
-        nots: usize,
-        refused: bool,
-    },
+    Declares(DeclaredShape),
+    Rule(RuleShape),
     Broken,
+}
+
+pub struct DeclaredShape {
+    pub word: Keyword,
+    pub from: usize,
+    pub count: usize,
+    pub refused: bool,
+}
+
+pub struct RuleShape {
+    pub lists: RuleLists,
+    pub heads: usize,
+    pub bodies: usize,
+    pub nots: usize,
+    pub refused: bool,
+}
+
+// Where the three lists of a rule start.
+pub struct RuleLists {
+    pub head: usize,
+    pub body: usize,
+    pub not: usize,
 }
 
 pub fn name_fit(name: &[u8], kind: Kind) -> NameFit
@@ -127,12 +136,12 @@ fn declared_shape(line: &[u8], kind: Kind, word: Keyword, tag: &[u8]) -> Shape
         return Shape::Broken;
     };
     if scan::ends_at(line, end, b")\n") {
-        return Shape::Declares {
+        return Shape::Declares(DeclaredShape {
             word,
             from,
             count,
             refused,
-        };
+        });
     }
     Shape::Broken
 }
@@ -178,15 +187,14 @@ fn rule_shape(line: &[u8], kind: Kind) -> Shape
     };
     if scan::ends_at(line, not_end, b"))\n") {
         let refused = any(in_head, in_body, in_not);
-        return Shape::Rule {
-            head,
-            body,
-            not,
+        let lists = RuleLists { head, body, not };
+        return Shape::Rule(RuleShape {
+            lists,
             heads,
             bodies,
             nots,
             refused,
-        };
+        });
     }
     Shape::Broken
 }

@@ -28,8 +28,8 @@ pub twice-split : (old ys zs : List (List ℕ)) → twice old (ys ++ zs) ≡ (tw
 unfolding twice
 twice-split old [] zs = ap (λ l. twice l zs) (sym (append-nil old))
 twice-split old (y ∷ ys) zs =
-    ap (λ b. some (sameBytes y) old || b) (twice-split (old ++ (y ∷ [])) ys zs ∙ ap (λ l. twice (old ++ (y ∷ [])) ys || twice l zs) (append-assoc old (y ∷ []) ys))
-    ∙ or-assoc (some (sameBytes y) old) (twice (old ++ (y ∷ [])) ys) (twice (old ++ (y ∷ ys)) zs)
+    ap (λ b. among old y || b) (twice-split (old ++ (y ∷ [])) ys zs ∙ ap (λ l. twice (old ++ (y ∷ [])) ys || twice l zs) (append-assoc old (y ∷ []) ys))
+    ∙ or-assoc (among old y) (twice (old ++ (y ∷ [])) ys) (twice (old ++ (y ∷ ys)) zs)
 
 some-app : {A : Type 0} (p : A → Bool) (xs ys : List A) → some p (xs ++ ys) ≡ (some p xs || some p ys)
 some-app p [] ys = refl
@@ -41,7 +41,7 @@ unfolding twice
 twice-apart old new [] = refl
 twice-apart old new (z ∷ zs) =
     ap₂ _||_ (some-app (sameBytes z) old new) (ap (λ l. twice l zs) (append-assoc old new (z ∷ [])) ∙ twice-apart old (new ++ (z ∷ [])) zs)
-    ∙ exchange (some (sameBytes z) old) (some (sameBytes z) new) (some (among old) zs) (twice (new ++ (z ∷ [])) zs)
+    ∙ exchange (among old z) (among new z) (some (among old) zs) (twice (new ++ (z ∷ [])) zs)
   where
     exchange : (a b c d : Bool) → ((a || b) || (c || d)) ≡ ((a || c) || (b || d))
     exchange true b c d = refl
@@ -50,26 +50,26 @@ twice-apart old new (z ∷ zs) =
     exchange false false c d = refl
 
 -- the names up to i are entered
-pub record Entering (names : List (List ℕ)) (s : List ℕ) (from : ℕ) (bytes starts heads links : List ℕ) (i atom at : ℕ) : Type 0 where
+pub record Entering (names : List (List ℕ)) (s : List ℕ) (from : ℕ) (bytes starts firsts links : List ℕ) (i atom at : ℕ) : Type 0 where
   pub passed : List (List ℕ)
   pub inside : i ≤ length s
   pub all : passed ++ items (drop i s) ≡ items (drop from s)
   pub short : Short (items (drop i s))
   pub once : twice names passed ≡ false
-  pub stored : Stored (names ++ passed) bytes starts heads links atom at
+  pub stored : Stored (names ++ passed) bytes starts firsts links atom at
   pub room : Room bytes starts links
   pub onward : from + length passed ≤ i
 
-pub entering : {names : List (List ℕ)} {s : List ℕ} {from : ℕ} {bytes starts heads links : List ℕ} {atom at : ℕ} → from ≤ length s → Short (items (drop from s)) → Room bytes starts links → Stored names bytes starts heads links atom at → Entering names s from bytes starts heads links from atom at
+pub entering : {names : List (List ℕ)} {s : List ℕ} {from : ℕ} {bytes starts firsts links : List ℕ} {atom at : ℕ} → from ≤ length s → Short (items (drop from s)) → Room bytes starts links → Stored names bytes starts firsts links atom at → Entering names s from bytes starts firsts links from atom at
 unfolding twice
-entering {names} {s} {from} {bytes} {starts} {heads} {links} {atom} {at} i h r st =
-    record { passed = []; inside = i; all = refl; short = h; once = refl; stored = subst (λ l. Stored l bytes starts heads links atom at) (sym (append-nil names)) st; room = r; onward = omega arith }
+entering {names} {s} {from} {bytes} {starts} {firsts} {links} {atom} {at} i h r st =
+    record { passed = []; inside = i; all = refl; short = h; once = refl; stored = subst (λ l. Stored l bytes starts firsts links atom at) (sym (append-nil names)) st; room = r; onward = omega arith }
 
-module _ {names : List (List ℕ)} {s : List ℕ} {from : ℕ} {bytes starts heads links : List ℕ} {i atom at : ℕ} (h : Entering names s from bytes starts heads links i atom at) {r : Item} (e : r ≡ itemOf (drop i s)) where
-  pub names-entered : r ≡ Stop → AllEntered names (items (drop from s)) bytes starts heads links atom at
+module _ {names : List (List ℕ)} {s : List ℕ} {from : ℕ} {bytes starts firsts links : List ℕ} {i atom at : ℕ} (h : Entering names s from bytes starts firsts links i atom at) {r : Item} (e : r ≡ itemOf (drop i s)) where
+  pub names-entered : r ≡ Stop → AllEntered names (items (drop from s)) bytes starts firsts links atom at
   names-entered d =
       let whole : h .passed ≡ items (drop from s) = sym (append-nil (h .passed)) ∙ ap (λ l. h .passed ++ l) (sym (items-end s i e d)) ∙ h .all in
-      record { once = ap (twice names) (sym whole) ∙ h .once; stored = subst (λ l. Stored (names ++ l) bytes starts heads links atom at) whole (h .stored) }
+      record { once = ap (twice names) (sym whole) ∙ h .once; stored = subst (λ l. Stored (names ++ l) bytes starts firsts links atom at) whole (h .stored) }
 
   module _ {n : ℕ} (d : r ≡ At n) where
     pub entry-inside : i + 1 + n ≤ length s
@@ -81,7 +81,7 @@ module _ {names : List (List ℕ)} {s : List ℕ} {from : ℕ} {bytes starts hea
     abbrev xs : List (List ℕ)
     xs = later s i e d
 
-    pub store-full : 1100 ≤ atom → SomeEntered names s from bytes starts heads links i
+    pub store-full : 1100 ≤ atom → SomeEntered names s from bytes starts firsts links i
     store-full f =
         record {
           passed = h .passed;
@@ -110,8 +110,8 @@ module _ {names : List (List ℕ)} {s : List ℕ} {from : ℕ} {bytes starts hea
       same : decodeNames atom bytes ≡ held
       same = ap (λ k. decodeNames k bytes) (h .stored .count) ∙ decoded (h .stored .index)
 
-      pub entry-index : Indexed (decodeNames atom bytes) bytes starts heads links
-      entry-index = subst (λ l. Indexed l bytes starts heads links) (sym same) (h .stored .index)
+      pub entry-index : Indexed (decodeNames atom bytes) bytes starts firsts links
+      entry-index = subst (λ l. Indexed l bytes starts firsts links) (sym same) (h .stored .index)
 
       entry-room′ : EntryRoom held x bytes starts links atom at
       entry-room′ =
@@ -129,22 +129,22 @@ module _ {names : List (List ℕ)} {s : List ℕ} {from : ℕ} {bytes starts hea
       pub entry-room : EntryRoom (decodeNames atom bytes) x bytes starts links atom at
       entry-room = subst (λ l. EntryRoom l x bytes starts links atom at) (sym same) entry-room′
 
-      module _ {bytes′ starts′ heads′ links′ : List ℕ} {q : Bool} (w : EntryIs (decodeNames atom bytes) x bytes′ starts′ heads′ links′ q) where
-        said : {b : Bool} → q ≡ b → EntrySays held x bytes′ starts′ heads′ links′ b
-        said {b} g = subst (λ l. EntrySays l x bytes′ starts′ heads′ links′ b) same (subst (EntrySays (decodeNames atom bytes) x bytes′ starts′ heads′ links′) g (w .says))
+      module _ {bytes′ starts′ firsts′ links′ : List ℕ} {q : Bool} (w : EntryIs (decodeNames atom bytes) x bytes′ starts′ firsts′ links′ q) where
+        said : {b : Bool} → q ≡ b → EntrySays held x bytes′ starts′ firsts′ links′ b
+        said {b} g = subst (λ l. EntrySays l x bytes′ starts′ firsts′ links′ b) same (subst (EntrySays (decodeNames atom bytes) x bytes′ starts′ firsts′ links′) g (w .says))
 
-        last-twice : twice names (h .passed ++ (x ∷ [])) ≡ some (sameBytes x) held
+        last-twice : twice names (h .passed ++ (x ∷ [])) ≡ among held x
         unfolding twice
-        last-twice = twice-split names (h .passed) (x ∷ []) ∙ ap (λ b. b || (some (sameBytes x) held || false)) (h .once) ∙ or-false (some (sameBytes x) held)
+        last-twice = twice-split names (h .passed) (x ∷ []) ∙ ap (λ b. b || (among held x || false)) (h .once) ∙ or-false (among held x)
 
         pub entered-twice : q ≡ false → twice names (items (drop from s)) ≡ true
         unfolding twice
         entered-twice g =
             ap (twice names) (sym split) ∙ twice-split names (h .passed) (x ∷ xs)
-            ∙ ap (λ b. b || (some (sameBytes x) held || twice (held ++ (x ∷ [])) xs)) (h .once)
+            ∙ ap (λ b. b || (among held x || twice (held ++ (x ∷ [])) xs)) (h .once)
             ∙ ap (λ b. b || twice (held ++ (x ∷ [])) xs) (said g)
 
-        pub entered-again : q ≡ true → length bytes′ ≡ length bytes → length starts′ ≡ length starts → length links′ ≡ length links → Entering names s from bytes′ starts′ heads′ links′ (i + 1 + n) (atom + 1) (at + (1 + n))
+        pub entered-again : q ≡ true → length bytes′ ≡ length bytes → length starts′ ≡ length starts → length links′ ≡ length links → Entering names s from bytes′ starts′ firsts′ links′ (i + 1 + n) (atom + 1) (at + (1 + n))
         entered-again g b c l =
             let k = said g in
             let grown : held ++ (x ∷ []) ≡ names ++ (h .passed ++ (x ∷ [])) = append-assoc names (h .passed) (x ∷ []) in
@@ -156,7 +156,7 @@ module _ {names : List (List ℕ)} {s : List ℕ} {from : ℕ} {bytes starts hea
               all = append-assoc (h .passed) (x ∷ []) xs ∙ split;
               short = shorts .1;
               once = last-twice ∙ k .0;
-              stored = subst (λ l. Stored l bytes′ starts′ heads′ links′ (atom + 1) (at + (1 + n))) grown (record {
+              stored = subst (λ l. Stored l bytes′ starts′ firsts′ links′ (atom + 1) (at + (1 + n))) grown (record {
                 index = k .1;
                 count = omega (arith, h .stored .count, length-append held (x ∷ []));
                 ends = omega (arith, h .stored .ends, size);

@@ -19,50 +19,50 @@ use Rattle.numbering.proofs.Entering.{twice-split, twice-apart}
 use Rattle.numbering.proofs.NewNames.{decoded}
 
 -- the index of no name
-pub empty-index : (bytes starts links : List ℕ) {heads : List ℕ} {n : ℕ} → heads ≡ replicate n 0 → buckets ≤ n → Indexed [] bytes starts heads links
+pub empty-index : (bytes starts links : List ℕ) {firsts : List ℕ} {n : ℕ} → firsts ≡ replicate n 0 → buckets ≤ n → Indexed [] bytes starts firsts links
 unfolding encodeNames lastWith
-empty-index bytes starts links {heads} {n} e l =
+empty-index bytes starts links {firsts} {n} e l =
     record {
       placed = record { stored = refl; room = zero-le; start = λ i k. absurd (omega arith) };
       different = tt;
-      heads-room = omega (arith, ap length e, length-replicate {A = ℕ} n 0);
-      next-room = zero-le;
-      head = λ h k. ap (λ w. getD w h 0) e ∙ getD-replicate n h 0 0 (omega arith);
+      firsts-room = omega (arith, ap length e, length-replicate {A = ℕ} n 0);
+      links-room = zero-le;
+      first = λ h k. ap (λ w. getD w h 0) e ∙ getD-replicate n h 0 0 (omega arith);
       link = λ i k. absurd (omega arith);
     }
 
-pub empty-stored : {bytes starts heads links : List ℕ} → Indexed [] bytes starts heads links → Stored (decodeNames 0 bytes) bytes starts heads links 0 0
+pub empty-stored : {bytes starts firsts links : List ℕ} → Indexed [] bytes starts firsts links → Stored (decodeNames 0 bytes) bytes starts firsts links 0 0
 unfolding decodeNames encodeNames
 empty-stored ix = record { index = ix; count = refl; ends = refl; short = zero-le; few = zero-le }
 
 -- what an answer says
-module _ {names : List (List ℕ)} {s : List ℕ} {from : ℕ} {bytes starts heads links : List ℕ} {r : Entered} (h : EnteredIs names s from bytes starts heads links r) where
-  pub entered-all : {atoms used : ℕ} → r ≡ Answer.All atoms used → AllEntered names (items (drop from s)) bytes starts heads links atoms used
-  entered-all e = subst (EnteredSays names s from bytes starts heads links) e (h .says)
+module _ {names : List (List ℕ)} {s : List ℕ} {from : ℕ} {bytes starts firsts links : List ℕ} {r : Entered} (h : EnteredIs names s from bytes starts firsts links r) where
+  pub entered-all : {atoms used : ℕ} → r ≡ Answer.All atoms used → AllEntered names (items (drop from s)) bytes starts firsts links atoms used
+  entered-all e = subst (EnteredSays names s from bytes starts firsts links) e (h .says)
 
-  pub entered-some : {at : ℕ} → r ≡ Answer.Full at → SomeEntered names s from bytes starts heads links at
-  entered-some e = subst (EnteredSays names s from bytes starts heads links) e (h .says)
+  pub entered-some : {at : ℕ} → r ≡ Answer.Full at → SomeEntered names s from bytes starts firsts links at
+  entered-some e = subst (EnteredSays names s from bytes starts firsts links) e (h .says)
 
   pub not-once : r ≡ Answer.Twice → twice names (items (drop from s)) ≡ true
-  not-once e = subst (EnteredSays names s from bytes starts heads links) e (h .says)
+  not-once e = subst (EnteredSays names s from bytes starts firsts links) e (h .says)
 
 -- the names before `at` are in blocks behind
-pub record Blocks (s : List ℕ) (from at : ℕ) (bytes starts heads links : List ℕ) : Type 0 where
+pub record Blocks (s : List ℕ) (from at : ℕ) (bytes starts firsts links : List ℕ) : Type 0 where
   pub inside : at ≤ length s
   pub short : Short (items (drop at s))
   pub left : twice [] (items (drop at s)) ≡ twice [] (items (drop from s))
   pub room : Room bytes starts links
-  pub heads-room : buckets ≤ length heads
+  pub firsts-room : buckets ≤ length firsts
 
-pub blocks-begin : {s : List ℕ} {from : ℕ} {bytes starts heads links : List ℕ} → from ≤ length s → Short (items (drop from s)) → Room bytes starts links → buckets ≤ length heads → Blocks s from from bytes starts heads links
-blocks-begin i h r k = record { inside = i; short = h; left = refl; room = r; heads-room = k }
+pub blocks-begin : {s : List ℕ} {from : ℕ} {bytes starts firsts links : List ℕ} → from ≤ length s → Short (items (drop from s)) → Room bytes starts links → buckets ≤ length firsts → Blocks s from from bytes starts firsts links
+blocks-begin i h r k = record { inside = i; short = h; left = refl; room = r; firsts-room = k }
 
-module _ {s : List ℕ} {from at : ℕ} {bytes starts heads links : List ℕ} (h : Blocks s from at bytes starts heads links) where
-  pub block-stored : {heads₀ : List ℕ} → heads₀ ≡ replicate (length heads) 0 → Stored (decodeNames 0 bytes) bytes starts heads₀ links 0 0
+module _ {s : List ℕ} {from at : ℕ} {bytes starts firsts links : List ℕ} (h : Blocks s from at bytes starts firsts links) where
+  pub block-stored : {firsts₀ : List ℕ} → firsts₀ ≡ replicate (length firsts) 0 → Stored (decodeNames 0 bytes) bytes starts firsts₀ links 0 0
   block-stored e = empty-stored (empty-index bytes starts links e (h .firsts-room))
 
-  module _ {bytes′ starts′ heads′ links′ : List ℕ} {r : Entered} (w : EnteredIs (decodeNames 0 bytes) s at bytes′ starts′ heads′ links′ r) where
-    block : EnteredIs [] s at bytes′ starts′ heads′ links′ r
+  module _ {bytes′ starts′ firsts′ links′ : List ℕ} {r : Entered} (w : EnteredIs (decodeNames 0 bytes) s at bytes′ starts′ firsts′ links′ r) where
+    block : EnteredIs [] s at bytes′ starts′ firsts′ links′ r
     unfolding decodeNames
     block = w
 
@@ -73,7 +73,7 @@ module _ {s : List ℕ} {from at : ℕ} {bytes starts heads links : List ℕ} (h
     block-twice e = sym (not-once block e) ∙ h .left
 
     module _ {rest : ℕ} (e : r ≡ Answer.Full rest) (b : length bytes′ ≡ length bytes) (c : length starts′ ≡ length starts) (l : length links′ ≡ length links) where
-      some-in : SomeEntered [] s at bytes′ starts′ heads′ links′ rest
+      some-in : SomeEntered [] s at bytes′ starts′ firsts′ links′ rest
       some-in = entered-some block e
 
       pub rest-inside : rest ≤ length s
@@ -85,8 +85,8 @@ module _ {s : List ℕ} {from at : ℕ} {bytes starts heads links : List ℕ} (h
       names-are : decodeNames (length starts′) bytes′ ≡ some-in .passed
       names-are = ap (λ k. decodeNames k bytes′) (c ∙ h .room .starts-long ∙ sym (some-in .full)) ∙ decoded (some-in .index)
 
-      pub rest-index : Indexed (decodeNames (length starts′) bytes′) bytes′ starts′ heads′ links′
-      rest-index = subst (λ ns. Indexed ns bytes′ starts′ heads′ links′) (sym names-are) (some-in .index)
+      pub rest-index : Indexed (decodeNames (length starts′) bytes′) bytes′ starts′ firsts′ links′
+      rest-index = subst (λ ns. Indexed ns bytes′ starts′ firsts′ links′) (sym names-are) (some-in .index)
 
       parts : twice [] (items (drop at s)) ≡ (some (among (some-in .passed)) (items (drop rest s)) || twice [] (items (drop rest s)))
       parts =
@@ -103,17 +103,17 @@ module _ {s : List ℕ} {from at : ℕ} {bytes starts heads links : List ℕ} (h
         pub rest-known : q ≡ true → true ≡ twice [] (items (drop from s))
         rest-known g = sym (rw (sym known, g) at parts) ∙ h .left
 
-        pub next-block : q ≡ false → length heads′ ≡ length heads → Blocks s from rest bytes′ starts′ heads′ links′
+        pub next-block : q ≡ false → length firsts′ ≡ length firsts → Blocks s from rest bytes′ starts′ firsts′ links′
         next-block g m =
             record {
               inside = some-in .inside;
               short = all-app-r (λ x. length x ≤ 18) (some-in .passed) (items (drop rest s)) (subst Short (sym (some-in .all)) (h .short));
               left = sym (rw (sym known, g) at parts) ∙ h .left;
               room = record { bytes-long = b ∙ h .room .bytes-long; starts-long = c ∙ h .room .starts-long; links-long = l ∙ h .room .links-long };
-              heads-room = omega (arith, m, h .firsts-room);
+              firsts-room = omega (arith, m, h .firsts-room);
             }
 
--- heads cleared up to i
+-- firsts cleared up to i
 pub record Clearing (before now : List ℕ) (i : ℕ) : Type 0 where
   pub inside : i ≤ length before
   pub long : length now ≡ length before

@@ -4,7 +4,7 @@ use native.Mathlib.Nat.{zero-add}
 use native.Mathlib.Omega.{arith}
 use mathlib.Core.Path.{_≡_, refl, sym, ap, ap₂, _∙_, subst}
 use mathlib.Core.List.{List, [], _∷_, _++_, map, append-assoc, append-nil}
-use mathlib.Core.Bool.{Bool, true, false, cond, _||_}
+use mathlib.Core.Bool.{Bool, true, false, not, cond, _||_}
 use lib.Dec.{T, eqb, eqb→eq}
 use lib.ListN.{length, getD, drop, set, length-set, length-append, length-map}
 use borrow.Author.Tests.{ne-eqb}
@@ -23,8 +23,9 @@ use Rattle.stores.proofs.Marks.{set-below, set-marks}
 use Rattle.lines.specs.declared.scan.Item.{Item}
 use Rattle.lines.specs.declared.scan.Item.the-variants.{At, Stop}
 use Rattle.lines.specs.Items.{items}
-use Rattle.lines.specs.Faults.{twice, undeclared, numberOf}
+use Rattle.lines.specs.Faults.{twice, numberOf}
 use Rattle.lines.specs.Shapes.{itemOf}
+use Rattle.numbering.specs.Entries.{among}
 use Rattle.numbering.specs.Numbers.{Numbered}
 use Rattle.lines.proofs.Scanning.{items-end, item-fits, item, later, item-is}
 
@@ -33,68 +34,68 @@ same-sym x y = bool-ext (sameBytes x y) (sameBytes y x) (λ h. same-law y x .1 (
 
 -- x is the name of atom j
 pub record Named (names : List (List ℕ)) (x : List ℕ) (j : ℕ) : Type 0 where
-  pub declared : some (sameBytes x) names ≡ true
+  pub declared : among names x ≡ true
   pub number : numberOf names x ≡ j
   pub below : j < length names
 
-named-from : (i : ℕ) (x : List ℕ) (names : List (List ℕ)) {j : ℕ} → foundFrom i x names ≡ Found.At j → (some (sameBytes x) names ≡ true) × (i + numberOf names x ≡ j) × (numberOf names x < length names)
+named-from : (i : ℕ) (x : List ℕ) (names : List (List ℕ)) {j : ℕ} → foundFrom i x names ≡ Found.At j → (among names x ≡ true) × (i + numberOf names x ≡ j) × (numberOf names x < length names)
 unfolding foundFrom numberOf
 named-from i x [] e = absurd (let z : _≡_ {A = ℕ} 0 1 = cc in omega arith)
 named-from i x (y ∷ ys) {j} e = go (sameBytes y x) (same-sym x y) e (λ (k : foundFrom (suc i) x ys ≡ Found.At j). named-from (suc i) x ys k)
   where
     go : (b : Bool) → sameBytes x y ≡ b → cond b (Found.At i) (foundFrom (suc i) x ys) ≡ Found.At j
-        → (foundFrom (suc i) x ys ≡ Found.At j → (some (sameBytes x) ys ≡ true) × (suc i + numberOf ys x ≡ j) × (numberOf ys x < length ys))
-        → ((sameBytes x y || some (sameBytes x) ys) ≡ true) × (i + cond (sameBytes x y) 0 (suc (numberOf ys x)) ≡ j) × (cond (sameBytes x y) 0 (suc (numberOf ys x)) < suc (length ys))
+        → (foundFrom (suc i) x ys ≡ Found.At j → (among ys x ≡ true) × (suc i + numberOf ys x ≡ j) × (numberOf ys x < length ys))
+        → ((sameBytes x y || among ys x) ≡ true) × (i + cond (sameBytes x y) 0 (suc (numberOf ys x)) ≡ j) × (cond (sameBytes x y) 0 (suc (numberOf ys x)) < suc (length ys))
     go true t e r = let s : i ≡ j = cc in rw t (refl, omega arith, omega arith)
     go false t e r = let k = r e in rw t (k .0, omega (arith, k .1), omega (arith, k .2))
 
 pub named : (x : List ℕ) (names : List (List ℕ)) {r : Found} {j : ℕ} → r ≡ found x names → r ≡ Found.At j → Named names x j
 named x names e d = let k = named-from 0 x names (sym e ∙ d) in record { declared = k .0; number = sym (zero-add (numberOf names x)) ∙ k .1; below = omega (arith, k .1, k .2) }
 
-unnamed-from : (i : ℕ) (x : List ℕ) (names : List (List ℕ)) → foundFrom i x names ≡ Found.Missing → some (sameBytes x) names ≡ false
+unnamed-from : (i : ℕ) (x : List ℕ) (names : List (List ℕ)) → foundFrom i x names ≡ Found.Missing → among names x ≡ false
 unfolding foundFrom
 unnamed-from i x [] e = refl
 unnamed-from i x (y ∷ ys) e = go (sameBytes y x) (same-sym x y) e (unnamed-from (suc i) x ys)
   where
-    go : (b : Bool) → sameBytes x y ≡ b → cond b (Found.At i) (foundFrom (suc i) x ys) ≡ Found.Missing → (foundFrom (suc i) x ys ≡ Found.Missing → some (sameBytes x) ys ≡ false) → (sameBytes x y || some (sameBytes x) ys) ≡ false
+    go : (b : Bool) → sameBytes x y ≡ b → cond b (Found.At i) (foundFrom (suc i) x ys) ≡ Found.Missing → (foundFrom (suc i) x ys ≡ Found.Missing → among ys x ≡ false) → (sameBytes x y || among ys x) ≡ false
     go true t e r = absurd (let z : _≡_ {A = ℕ} 0 1 = cc in omega arith)
     go false t e r = rw t (r e)
 
-pub unnamed : (x : List ℕ) (names : List (List ℕ)) {r : Found} → r ≡ found x names → r ≡ Found.Missing → some (sameBytes x) names ≡ false
+pub unnamed : (x : List ℕ) (names : List (List ℕ)) {r : Found} → r ≡ found x names → r ≡ Found.Missing → among names x ≡ false
 unnamed x names e d = unnamed-from 0 x names (sym e ∙ d)
 
 -- declared names are equal exactly when their numbers are
 
-name-of : (names : List (List ℕ)) (x : List ℕ) → some (sameBytes x) names ≡ true → getD names (numberOf names x) [] ≡ x
+name-of : (names : List (List ℕ)) (x : List ℕ) → among names x ≡ true → getD names (numberOf names x) [] ≡ x
 unfolding numberOf
 name-of [] x e = absurd (let z : _≡_ {A = ℕ} 0 1 = cc in omega arith)
 name-of (y ∷ ys) x e = go (sameBytes x y) refl e (name-of ys x)
   where
-    go : (b : Bool) → sameBytes x y ≡ b → (b || some (sameBytes x) ys) ≡ true → (some (sameBytes x) ys ≡ true → getD ys (numberOf ys x) [] ≡ x) → getD (y ∷ ys) (cond b 0 (suc (numberOf ys x))) [] ≡ x
+    go : (b : Bool) → sameBytes x y ≡ b → (b || among ys x) ≡ true → (among ys x ≡ true → getD ys (numberOf ys x) [] ≡ x) → getD (y ∷ ys) (cond b 0 (suc (numberOf ys x))) [] ≡ x
     go true t e r = sym (same-law x y .0 (subst T (sym t) tt))
     go false t e r = r e
 
-same-number : (names : List (List ℕ)) (x y : List ℕ) → some (sameBytes x) names ≡ true → some (sameBytes y) names ≡ true → sameBytes x y ≡ eqb (numberOf names x) (numberOf names y)
+same-number : (names : List (List ℕ)) (x y : List ℕ) → among names x ≡ true → among names y ≡ true → sameBytes x y ≡ eqb (numberOf names x) (numberOf names y)
 same-number names x y p q =
     bool-ext (sameBytes x y) (eqb (numberOf names x) (numberOf names y))
     (λ h. eq→eqb (numberOf names x) (numberOf names y) (ap (numberOf names) (same-law x y .0 h)))
     (λ h. same-law x y .1 (sym (name-of names x p) ∙ ap (λ (k : ℕ). getD names k []) (eqb→eq (numberOf names x) (numberOf names y) h) ∙ name-of names y q))
 
 abbrev Declared : List (List ℕ) → List (List ℕ) → Type 0
-Declared names xs = All (λ y. some (sameBytes y) names ≡ true) xs
+Declared names xs = All (λ y. among names y ≡ true) xs
 
 -- x stood before exactly when its number did
-stood : (names : List (List ℕ)) (x : List ℕ) → some (sameBytes x) names ≡ true → (seen : List (List ℕ)) → Declared names seen → some (sameBytes x) seen ≡ some (λ y. eqb (numberOf names x) (numberOf names y)) seen
+stood : (names : List (List ℕ)) (x : List ℕ) → among names x ≡ true → (seen : List (List ℕ)) → Declared names seen → among seen x ≡ some (λ y. eqb (numberOf names x) (numberOf names y)) seen
 stood names x p [] d = refl
 stood names x p (y ∷ seen) d = ap₂ _||_ (same-number names x y p (d .0)) (stood names x p seen (d .1))
 
-all-declared : (names seen : List (List ℕ)) → Declared names seen → some (undeclared names) seen ≡ false
+all-declared : (names seen : List (List ℕ)) → Declared names seen → some (λ x. not (among names x)) seen ≡ false
 all-declared names [] d = refl
 all-declared names (x ∷ seen) d = rw (d .0) (all-declared names seen (d .1))
 
-one-undeclared : (names seen : List (List ℕ)) (x : List ℕ) (xs : List (List ℕ)) → some (sameBytes x) names ≡ false → some (undeclared names) (seen ++ (x ∷ xs)) ≡ true
+one-undeclared : (names seen : List (List ℕ)) (x : List ℕ) (xs : List (List ℕ)) → among names x ≡ false → some (λ x. not (among names x)) (seen ++ (x ∷ xs)) ≡ true
 one-undeclared names [] x xs e = rw e
-one-undeclared names (y ∷ seen) x xs e = rw (one-undeclared names seen x xs e) (or-true (undeclared names y))
+one-undeclared names (y ∷ seen) x xs e = rw (one-undeclared names seen x xs e) (or-true (not (among names y)))
 
 -- one more at the end
 
@@ -148,7 +149,7 @@ module _ {names : List (List ℕ)} {s : List ℕ} {from stamp : ℕ} {before : L
       let out : items (drop i s) ≡ [] = items-end s i e d in
       let whole : h .seen ≡ items (drop from s) = sym (append-nil (h .seen)) ∙ ap (λ l. h .seen ++ l) (sym out) ∙ h .all in
       record {
-        declared = ap (some (undeclared names)) (sym whole) ∙ all-declared names (h .seen) (h .known);
+        declared = ap (some (λ x. not (among names x))) (sym whole) ∙ all-declared names (h .seen) (h .known);
         is-twice = sym (or-false flag) ∙ ap (λ l. flag || twice (h .seen) l) (sym out) ∙ h .is-twice;
         written = renamed (h .written) (ap (map (numberOf names)) whole);
         below = h .below;
@@ -168,8 +169,8 @@ module _ {names : List (List ℕ)} {s : List ℕ} {from stamp : ℕ} {before : L
     split = ap (λ l. h .seen ++ l) (sym (item-is s i e d)) ∙ h .all
 
     module _ {q : Found} (f : q ≡ found x names) where
-      pub not-declared : q ≡ Found.Missing → some (undeclared names) (items (drop from s)) ≡ true
-      not-declared g = sym (ap (some (undeclared names)) split) ∙ one-undeclared names (h .seen) x xs (unnamed x names f g)
+      pub not-declared : q ≡ Found.Missing → some (λ x. not (among names x)) (items (drop from s)) ≡ true
+      not-declared g = sym (ap (some (λ x. not (among names x))) split) ∙ one-undeclared names (h .seen) x xs (unnamed x names f g)
 
       module _ {j : ℕ} (g : q ≡ Found.At j) where
         pub known-name : Named names x j
@@ -197,7 +198,7 @@ module _ {names : List (List ℕ)} {s : List ℕ} {from stamp : ℕ} {before : L
                 inside = number-inside;
                 range = h .range;
                 few = omega (arith, length-append (h .seen) (x ∷ []), h .few);
-                known = all-app (λ y. some (sameBytes y) names ≡ true) (h .seen) (x ∷ []) (h .known) (known-name .declared, tt);
+                known = all-app (λ y. among names y ≡ true) (h .seen) (x ∷ []) (h .known) (known-name .declared, tt);
                 all = append-assoc (h .seen) (x ∷ []) xs ∙ split;
                 is-twice =
                     ap (λ b. b || twice (h .seen ++ (x ∷ [])) xs) (k ∙ ap (λ b. flag || b) (sym before?))

@@ -3,27 +3,28 @@ use Prim.Native.Nat.{ℕ, _+_, _≤_}
 use native.Mathlib.Omega.{arith}
 use mathlib.Core.Path.{_≡_, _∙_, subst}
 use mathlib.Core.List.{List}
-use mathlib.Core.Bool.{Bool, true, _||_}
+use mathlib.Core.Bool.{Bool, true, not, _||_}
 use lib.ListN.{length, drop, length-map}
 use Rattle.rules.specs.Lists.{some}
 use Rattle.rules.proofs.Booleans.{or-true}
 use Rattle.output.proofs.Emitting.{then}
 use Rattle.lines.specs.Items.{items}
-use Rattle.lines.specs.Faults.{undeclared, numberOf, anyOf}
+use Rattle.lines.specs.Faults.{numberOf, anyOf}
 use Rattle.numbering.specs.declared.numbers.Numbers.{Numbers}
 use Rattle.numbering.specs.declared.numbers.Numbers.the-variants as Answer
+use Rattle.numbering.specs.Entries.{among}
 use Rattle.numbering.specs.Numbers.{Numbered, NumbersSay, NumbersIs, RuleNumbered}
 use Rattle.lines.proofs.Scanning.{items-few}
 
 module _ (names hs bs ns : List (List ℕ)) where
-  pub undeclared-head : some (undeclared names) hs ≡ true → anyOf (some (undeclared names)) hs bs ns ≡ true
+  pub undeclared-head : some (λ x. not (among names x)) hs ≡ true → anyOf (some (λ x. not (among names x))) hs bs ns ≡ true
   undeclared-head e = rw e
 
-  pub undeclared-body : some (undeclared names) bs ≡ true → anyOf (some (undeclared names)) hs bs ns ≡ true
-  undeclared-body e = rw e (or-true (some (undeclared names) hs))
+  pub undeclared-body : some (λ x. not (among names x)) bs ≡ true → anyOf (some (λ x. not (among names x))) hs bs ns ≡ true
+  undeclared-body e = rw e (or-true (some (λ x. not (among names x)) hs))
 
-  pub undeclared-not : some (undeclared names) ns ≡ true → anyOf (some (undeclared names)) hs bs ns ≡ true
-  undeclared-not e = rw e (rw (or-true (some (undeclared names) bs)) (or-true (some (undeclared names) hs)))
+  pub undeclared-not : some (λ x. not (among names x)) ns ≡ true → anyOf (some (λ x. not (among names x))) hs bs ns ≡ true
+  undeclared-not e = rw e (rw (or-true (some (λ x. not (among names x)) bs)) (or-true (some (λ x. not (among names x)) hs)))
 
 module _ {names hs bs ns : List (List ℕ)} {stamp at : ℕ} {d d₁ d₂ d₃ m₁ m₂ m₃ : List ℕ} {he be ne : ℕ} {ht bt nt : Bool}
     (h : Numbered names hs stamp d at m₁ d₁ he ht) (b : Numbered names bs (stamp + 1) d₁ he m₂ d₂ be bt) (n : Numbered names ns (stamp + 2) d₂ be m₃ d₃ ne nt) where
@@ -41,7 +42,7 @@ module _ {names xs : List (List ℕ)} {stamp : ℕ} {before : List ℕ} {at : �
   pub numbered : {end : ℕ} {twice : Bool} → r ≡ Answer.List end twice → Numbered names xs stamp before at marks after end twice
   numbered e = subst (NumbersSay names xs stamp before at marks after) e (h .says)
 
-  pub unknown : r ≡ Answer.Undeclared → some (undeclared names) xs ≡ true
+  pub unknown : r ≡ Answer.Undeclared → some (λ x. not (among names x)) xs ≡ true
   unknown e = subst (NumbersSay names xs stamp before at marks after) e (h .says)
 
 -- the place after a list is a number that the code can hold

@@ -13,6 +13,10 @@ use Rattle.lines.specs.Items.{items}
 use Rattle.lines.specs.Faults.{twice}
 use Rattle.numbering.specs.Scratch.{scratchBytes, scratchAtoms}
 
+-- the name is among the names
+abbrev pub among : List (List ℕ) → List ℕ → Bool
+among names x = some (sameBytes x) names
+
 -- there is room for one name more
 pub record EntryRoom (names : List (List ℕ)) (x bytes starts links : List ℕ) (atom at : ℕ) : Type 0 where
   pub count : atom ≡ length names
@@ -25,12 +29,12 @@ pub record EntryRoom (names : List (List ℕ)) (x bytes starts links : List ℕ)
   pub links-room : atom < length links
 
 abbrev pub EntrySays : List (List ℕ) → List ℕ → List ℕ → List ℕ → List ℕ → List ℕ → Bool → Type 0
-EntrySays names x bytes starts heads links true = (some (sameBytes x) names ≡ false) × Indexed (names ++ (x ∷ [])) bytes starts heads links
-EntrySays names x bytes starts heads links false = some (sameBytes x) names ≡ true
+EntrySays names x bytes starts firsts links true = (among names x ≡ false) × Indexed (names ++ (x ∷ [])) bytes starts firsts links
+EntrySays names x bytes starts firsts links false = among names x ≡ true
 
 -- a new name is entered, or the name is not new
-pub record EntryIs (names : List (List ℕ)) (x bytes starts heads links : List ℕ) (r : Bool) : Type 0 where
-  pub says : EntrySays names x bytes starts heads links r
+pub record EntryIs (names : List (List ℕ)) (x bytes starts firsts links : List ℕ) (r : Bool) : Type 0 where
+  pub says : EntrySays names x bytes starts firsts links r
 
 -- the lengths of the scratch store and its index
 pub record Room (bytes starts links : List ℕ) : Type 0 where
@@ -39,8 +43,8 @@ pub record Room (bytes starts links : List ℕ) : Type 0 where
   pub links-long : length links ≡ scratchAtoms
 
 -- the store has so many names, and the bytes end there
-pub record Stored (names : List (List ℕ)) (bytes starts heads links : List ℕ) (atoms used : ℕ) : Type 0 where
-  pub index : Indexed names bytes starts heads links
+pub record Stored (names : List (List ℕ)) (bytes starts firsts links : List ℕ) (atoms used : ℕ) : Type 0 where
+  pub index : Indexed names bytes starts firsts links
   pub count : atoms ≡ length names
   pub ends : used ≡ length (encodeNames names)
   pub short : used ≤ 19 * atoms
@@ -51,29 +55,25 @@ abbrev pub Short : List (List ℕ) → Type 0
 Short xs = All (λ x. length x ≤ 18) xs
 
 -- every name of the list is entered
-pub record AllEntered (names xs : List (List ℕ)) (bytes starts heads links : List ℕ) (atoms used : ℕ) : Type 0 where
+pub record AllEntered (names xs : List (List ℕ)) (bytes starts firsts links : List ℕ) (atoms used : ℕ) : Type 0 where
   pub once : twice names xs ≡ false
-  pub stored : Stored (names ++ xs) bytes starts heads links atoms used
+  pub stored : Stored (names ++ xs) bytes starts firsts links atoms used
 
 -- those before the place are entered, and there is no room for the next
-pub record SomeEntered (names : List (List ℕ)) (s : List ℕ) (from : ℕ) (bytes starts heads links : List ℕ) (at : ℕ) : Type 0 where
+pub record SomeEntered (names : List (List ℕ)) (s : List ℕ) (from : ℕ) (bytes starts firsts links : List ℕ) (at : ℕ) : Type 0 where
   pub passed : List (List ℕ)
   pub inside : at ≤ length s
   pub all : passed ++ items (drop at s) ≡ items (drop from s)
   pub once : twice names passed ≡ false
-  pub index : Indexed (names ++ passed) bytes starts heads links
+  pub index : Indexed (names ++ passed) bytes starts firsts links
   pub full : length (names ++ passed) ≡ scratchAtoms
   pub more : 1 ≤ length (items (drop at s))
   pub onward : from + length passed ≤ at
 
 abbrev pub EnteredSays : List (List ℕ) → List ℕ → ℕ → List ℕ → List ℕ → List ℕ → List ℕ → Entered → Type 0
-EnteredSays names s from bytes starts heads links (Answer.All atoms used) = AllEntered names (items (drop from s)) bytes starts heads links atoms used
-EnteredSays names s from bytes starts heads links (Answer.Full at) = SomeEntered names s from bytes starts heads links at
-EnteredSays names s from bytes starts heads links Answer.Twice = twice names (items (drop from s)) ≡ true
+EnteredSays names s from bytes starts firsts links (Answer.All atoms used) = AllEntered names (items (drop from s)) bytes starts firsts links atoms used
+EnteredSays names s from bytes starts firsts links (Answer.Full at) = SomeEntered names s from bytes starts firsts links at
+EnteredSays names s from bytes starts firsts links Answer.Twice = twice names (items (drop from s)) ≡ true
 
-pub record EnteredIs (names : List (List ℕ)) (s : List ℕ) (from : ℕ) (bytes starts heads links : List ℕ) (r : Entered) : Type 0 where
-  pub says : EnteredSays names s from bytes starts heads links r
-
--- the name is among the names
-abbrev pub among : List (List ℕ) → List ℕ → Bool
-among names x = some (sameBytes x) names
+pub record EnteredIs (names : List (List ℕ)) (s : List ℕ) (from : ℕ) (bytes starts firsts links : List ℕ) (r : Entered) : Type 0 where
+  pub says : EnteredSays names s from bytes starts firsts links r

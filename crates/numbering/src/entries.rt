@@ -38,17 +38,17 @@ fn enter_name(
     name: &[u8],
     bytes: &mut [u8],
     starts: &mut [u16],
-    heads: &mut [u16],
+    firsts: &mut [u16],
     links: &mut [u16],
     atom: usize,
     at: usize,
 ) -> bool
-    requires { ⌜ Indexed (decodeNames atom (now bytes)) (now bytes) (now starts) (now heads) (now links) ⌝ }
+    requires { ⌜ Indexed (decodeNames atom (now bytes)) (now bytes) (now starts) (now firsts) (now links) ⌝ }
     requires { ⌜ EntryRoom (decodeNames atom (now bytes)) (now name) (now bytes) (now starts) (now links) atom at ⌝ }
-    ensures { λ r. ⌜ EntryIs (decodeNames atom (now (bytes .entry))) (now (name .entry)) (now (bytes .exit)) (now (starts .exit)) (now (heads .exit)) (now (links .exit)) r ⌝ }
+    ensures { λ r. ⌜ EntryIs (decodeNames atom (now (bytes .entry))) (now (name .entry)) (now (bytes .exit)) (now (starts .exit)) (now (firsts .exit)) (now (links .exit)) r ⌝ }
 {
     put_name(name, bytes, at);
-    index::enter_new(bytes, name, starts, heads, links, atom, at)
+    index::enter_new(bytes, name, starts, firsts, links, atom, at)
 }
 
 // Enters the names from `from` on behind `count` others, whose bytes end at `used`.
@@ -57,15 +57,15 @@ pub fn enter_names(
     from: usize,
     bytes: &mut [u8],
     starts: &mut [u16],
-    heads: &mut [u16],
+    firsts: &mut [u16],
     links: &mut [u16],
     count: usize,
     used: usize,
 ) -> Entered
     requires { ⌜ (from ≤ length (now line)) × Short (items (drop from (now line))) ⌝ }
     requires { ⌜ Room (now bytes) (now starts) (now links) ⌝ }
-    requires { ⌜ Stored (decodeNames count (now bytes)) (now bytes) (now starts) (now heads) (now links) count used ⌝ }
-    ensures { λ r. ⌜ EnteredIs (decodeNames count (now (bytes .entry))) (now (line .entry)) from (now (bytes .exit)) (now (starts .exit)) (now (heads .exit)) (now (links .exit)) r ⌝ }
+    requires { ⌜ Stored (decodeNames count (now bytes)) (now bytes) (now starts) (now firsts) (now links) count used ⌝ }
+    ensures { λ r. ⌜ EnteredIs (decodeNames count (now (bytes .entry))) (now (line .entry)) from (now (bytes .exit)) (now (starts .exit)) (now (firsts .exit)) (now (links .exit)) r ⌝ }
 {
     let mut i = from;
     let mut atom = count;
@@ -82,7 +82,7 @@ pub fn enter_names(
         }
         let start = i + 1;
         let to = start + n;
-        if enter_name(&line[start..to], bytes, starts, heads, links, atom, at) {
+        if enter_name(&line[start..to], bytes, starts, firsts, links, atom, at) {
             i = to;
             atom += 1;
             at += 1 + n;
@@ -98,11 +98,11 @@ pub fn any_known(
     from: usize,
     bytes: &[u8],
     starts: &[u16],
-    heads: &[u16],
+    firsts: &[u16],
     links: &[u16],
 ) -> bool
     requires { ⌜ from ≤ length (now line) ⌝ }
-    requires { ⌜ Indexed (decodeNames (length (now starts)) (now bytes)) (now bytes) (now starts) (now heads) (now links) ⌝ }
+    requires { ⌜ Indexed (decodeNames (length (now starts)) (now bytes)) (now bytes) (now starts) (now firsts) (now links) ⌝ }
     ensures { λ r. ⌜ r ≡ some (among (decodeNames (length (now (starts .entry))) (now (bytes .entry)))) (items (drop from (now (line .entry)))) ⌝ }
 {
     let mut i = from;
@@ -112,19 +112,19 @@ pub fn any_known(
         };
         let start = i + 1;
         let to = start + n;
-        let Found::Missing = index::find(bytes, starts, heads, links, &line[start..to]) else {
+        let Found::Missing = index::find(bytes, starts, firsts, links, &line[start..to]) else {
             return true;
         };
         i = to;
     }
 }
 
-fn clear(heads: &mut [u16])
-    ensures { λ r. ⌜ now (heads .exit) ≡ replicate (length (now (heads .entry))) 0 ⌝ }
+fn clear(firsts: &mut [u16])
+    ensures { λ r. ⌜ now (firsts .exit) ≡ replicate (length (now (firsts .entry))) 0 ⌝ }
 {
     let mut i: usize = 0;
-    while i < heads.len() {
-        heads[i] = 0;
+    while i < firsts.len() {
+        firsts[i] = 0;
         i += 1;
     }
 }
@@ -135,21 +135,21 @@ pub fn any_twice(
     from: usize,
     bytes: &mut [u8],
     starts: &mut [u16],
-    heads: &mut [u16],
+    firsts: &mut [u16],
     links: &mut [u16],
 ) -> bool
     requires { ⌜ (from ≤ length (now line)) × Short (items (drop from (now line))) ⌝ }
-    requires { ⌜ Room (now bytes) (now starts) (now links) × (buckets ≤ length (now heads)) ⌝ }
+    requires { ⌜ Room (now bytes) (now starts) (now links) × (buckets ≤ length (now firsts)) ⌝ }
     ensures { λ r. ⌜ r ≡ twice [] (items (drop from (now (line .entry)))) ⌝ }
 {
     let mut at = from;
     loop {
-        clear(heads);
-        match enter_names(line, at, bytes, starts, heads, links, 0, 0) {
+        clear(firsts);
+        match enter_names(line, at, bytes, starts, firsts, links, 0, 0) {
             Entered::All { atoms: _, bytes: _ } => return false,
             Entered::Twice => return true,
             Entered::Full { at: rest } => {
-                if any_known(line, rest, bytes, starts, heads, links) {
+                if any_known(line, rest, bytes, starts, firsts, links) {
                     return true;
                 }
                 at = rest;

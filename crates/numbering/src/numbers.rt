@@ -1,6 +1,7 @@
 // The names of a rule's lists to atom numbers.
 use crate::hashed_items::HashedItem;
 use crate::hashed_items::hashed_item_at;
+use lines::forms::RuleLists;
 use lines::forms::any;
 use name_store::index;
 use name_store::index::Found;
@@ -37,15 +38,15 @@ pub fn numbers_at(
     from: usize,
     bytes: &[u8],
     starts: &[u16],
-    heads: &[u16],
-    next: &[u16],
+    firsts: &[u16],
+    links: &[u16],
     marks: &mut [u16],
     stamp: u16,
     out: &mut [u16],
     at: usize,
 ) -> Numbers
     requires { ⌜ (from ≤ length (now line)) × (length (now starts) ≤ 65535) × (length (now starts) ≤ length (now marks)) × (at + length (now line) < 2 ^ 63) ⌝ }
-    requires { ⌜ Indexed (decodeNames (length (now starts)) (now bytes)) (now bytes) (now starts) (now heads) (now next) ⌝ }
+    requires { ⌜ Indexed (decodeNames (length (now starts)) (now bytes)) (now bytes) (now starts) (now firsts) (now links) ⌝ }
     requires { ⌜ Below stamp (now marks) ⌝ }
     ensures { λ r. ⌜ NumbersIs (decodeNames (length (now (starts .entry))) (now (bytes .entry))) (items (drop from (now (line .entry)))) stamp (now (out .entry)) at (now (marks .exit)) (now (out .exit)) r ⌝ }
 {
@@ -58,8 +59,14 @@ pub fn numbers_at(
         };
         let start = i + 1;
         let to = start + size;
-        let Found::At(atom) = index::find_hashed(bytes, starts, heads, next, &line[start..to], hash)
-        else {
+        let Found::At(atom) = index::find_hashed(
+            bytes,
+            starts,
+            firsts,
+            links,
+            &line[start..to],
+            hash,
+        ) else {
             return Numbers::Undeclared;
         };
         if mark(marks, atom, stamp) {
@@ -73,33 +80,31 @@ pub fn numbers_at(
 // Writes the numbers of a rule's three lists, each list with a stamp of its own.
 pub fn rule_numbers(
     line: &[u8],
-    head: usize,
-    body: usize,
-    not: usize,
+    lists: RuleLists,
     bytes: &[u8],
     starts: &[u16],
-    heads: &[u16],
-    next: &[u16],
+    firsts: &[u16],
+    links: &[u16],
     marks: &mut [u16],
     stamp: u16,
     out: &mut [u16],
     at: usize,
 ) -> Numbers
-    requires { ⌜ (head ≤ length (now line)) × (body ≤ length (now line)) × (not ≤ length (now line)) × (length (now starts) ≤ 65535) × (length (now starts) ≤ length (now marks)) × (at + 3 * length (now line) < 2 ^ 63) × (stamp + 2 < 65536) ⌝ }
-    requires { ⌜ Indexed (decodeNames (length (now starts)) (now bytes)) (now bytes) (now starts) (now heads) (now next) ⌝ }
+    requires { ⌜ (lists .head ≤ length (now line)) × (lists .body ≤ length (now line)) × (lists .not ≤ length (now line)) × (length (now starts) ≤ 65535) × (length (now starts) ≤ length (now marks)) × (at + 3 * length (now line) < 2 ^ 63) × (stamp + 2 < 65536) ⌝ }
+    requires { ⌜ Indexed (decodeNames (length (now starts)) (now bytes)) (now bytes) (now starts) (now firsts) (now links) ⌝ }
     requires { ⌜ Below stamp (now marks) ⌝ }
-    ensures { λ r. ⌜ RuleNumbersIs (decodeNames (length (now (starts .entry))) (now (bytes .entry))) (items (drop head (now (line .entry)))) (items (drop body (now (line .entry)))) (items (drop not (now (line .entry)))) stamp (now (out .entry)) at (now (marks .exit)) (now (out .exit)) r ⌝ }
+    ensures { λ r. ⌜ RuleNumbersIs (decodeNames (length (now (starts .entry))) (now (bytes .entry))) (items (drop (lists .head) (now (line .entry)))) (items (drop (lists .body) (now (line .entry)))) (items (drop (lists .not) (now (line .entry)))) stamp (now (out .entry)) at (now (marks .exit)) (now (out .exit)) r ⌝ }
 {
     let Numbers::List {
         end: head_end,
         twice: in_head,
     } = numbers_at(
         line,
-        head,
+        lists.head,
         bytes,
         starts,
-        heads,
-        next,
+        firsts,
+        links,
         marks,
         stamp,
         out,
@@ -113,11 +118,11 @@ pub fn rule_numbers(
         twice: in_body,
     } = numbers_at(
         line,
-        body,
+        lists.body,
         bytes,
         starts,
-        heads,
-        next,
+        firsts,
+        links,
         marks,
         stamp + 1,
         out,
@@ -128,11 +133,11 @@ pub fn rule_numbers(
     };
     let Numbers::List { end, twice: in_not } = numbers_at(
         line,
-        not,
+        lists.not,
         bytes,
         starts,
-        heads,
-        next,
+        firsts,
+        links,
         marks,
         stamp + 2,
         out,

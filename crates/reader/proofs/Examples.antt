@@ -20,7 +20,7 @@ fileA = 40 ∷ 109 ∷ 105 ∷ 110 ∷ 32 ∷ 115 ∷ 101 ∷ 110 ∷ 115 ∷ 11
 stateA : State
 stateA = record { kind = Preference; stage = Ruling; classes = 2; words = 1 ∷ 2 ∷ 17 ∷ []; names = (115 ∷ 101 ∷ 110 ∷ 115 ∷ 111 ∷ 114 ∷ []) ∷ (108 ∷ 97 ∷ 109 ∷ 112 ∷ []) ∷ (100 ∷ 97 ∷ 114 ∷ 107 ∷ []) ∷ []; program-rules = rule (0 ∷ 1 ∷ []) [] [] ∷ rule (2 ∷ []) (1 ∷ []) [] ∷ [] }
 
-a-said : said fileA ≡ accepted stateA
+a-said : said fileA ≡ accepted (programOf stateA) (stateA .names)
 unfolding fileA stateA said start readLines lines linesFrom lineLength items itemsFrom run span cutNames cutList declaredForm ruleForm formOf twice numberOf declare addRule nameClass house? classNumber? allowed sameBytes
 a-said = refl
 

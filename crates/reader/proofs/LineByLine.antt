@@ -1,5 +1,5 @@
 -- The lines of a text by their places, and the walk over them.
-use Prim.Native.Nat.{ℕ, zero, suc, _+_, _-_, _≤_, _<_, zero-le}
+use Prim.Native.Nat.{ℕ, zero, suc, _+_, _*_, _-_, _≤_, _<_, zero-le}
 use native.Mathlib.Numerals.{add-one}
 use native.Mathlib.Omega.{arith}
 use mathlib.Core.Path.{_≡_, refl, sym, ap, ap₂, _∙_, subst}
@@ -15,16 +15,21 @@ use Rattle.rules.proofs.Lists.{part-sized}
 use Rattle.gathering.specs.declared.gathered.Gathered.{Gathered}
 use Rattle.gathering.specs.declared.gathered.Line.{Line}
 use Rattle.gathering.specs.declared.gathered.Line.the-variants.{Next, Fault}
+use Rattle.stores.specs.RuleStore.{Below}
+use Rattle.lines.specs.declared.forms.DeclaredShape.{DeclaredShape}
+use Rattle.lines.specs.Items.{items}
+use Rattle.lines.specs.Shapes.{wordOf, Declared}
 use Rattle.reader.specs.declared.reading.Gather.{Gather}
 use Rattle.reader.specs.declared.reading.Gather.the-variants.{Whole, Refused}
 use Rattle.lines.specs.Lines.{lineLength, linesFrom, lines}
-use Rattle.lines.specs.Forms.{formOf}
+use Rattle.lines.specs.Forms.{Form, formOf}
 use Rattle.lines.specs.Faults.{State, ruling?, stepForm}
-use Rattle.lines.specs.Said.{Said, accepted, refused, onStep, readLines, start}
-use Rattle.gathering.specs.Gathered.{stateOf, Held, LineSays, LineIs}
+use Rattle.lines.specs.Said.{Said, accepted, refused, onStep, readLines, start, programOf}
+use Rattle.gathering.specs.Gathered.{stateOf, Held, HeldIndex, HeldMarks, LineSays, LineIs, MarksSay, MarksAre}
 use Rattle.reader.specs.Gathering.{startCounts, passedOn, GatherSays, GatherIs}
 use Rattle.lines.proofs.LineBlocks.{line-le}
-use Rattle.gathering.proofs.HeldState.{held-is}
+use Rattle.gathering.proofs.HeldState.{rules-is, held-is}
+use Rattle.reader.proofs.LineSteps.{declare-said}
 
 lines-skip : (k : ℕ) (s : List ℕ) → linesFrom k s ≡ lines (drop k s)
 unfolding lines linesFrom
@@ -59,25 +64,42 @@ module _ (s : List ℕ) (at : ℕ) (l : at < length s) {n : ℕ} (e : n ≡ line
   pub line-short : length line ≤ length s
   line-short = omega (arith, ap length (part-sized at n (drop at s)) ∙ length-take-le n (drop at s) (omega (arith, line-inside .0, length-drop at s)), line-inside .0)
 
+-- a declaring line adds no rule
+module _ {kind : Kind} {st : State} {g : Gathered} {words bytes : List ℕ} (h : Held kind st g words bytes) {l : List ℕ} {f : Form} {s : DeclaredShape} (p : Declared kind l f s) where
+  pub declared-marks : {words′ bytes′ starts′ firsts′ links′ : List ℕ} {a : Line} → LineIs kind st f words′ bytes′ starts′ firsts′ links′ a → {marks : List ℕ} → HeldMarks g marks → MarksAre marks a
+  declared-marks {words′} {bytes′} {starts′} {firsts′} {links′} {a} w {marks} m = record { says = go a (w .says) }
+    where
+      go : (b : Line) → LineSays kind st f words′ bytes′ starts′ firsts′ links′ b → MarksSay marks b
+      go (Fault r) k = tt
+      go (Next g′) k =
+          let same = declare-said st (wordOf (s .word)) (items (drop (s .from) l)) (stateOf kind g′ words′ bytes′) (sym (ap (stepForm st) (p .form)) ∙ k .0) .1 in
+          let rules : g′ .counts .rules ≡ g .counts .rules = rules-is (k .1) ∙ ap (λ z. length (z .program-rules)) (sym same) ∙ sym (rules-is h) in
+          record { below = subst (λ n. Below (3 * n + 1) marks) (sym rules) (m .below); room = m .room }
+
 -- the lines before `at` are read
-pub record Reading (kind : Kind) (s : List ℕ) (g : Gathered) (words bytes starts heads links marks : List ℕ) (at number : ℕ) : Type 0 where
+pub record Reading (kind : Kind) (s : List ℕ) (g : Gathered) (words bytes starts firsts links marks : List ℕ) (at number : ℕ) : Type 0 where
   pub inside : at ≤ length s
   pub few : number ≤ at + 1
-  pub held : Held kind (stateOf kind g words bytes) g words bytes starts heads links marks
+  pub held : Held kind (stateOf kind g words bytes) g words bytes
+  pub index : HeldIndex g bytes starts firsts links
+  pub marked : HeldMarks g marks
   pub left : readLines number (stateOf kind g words bytes) (lines (drop at s)) ≡ readLines 1 (start s) (lines s)
 
-pub reading : {kind : Kind} {s : List ℕ} {g : Gathered} {words bytes starts heads links marks : List ℕ} → Held kind (start s) startCounts words bytes starts heads links marks → g ≡ startCounts → Reading kind s g words bytes starts heads links marks 0 1
-reading {kind} {s} {g} {words} {bytes} {starts} {heads} {links} {marks} h e =
+pub reading : {kind : Kind} {s : List ℕ} {g : Gathered} {words bytes starts firsts links marks : List ℕ}
+    → Held kind (start s) startCounts words bytes → HeldIndex startCounts bytes starts firsts links → HeldMarks startCounts marks → g ≡ startCounts → Reading kind s g words bytes starts firsts links marks 0 1
+reading {kind} {s} {g} {words} {bytes} {starts} {firsts} {links} {marks} h x m e =
     let is = held-is h in
-    subst (λ j. Reading kind s j words bytes starts heads links marks 0 1) (sym e)
+    subst (λ j. Reading kind s j words bytes starts firsts links marks 0 1) (sym e)
     (record {
       inside = zero-le;
       few = omega arith;
-      held = subst (λ st. Held kind st startCounts words bytes starts heads links marks) is h;
+      held = subst (λ st. Held kind st startCounts words bytes) is h;
+      index = x;
+      marked = m;
       left = ap (λ st. readLines 1 st (lines s)) (sym is);
     })
 
-module _ {kind : Kind} {s : List ℕ} {g : Gathered} {words bytes starts heads links marks : List ℕ} {at number : ℕ} (h : Reading kind s g words bytes starts heads links marks at number) where
+module _ {kind : Kind} {s : List ℕ} {g : Gathered} {words bytes starts firsts links marks : List ℕ} {at number : ℕ} (h : Reading kind s g words bytes starts firsts links marks at number) where
   abbrev st : State
   st = stateOf kind g words bytes
 
@@ -85,17 +107,17 @@ module _ {kind : Kind} {s : List ℕ} {g : Gathered} {words bytes starts heads l
   whole = readLines 1 (start s) (lines s)
 
   module _ (o : length s ≤ at) {r : Bool} (e : r ≡ ruling? (g .stage)) where
-    at-end : cond (ruling? (st .stage)) (accepted st) (refused BrokenForm number) ≡ whole
+    at-end : cond (ruling? (st .stage)) (accepted (programOf st) (st .names)) (refused BrokenForm number) ≡ whole
     unfolding readLines lines linesFrom
     at-end = ap (λ l. readLines number st (linesFrom 0 l)) (sym (drop-of-length-le s o)) ∙ h .left
 
     ruling-is : ruling? (st .stage) ≡ r
     ruling-is = sym (e ∙ ap ruling? (h .held .stage-is))
 
-    pub all-read : r ≡ true → GatherIs kind whole words bytes starts heads links marks (Whole g)
+    pub all-read : r ≡ true → GatherIs kind whole words bytes (Whole g)
     all-read d = record { says = (sym (rw (ruling-is, d) at at-end), h .held) }
 
-    pub line-missing : r ≡ false → GatherIs kind whole words bytes starts heads links marks (Refused BrokenForm number)
+    pub line-missing : r ≡ false → GatherIs kind whole words bytes (Refused BrokenForm number)
     line-missing d = record { says = sym (rw (ruling-is, d) at at-end) }
 
   module _ (l : at < length s) {n : ℕ} (e : n ≡ lineLength (drop at s)) where
@@ -103,22 +125,24 @@ module _ {kind : Kind} {s : List ℕ} {g : Gathered} {words bytes starts heads l
     unfolding readLines
     step = ap (readLines number st) (sym (lines-at s at l e)) ∙ h .left
 
-    module _ {words′ bytes′ starts′ heads′ links′ marks′ : List ℕ} {a : Line} (w : LineIs kind st (formOf (line s at l e)) words′ bytes′ starts′ heads′ links′ marks′ a) where
-      said : {b : Line} → a ≡ b → LineSays kind st (formOf (line s at l e)) words′ bytes′ starts′ heads′ links′ marks′ b
-      said d = subst (LineSays kind st (formOf (line s at l e)) words′ bytes′ starts′ heads′ links′ marks′) d (w .says)
+    module _ {words′ bytes′ starts′ firsts′ links′ marks′ : List ℕ} {a : Line} (w : LineIs kind st (formOf (line s at l e)) words′ bytes′ starts′ firsts′ links′ a) (m : MarksAre marks′ a) where
+      said : {b : Line} → a ≡ b → LineSays kind st (formOf (line s at l e)) words′ bytes′ starts′ firsts′ links′ b
+      said d = subst (LineSays kind st (formOf (line s at l e)) words′ bytes′ starts′ firsts′ links′) d (w .says)
 
       pub line-refused : {f : Refusal} → a ≡ Fault f → whole ≡ refused f number
       line-refused d = sym (rw (said d) at step)
 
-      pub line-read : {g′ : Gathered} → a ≡ Next g′ → Reading kind s g′ words′ bytes′ starts′ heads′ links′ marks′ (at + n) (number + 1)
+      pub line-read : {g′ : Gathered} → a ≡ Next g′ → Reading kind s g′ words′ bytes′ starts′ firsts′ links′ marks′ (at + n) (number + 1)
       line-read {g′} d =
           let k = said d in
           record {
             inside = line-inside s at l e .0;
             few = omega (arith, h .few, line-inside s at l e .1);
             held = k .1;
+            index = k .2;
+            marked = subst (MarksSay marks′) d (m .says);
             left = ap (λ m. readLines m (stateOf kind g′ words′ bytes′) (lines (drop (at + n) s))) (add-one number) ∙ (rw (k .0) at step);
           }
 
-      pub line-passed : {f : Refusal} → a ≡ Fault f → {q : Gather} → q ≡ passedOn a number → GatherIs kind whole words′ bytes′ starts′ heads′ links′ marks′ q
-      line-passed d k = record { says = subst (GatherSays kind whole words′ bytes′ starts′ heads′ links′ marks′) (sym (k ∙ ap (λ x. passedOn x number) d)) (line-refused d) }
+      pub line-passed : {f : Refusal} → a ≡ Fault f → {q : Gather} → q ≡ passedOn a number → GatherIs kind whole words′ bytes′ q
+      line-passed d k = record { says = subst (GatherSays kind whole words′ bytes′) (sym (k ∙ ap (λ x. passedOn x number) d)) (line-refused d) }

@@ -12,6 +12,7 @@ use Rattle.rules.specs.Lists.{All, Any, Distinct, some}
 use Rattle.rules.proofs.Booleans.{T-or, T-or-out, is-true}
 use Rattle.rules.proofs.Lists.{all-app, all-app-r, all-any, all-imp, some-any, all-at, distinct-map}
 use Rattle.name_store.specs.NameStore.{sameBytes}
+use Rattle.numbering.specs.Entries.{among}
 use Rattle.name_store.proofs.NameStores.{same-law}
 use Rattle.text.specs.Text.{named}
 use Rattle.lines.specs.Faults.{twice, numberOf}
@@ -20,7 +21,7 @@ use Rattle.lines.specs.Faults.{twice, numberOf}
 abbrev pub Declared : List (List ℕ) → List ℕ → Type 0
 Declared names x = Any (λ y. x ≡ y) names
 
-pub declared-law : (names : List (List ℕ)) (x : List ℕ) → T (some (sameBytes x) names) ↔ Declared names x
+pub declared-law : (names : List (List ℕ)) (x : List ℕ) → T (among names x) ↔ Declared names x
 declared-law names x = some-any (sameBytes x) (λ y. x ≡ y) (same-law x) names
 
 -- different entries
@@ -48,17 +49,17 @@ pub twice-free : (old xs : List (List ℕ)) → Distinct old → (T (twice old x
 unfolding twice
 twice-free old [] d h = subst Distinct (sym (append-nil old)) d
 twice-free old (x ∷ xs) d h =
-    let new : All (λ y. y ≢ x) old = all-imp (λ y. T (sameBytes x y) → ⊥) (λ y. y ≢ x) (λ y n e. n (same-law x y .1 (sym e))) old (some-none (sameBytes x) old .0 (λ t. h (T-or (some (sameBytes x) old) (twice (old ++ (x ∷ [])) xs) (inl t)))) in
+    let new : All (λ y. y ≢ x) old = all-imp (λ y. T (sameBytes x y) → ⊥) (λ y. y ≢ x) (λ y n e. n (same-law x y .1 (sym e))) old (some-none (sameBytes x) old .0 (λ t. h (T-or (among old x) (twice (old ++ (x ∷ [])) xs) (inl t)))) in
     subst Distinct (append-snoc old x xs)
-    (twice-free (old ++ (x ∷ [])) xs (distinct-snoc old x d new) (λ t. h (T-or (some (sameBytes x) old) (twice (old ++ (x ∷ [])) xs) (inr t))))
+    (twice-free (old ++ (x ∷ [])) xs (distinct-snoc old x d new) (λ t. h (T-or (among old x) (twice (old ++ (x ∷ [])) xs) (inr t))))
 
 pub free-twice : (old xs : List (List ℕ)) → Distinct (old ++ xs) → T (twice old xs) → ⊥
 unfolding twice
 free-twice old [] d t = t
 free-twice old (x ∷ xs) d t =
-    go (free-twice (old ++ (x ∷ [])) xs (subst Distinct (sym (append-snoc old x xs)) d)) (T-or-out (some (sameBytes x) old) (twice (old ++ (x ∷ [])) xs) t)
+    go (free-twice (old ++ (x ∷ [])) xs (subst Distinct (sym (append-snoc old x xs)) d)) (T-or-out (among old x) (twice (old ++ (x ∷ [])) xs) t)
   where
-    go : (T (twice (old ++ (x ∷ [])) xs) → ⊥) → T (some (sameBytes x) old) ⊎ T (twice (old ++ (x ∷ [])) xs) → ⊥
+    go : (T (twice (old ++ (x ∷ [])) xs) → ⊥) → T (among old x) ⊎ T (twice (old ++ (x ∷ [])) xs) → ⊥
     go r (inl s) = let a = all-any (λ y. y ≢ x) (λ y. x ≡ y) old (distinct-before old x xs d) (declared-law old x .0 s) in a .1 (sym (a .2))
     go r (inr s) = r s
 

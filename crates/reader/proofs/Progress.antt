@@ -16,7 +16,7 @@ use Rattle.rules.specs.Rules.{Rule, occurrences}
 use Rattle.rules.proofs.Lists.{all-app, all-imp, all-from, all-map, sum-app}
 use Rattle.names.specs.Names.{allowed}
 use Rattle.name_store.specs.NameStore.{NamesForm}
-use Rattle.stores.specs.Program.{Form, RoleForm, roleOf, ListForm, NotForm, RuleForm}
+use Rattle.stores.specs.Program.{Program, Form, RoleForm, roleOf, ListForm, NotForm, RuleForm}
 use Rattle.kinds.specs.Words.{atomsWord, minWord, varyWord, fixWord}
 use Rattle.text.specs.Text.{listLine, ruleLine, ruleText, declarations, textOf}
 use Rattle.lines.specs.declared.stage.Stage.{Stage}
@@ -132,9 +132,9 @@ module _ (k : ℕ) (words : List ℕ) (names : List (List ℕ)) (same : length w
   below-after h = all-app (λ w. w ≤ v) words (replicate (length xs) v) h (all-replicate (λ w. w ≤ v) (length xs) v (omega arith))
 
   module _ (stage after : Stage) (j : ℕ) (rs : List (Rule ℕ)) (none : rs ≡ []) (f : Form (programOf (state Preference stage k words names rs))) where
-    form-after : k ≤ j → j ≤ classLimit → length names + length xs ≤ atomLimit Preference → All (λ w. w ≤ v) words → RoleForm j (roleOf v) → Form (programOf (state Preference after j wordsAfter (names ++ xs) rs))
+    form-after : k ≤ j → j ≤ classLimit → length (names ++ xs) ≤ atomLimit Preference → All (λ w. w ≤ v) words → RoleForm j (roleOf v) → Form (programOf (state Preference after j wordsAfter (names ++ xs) rs))
     form-after more fits room low role = record {
-      atoms-fit = omega (arith, length-append names xs);
+      atoms-fit = room;
       rules-fit = f .rules-fit;
       occurrences-fit = f .occurrences-fit;
       classes-form = (
@@ -153,7 +153,7 @@ module _ {text : List ℕ} (k : ℕ) (words : List ℕ) (names : List (List ℕ)
       let none = s .stage-form .1 in
       record {
         form = record {
-          atoms-fit = let l = d .atoms-fit in omega (arith, length-append names xs);
+          atoms-fit = d .counts-fit .atoms;
           rules-fit = s .form .rules-fit;
           occurrences-fit = s .form .occurrences-fit;
           classes-form = (s .form .classes-form .0, append-nil words ∙ s .form .classes-form .1);
@@ -172,7 +172,7 @@ module _ {text : List ℕ} (k : ℕ) (words : List ℕ) (names : List (List ℕ)
       let same : length words ≡ length names = s .form .classes-form .1 in
       let low = all-imp (λ w. w ≤ k) (λ w. w ≤ suc k) (λ w l. omega arith) words (s .stage-form .0) in
       record {
-        form = form-after k words names same (suc k) xs Declaring Declaring (suc k) rs (s .stage-form .1) (s .form) (omega arith) (d .classes-fit) (d .atoms-fit) low (role-new k (d .classes-fit));
+        form = form-after k words names same (suc k) xs Declaring Declaring (suc k) rs (s .stage-form .1) (s .form) (omega arith) (d .classes-fit) (d .counts-fit .atoms) low (role-new k (d .classes-fit));
         names-form = names-more s d;
         stage-form = (below-after k words names same (suc k) xs low, s .stage-form .1);
         text-is =
@@ -189,7 +189,7 @@ module _ {text : List ℕ} (k : ℕ) (words : List ℕ) (names : List (List ℕ)
       let strict = all-imp (λ w. w ≤ k) (λ w. w < varying) (λ w l. omega arith) words (s .stage-form .0) in
       let low = all-imp (λ w. w ≤ k) (λ w. w ≤ varying) (λ w l. omega arith) words (s .stage-form .0) in
       record {
-        form = form-after k words names same varying xs Declaring Fixing k rs (s .stage-form .1) (s .form) (omega arith) few (d .atoms-fit) low tt;
+        form = form-after k words names same varying xs Declaring Fixing k rs (s .stage-form .1) (s .form) (omega arith) few (d .counts-fit .atoms) low tt;
         names-form = names-more s d;
         stage-form = (below-after k words names same varying xs low, s .stage-form .1);
         text-is = ap₂ _++_ (min-lines-kept k words names same varying xs (omega arith) ∙ s .text-is) (line-new k words names same varying xs varyWord strict);
@@ -206,7 +206,7 @@ module _ {text : List ℕ} (k : ℕ) (words : List ℕ) (names : List (List ℕ)
       let varied = listLine varyWord (classNames (words ++ replicate (length xs) fixed) (names ++ xs) varying) in
       let last = listLine fixWord (classNames (words ++ replicate (length xs) fixed) (names ++ xs) fixed) in
       record {
-        form = form-after k words names same fixed xs Fixing Ruling k rs (s .stage-form .1) (s .form) (omega arith) few (d .atoms-fit) low tt;
+        form = form-after k words names same fixed xs Fixing Ruling k rs (s .stage-form .1) (s .form) (omega arith) few (d .counts-fit .atoms) low tt;
         names-form = names-more s d;
         stage-form = tt;
         text-is =
@@ -266,8 +266,8 @@ module _ (kind : Kind) (k : ℕ) (words : List ℕ) (names : List (List ℕ)) (r
       record {
         form = record {
           atoms-fit = s .form .atoms-fit;
-          rules-fit = let l = d .rules-fit in omega (arith, length-append rs (new ∷ []));
-          occurrences-fit = let l = d .occurrences-fit in omega (arith, sum-app occurrences rs (new ∷ []), length-map hs (numberOf names), length-map bs (numberOf names), length-map ns (numberOf names));
+          rules-fit = d .counts-fit .rules;
+          occurrences-fit = d .counts-fit .occurrences;
           classes-form = s .form .classes-form;
           rule-forms = all-app (RuleForm kind (length names)) rs (new ∷ []) (s .form .rule-forms) (
             record {
@@ -308,26 +308,38 @@ line-step st l {after} {text} s = go (formOf l) (form-line l)
     go (rules hs bs ns) h e = let d = rule-said st hs bs ns after e in subst₂ (λ a m. SoFar a (text ++ m)) (d .1) (sym (h .0)) (rule-step st hs bs ns s (d .0))
     go broken h e = absurd (let z : _≡_ {A = ℕ} 0 1 = cc in omega arith)
 
--- what all lines together say
-pub record AllSaid (st : State) (text : List ℕ) : Type 0 where
-  pub so-far : SoFar st text
-  pub ruling : T (ruling? (st .stage))
+-- what all lines together say: stores of the form, whose text they are
+pub record AllSaid (p : Program) (names : List (List ℕ)) (text : List ℕ) : Type 0 where
+  pub form : Form p
+  pub names-form : NamesForm (p .kind) (p .atoms) names
+  pub text-is : textOf p names ≡ text
 
-pub lines-said : (k : ℕ) (st : State) (ls : List (List ℕ)) (text : List ℕ) {end : State} → SoFar st text → readLines k st ls ≡ accepted end → AllSaid end (text ++ joined ls)
+all-said : {st : State} {text : List ℕ} → SoFar st text → T (ruling? (st .stage)) → AllSaid (programOf st) (st .names) text
+all-said {st} {text} s r = record { form = s .form; names-form = s .names-form; text-is = go (st .stage) r (s .text-is) }
+  where
+    go : (stage : Stage) → T (ruling? stage) → textAt stage (st .kind) st ≡ text → textOf (programOf st) (st .names) ≡ text
+    go Declaring h e = absurd h
+    go Fixing h e = absurd h
+    go Ruling h e = e
+
+pub lines-said : (k : ℕ) (st : State) (ls : List (List ℕ)) (text : List ℕ) {p : Program} {names : List (List ℕ)} → SoFar st text → readLines k st ls ≡ accepted p names → AllSaid p names (text ++ joined ls)
 unfolding readLines
-lines-said k st [] text {end} s e = go (ruling? (st .stage)) (λ t. t) e
+lines-said k st [] text {p} {names} s e = go (ruling? (st .stage)) (λ t. t) e
   where
-    go : (b : Bool) → (T b → T (ruling? (st .stage))) → cond b (accepted st) (refused BrokenForm k) ≡ accepted end → AllSaid end (text ++ [])
-    go true r i = let same : st ≡ end = cc in subst₂ AllSaid same (sym (append-nil text)) (record { so-far = s; ruling = r tt })
+    go : (b : Bool) → (T b → T (ruling? (st .stage))) → cond b (accepted (programOf st) (st .names)) (refused BrokenForm k) ≡ accepted p names → AllSaid p names (text ++ [])
+    go true r i =
+        let same : programOf st ≡ p = cc in
+        let called : st .names ≡ names = cc in
+        subst (λ q. AllSaid q names (text ++ [])) same (subst₂ (AllSaid (programOf st)) called (sym (append-nil text)) (all-said s (r tt)))
     go false r i = absurd (let z : _≡_ {A = ℕ} 0 1 = cc in omega arith)
-lines-said k st (l ∷ ls) text {end} s e = go (stepForm st (formOf l)) (λ after. line-step st l s) (λ after t. lines-said (suc k) after ls t) e
+lines-said k st (l ∷ ls) text {p} {names} s e = go (stepForm st (formOf l)) (λ after. line-step st l s) (λ after t. lines-said (suc k) after ls t) e
   where
-    go : (p : Step)
-        → ((after : State) → p ≡ next after → SoFar after (text ++ l))
-        → ((after : State) (t : List ℕ) → SoFar after t → readLines (suc k) after ls ≡ accepted end → AllSaid end (t ++ joined ls))
-        → onStep p k (λ after. readLines (suc k) after ls) ≡ accepted end
-        → AllSaid end (text ++ (l ++ joined ls))
-    go (next after) f rec i = subst (AllSaid end) (append-assoc text l (joined ls)) (rec after (text ++ l) (f after refl) i)
+    go : (q : Step)
+        → ((after : State) → q ≡ next after → SoFar after (text ++ l))
+        → ((after : State) (t : List ℕ) → SoFar after t → readLines (suc k) after ls ≡ accepted p names → AllSaid p names (t ++ joined ls))
+        → onStep q k (λ after. readLines (suc k) after ls) ≡ accepted p names
+        → AllSaid p names (text ++ (l ++ joined ls))
+    go (next after) f rec i = subst (AllSaid p names) (append-assoc text l (joined ls)) (rec after (text ++ l) (f after refl) i)
     go (fault r) f rec i = absurd (let z : _≡_ {A = ℕ} 0 1 = cc in omega arith)
 
 pub start-said : (text : List ℕ) → SoFar (start text) []
@@ -347,12 +359,3 @@ start-said text = go (begins (tagOf atoms) text)
       stage-form = (tt, refl);
       text-is = refl;
     }
-
--- the text of all lines is the writer's
-pub text-said : {st : State} {text : List ℕ} → AllSaid st text → textOf (programOf st) (st .names) ≡ text
-text-said {st} {text} s = go (st .stage) (s .ruling) (s .so-far .text-is)
-  where
-    go : (stage : Stage) → T (ruling? stage) → textAt stage (st .kind) st ≡ text → textOf (programOf st) (st .names) ≡ text
-    go Declaring h e = absurd h
-    go Fixing h e = absurd h
-    go Ruling h e = e

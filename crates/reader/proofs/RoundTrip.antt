@@ -5,9 +5,9 @@ use mathlib.Core.Path.{_≡_, refl, sym, ap, ap₂, _∙_, subst}
 use mathlib.Core.Logic.{_↔_}
 use mathlib.Core.Bool.{Bool, true, false, cond}
 use mathlib.Core.List.{List, [], _++_, append-nil}
-use lib.Dec.{T, leb, leb→le, le→leb}
+use lib.Dec.{T, leb, le→leb}
 use lib.ListN.{length}
-use Rattle.kinds.specs.Limits.{textLimit, varying, fixed}
+use Rattle.kinds.specs.Limits.{textLimit, varying, fixed, atomLimit}
 use Rattle.kinds.specs.declared.limits.Kind.{Kind}
 use Rattle.kinds.specs.declared.limits.Kind.the-variants.{Plain, Preference}
 use Rattle.kinds.specs.declared.refusals.Refusal.the-variants.{TextTooLong, Form as BrokenForm}
@@ -22,27 +22,29 @@ use Rattle.lines.specs.Lines.{linesFrom, lines}
 use Rattle.lines.specs.Forms.{atoms, begins, tagOf}
 use Rattle.lines.specs.Faults.{State, ruling?}
 use Rattle.lines.specs.Said.{accepted, refused, start, readLines, said, programOf}
+use Rattle.text.proofs.TextLength.{text-fits}
+use Rattle.reader.specs.WrittenText.{WrittenText}
 use Rattle.reader.proofs.LineText.{joined-lines}
-use Rattle.reader.proofs.Progress.{state, AllSaid, lines-said, start-said, text-said}
+use Rattle.reader.proofs.Progress.{state, AllSaid, lines-said, start-said}
 use Rattle.reader.proofs.WrittenLines.{Reads, counted, reads-then, reads-rules, reads-declarations}
 
 -- an accepted text
 
-accepted-text : (text : List ℕ) (st : State) → said text ≡ accepted st → (length text ≤ textLimit) × AllSaid st text
+accepted-text : (text : List ℕ) (p : Program) (names : List (List ℕ)) → said text ≡ accepted p names → AllSaid p names text
 unfolding said
-accepted-text text st e = go (leb (length text) textLimit) (leb→le (length text) textLimit) e
+accepted-text text p names e = go (leb (length text) textLimit) e
   where
-    go : (b : Bool) → (T b → length text ≤ textLimit) → cond b (readLines 1 (start text) (lines text)) (refused TextTooLong 0) ≡ accepted st → (length text ≤ textLimit) × AllSaid st text
-    go true f i = (f tt, subst (AllSaid st) (joined-lines text) (lines-said 1 (start text) (lines text) [] (start-said text) i))
-    go false f i = absurd (let z : _≡_ {A = ℕ} 0 1 = cc in omega arith)
+    go : (b : Bool) → cond b (readLines 1 (start text) (lines text)) (refused TextTooLong 0) ≡ accepted p names → AllSaid p names text
+    go true i = subst (AllSaid p names) (joined-lines text) (lines-said 1 (start text) (lines text) [] (start-said text) i)
+    go false i = absurd (let z : _≡_ {A = ℕ} 0 1 = cc in omega arith)
 
 -- document 01: the writer gives for an accepted text's stores the same text
-pub read-write : (text : List ℕ) (st : State) → said text ≡ accepted st → textOf (programOf st) (st .names) ≡ text
-read-write text st e = text-said (accepted-text text st e .1)
+pub read-write : (text : List ℕ) (p : Program) (names : List (List ℕ)) → said text ≡ accepted p names → textOf p names ≡ text
+read-write text p names e = accepted-text text p names e .text-is
 
 -- they are of the form, and the names fit
-pub accepted-form : (text : List ℕ) (st : State) → said text ≡ accepted st → Form (programOf st) × NamesForm (st .kind) (length (st .names)) (st .names)
-accepted-form text st e = let s = accepted-text text st e .1 .so-far in (s .form, s .names-form)
+pub accepted-form : (text : List ℕ) (p : Program) (names : List (List ℕ)) → said text ≡ accepted p names → Form p × NamesForm (p .kind) (p .atoms) names
+accepted-form text p names e = let s = accepted-text text p names e in (s .form, s .names-form)
 
 -- a written text
 
@@ -67,60 +69,47 @@ start-is kind p names rest = ap (λ b. state (cond b Plain Preference) Declaring
     go Plain = refl
     go Preference = refl
 
-said-read : (text : List ℕ) (st end : State) → length text ≤ textLimit → start text ≡ st → Reads st text end → T (ruling? (end .stage)) → said text ≡ accepted end
+said-read : (text : List ℕ) (st end : State) → length text ≤ textLimit → start text ≡ st → Reads st text end → T (ruling? (end .stage)) → said text ≡ accepted (programOf end) (end .names)
 unfolding said readLines lines linesFrom
 said-read text st end short e r ruling =
     let last = r .reads 1 [] in
     ap (λ b. cond b (readLines 1 (start text) (lines text)) (refused TextTooLong 0)) (is-true (leb (length text) textLimit) (le→leb (length text) textLimit short))
     ∙ ap₂ (λ s t. readLines 1 s (lines t)) e (sym (append-nil text))
     ∙ last .1
-    ∙ ap (λ b. cond b (accepted end) (refused BrokenForm (last .0))) (is-true (ruling? (end .stage)) ruling)
+    ∙ ap (λ b. cond b (accepted (programOf end) (end .names)) (refused BrokenForm (last .0))) (is-true (ruling? (end .stage)) ruling)
 
--- the state of a program that is read
-abbrev stateOf : Program → List (List ℕ) → State
-stateOf p names = state (p .kind) Ruling (p .classes) (p .words) names (p .rules)
+-- the state after the last line of a program's text
+abbrev endState : Program → List (List ℕ) → State
+endState p names = state (p .kind) Ruling (p .classes) (p .words) names (p .rules)
 
-reads-program : (p : Program) (names : List (List ℕ)) → Form p → NamesForm (p .kind) (p .atoms) names → Reads (state (p .kind) Declaring 0 [] [] []) (textOf p names) (stateOf p names)
+reads-program : (p : Program) (names : List (List ℕ)) → Form p → NamesForm (p .kind) (p .atoms) names → Reads (state (p .kind) Declaring 0 [] [] []) (textOf p names) (endState p names)
 unfolding textOf
 reads-program p names f g =
     reads-then (reads-declarations (p .kind) p names (f .classes-form) g (f .atoms-fit))
-    (reads-rules (p .kind) (p .classes) (p .words) names (counted g) [] (p .rules) (subst (λ n. All (RuleForm (p .kind) n) (p .rules)) (sym (g .count)) (f .rule-forms)) (f .rules-fit) (f .occurrences-fit))
+    (reads-rules (p .kind) (p .classes) (p .words) names (counted g) (subst (λ n. n ≤ atomLimit (p .kind)) (sym (g .count)) (f .atoms-fit)) [] (p .rules) (subst (λ n. All (RuleForm (p .kind) n) (p .rules)) (sym (g .count)) (f .rule-forms)) (f .rules-fit) (f .occurrences-fit))
 
 start-program : (p : Program) (names : List (List ℕ)) → start (textOf p names) ≡ state (p .kind) Declaring 0 [] [] []
 unfolding textOf
 start-program p names = start-is (p .kind) p names (flat (ruleText names) (p .rules))
 
 -- stores of the form are written to a text that is accepted and gives them back
-pub write-read : (p : Program) (names : List (List ℕ)) → Form p → NamesForm (p .kind) (p .atoms) names → length (textOf p names) ≤ textLimit → (st : State) × (said (textOf p names) ≡ accepted st) × (programOf st ≡ p) × (st .names ≡ names)
-write-read p names f g short = (
-  stateOf p names,
-  said-read (textOf p names) (state (p .kind) Declaring 0 [] [] []) (stateOf p names) short (start-program p names) (reads-program p names f g) tt,
-  ap (λ n. program n) (g .count),
-  refl,
-)
+pub write-read : (p : Program) (names : List (List ℕ)) → Form p → NamesForm (p .kind) (p .atoms) names → said (textOf p names) ≡ accepted p names
+write-read p names f g =
+    said-read (textOf p names) (state (p .kind) Declaring 0 [] [] []) (endState p names) (text-fits f g) (start-program p names) (reads-program p names f g) tt
+    ∙ ap (λ n. accepted (counting n) names) (g .count)
   where
-    program : ℕ → Program
-    program n = record { kind = p .kind; atoms = n; classes = p .classes; words = p .words; rules = p .rules }
+    counting : ℕ → Program
+    counting n = record { kind = p .kind; atoms = n; classes = p .classes; words = p .words; rules = p .rules }
 
 -- the accepted texts are the texts of the stores of the form
-
-pub record WrittenText (text : List ℕ) : Type 0 where
-  pub program : Program
-  pub names : List (List ℕ)
-  pub form : Form program
-  pub names-form : NamesForm (program .kind) (program .atoms) names
-  pub is-text : textOf program names ≡ text
-  pub short : length text ≤ textLimit
-
-pub accepted-iff : (text : List ℕ) → ((st : State) × (said text ≡ accepted st)) ↔ WrittenText text
+pub accepted-iff : (text : List ℕ) → ((p : Program) × (names : List (List ℕ)) × (said text ≡ accepted p names)) ↔ WrittenText text
 accepted-iff text = (
-  λ h. let f = accepted-form text (h .0) (h .1) in record {
-    program = programOf (h .0);
-    names = h .0 .names;
+  λ h. let f = accepted-form text (h .0) (h .1) (h .2) in record {
+    program = h .0;
+    names = h .1;
     form = f .0;
     names-form = f .1;
-    is-text = read-write text (h .0) (h .1);
-    short = accepted-text text (h .0) (h .1) .0;
+    is-text = read-write text (h .0) (h .1) (h .2);
   },
-  λ w. let r = write-read (w .program) (w .names) (w .form) (w .names-form) (subst (λ t. length t ≤ textLimit) (sym (w .is-text)) (w .short)) in (r .0, subst (λ t. said t ≡ accepted (r .0)) (w .is-text) (r .1)),
+  λ w. (w .program, w .names, subst (λ t. said t ≡ accepted (w .program) (w .names)) (w .is-text) (write-read (w .program) (w .names) (w .form) (w .names-form))),
 )

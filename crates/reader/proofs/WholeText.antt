@@ -1,5 +1,5 @@
 -- What the reader answers and writes, from what its lines give.
-use Prim.Native.Nat.{ℕ, _≤_, _<_}
+use Prim.Native.Nat.{ℕ, _≤_, _<_, zero-le}
 use native.Mathlib.Omega.{arith}
 use mathlib.Core.Path.{_≡_, refl, sym, ap, _∙_, subst}
 use mathlib.Core.Bool.{cond}
@@ -7,12 +7,12 @@ use mathlib.Core.List.{List, [], _++_, append-nil}
 use lib.ListN.{length, take, drop, replicate, take-append-drop}
 use lib.Seq.{length-take-le}
 use borrow.Author.Tests.{lt-leb, le-leb}
-use Rattle.kinds.specs.Limits.{textLimit}
+use Rattle.kinds.specs.Limits.{textLimit, emptyCounts}
 use Rattle.kinds.specs.declared.limits.Kind.{Kind}
 use Rattle.kinds.specs.declared.limits.Kind.the-variants.{Plain, Preference}
 use Rattle.kinds.specs.declared.refusals.Refusal.{Refusal}
 use Rattle.kinds.specs.declared.refusals.Refusal.the-variants.{TextTooLong}
-use Rattle.name_store.specs.NameStore.{encodeNames}
+use Rattle.name_store.specs.NameStore.{encodeNames, decodeNames}
 use Rattle.name_store.specs.NameIndex.{buckets}
 use Rattle.stores.specs.RuleStore.{wordCount, Below}
 use Rattle.delivery.specs.declared.answers.Read.{Read}
@@ -22,13 +22,14 @@ use Rattle.reader.specs.declared.reading.Gather.the-variants as Gather
 use Rattle.gathering.specs.declared.gathered.Gathered.{Gathered}
 use Rattle.lines.specs.Lines.{lines}
 use Rattle.lines.specs.Forms.{atoms, begins, tagOf}
-use Rattle.lines.specs.Said.{accepted, refused, start, readLines, said}
+use Rattle.lines.specs.Said.{accepted, refused, start, readLines, said, programOf}
 use Rattle.delivery.specs.Answers.{readAnswer, readRules, readNames}
 use Rattle.numbering.specs.Scratch.{scratchWords, scratchBytes, scratchAtoms}
-use Rattle.gathering.specs.Gathered.{stateOf, Held}
+use Rattle.gathering.specs.Gathered.{stateOf, Held, HeldIndex, HeldMarks}
 use Rattle.delivery.specs.Delivered.{Delivered}
 use Rattle.reader.specs.Gathering.{startCounts, GatherSays, GatherIs}
 use Rattle.numbering.proofs.NameBlocks.{empty-index}
+use Rattle.gathering.proofs.HeldState.{limits-within}
 
 no-words : (kind : Kind) → 0 ≡ wordCount kind 0
 no-words Plain = refl
@@ -36,38 +37,36 @@ no-words Preference = refl
 
 -- empty scratch stores hold the state before the first line
 pub start-held : (text : List ℕ) {kind : Kind} → kind ≡ cond (begins (tagOf atoms) text) Plain Preference
-    → (words bytes starts links : List ℕ) {heads marks : List ℕ} {n : ℕ} → heads ≡ replicate n 0 → buckets ≤ n → Below 1 marks
-    → length words ≡ scratchWords → length bytes ≡ scratchBytes → length starts ≡ scratchAtoms → length links ≡ scratchAtoms → length marks ≡ scratchAtoms
-    → Held kind (start text) startCounts words bytes starts heads links marks
+    → (words bytes : List ℕ) → length words ≡ scratchWords → length bytes ≡ scratchBytes → Held kind (start text) startCounts words bytes
 unfolding start encodeNames
-start-held text {kind} e words bytes starts links f l m a b c d i =
+start-held text {kind} e words bytes a b =
     record {
       kind-is = sym e;
       stage-is = refl;
       classes-is = refl;
-      atoms-is = refl;
-      rules-is = refl;
-      occurrences-is = refl;
+      counts-are = refl;
       class-words = no-words kind;
       stored = record { front = take 4 words; rest = drop 4 words; is = sym (first words); before = length-take-le 4 words (omega arith); ends = refl };
-      index = empty-index bytes starts links f l;
+      names-stored = refl;
       bytes-is = refl;
       short = omega arith;
-      atoms-fit = omega arith;
-      rules-fit = omega arith;
-      occurrences-fit = omega arith;
+      counts-fit = limits-within {kind = kind} {c = emptyCounts} (record { atoms = zero-le; rules = zero-le; occurrences = zero-le });
       classes-fit = omega arith;
       no-rules = λ z. refl;
-      marks-below = record { mark = λ x. omega (arith, m .mark x) };
       words-room = a;
       bytes-room = b;
-      starts-room = c;
-      links-room = d;
-      marks-room = i;
     }
   where
     first : (w : List ℕ) → (take 4 w ++ []) ++ drop 4 w ≡ w
     first w = ap (λ x. x ++ drop 4 w) (append-nil (take 4 w)) ∙ take-append-drop 4 w
+
+pub start-index : (bytes starts links : List ℕ) {firsts : List ℕ} {n : ℕ} → firsts ≡ replicate n 0 → buckets ≤ n
+    → length starts ≡ scratchAtoms → length links ≡ scratchAtoms → HeldIndex startCounts bytes starts firsts links
+unfolding decodeNames
+start-index bytes starts links e l c d = record { index = empty-index bytes starts links e l; starts-room = c; links-room = d }
+
+pub start-marks : {marks : List ℕ} → Below 1 marks → length marks ≡ scratchAtoms → HeldMarks startCounts marks
+start-marks m i = record { below = record { mark = λ x. omega (arith, m .mark x) }; room = i }
 
 module _ (text rules names : List ℕ) where
   refused-as : {f : Refusal} {k : ℕ} → said text ≡ refused f k → (Refused f k ≡ readAnswer text (length rules) (length names)) × ((rules ≡ readRules text rules names) × (names ≡ readNames text rules names))
@@ -83,18 +82,18 @@ module _ (text rules names : List ℕ) where
     unfolding said
     said-lines = rw (le-leb (length text) textLimit l)
 
-    module _ {kind : Kind} {words bytes starts heads links marks : List ℕ} {q : Gather} (w : GatherIs kind (readLines 1 (start text) (lines text)) words bytes starts heads links marks q) where
-      gather : {p : Gather} → q ≡ p → GatherSays kind (readLines 1 (start text) (lines text)) words bytes starts heads links marks p
-      gather e = subst (GatherSays kind (readLines 1 (start text) (lines text)) words bytes starts heads links marks) e (w .says)
+    module _ {kind : Kind} {words bytes : List ℕ} {q : Gather} (w : GatherIs kind (readLines 1 (start text) (lines text)) words bytes q) where
+      gather : {p : Gather} → q ≡ p → GatherSays kind (readLines 1 (start text) (lines text)) words bytes p
+      gather e = subst (GatherSays kind (readLines 1 (start text) (lines text)) words bytes) e (w .says)
 
       pub lines-refused : {f : Refusal} {k : ℕ} → q ≡ Gather.Refused f k → (Refused f k ≡ readAnswer text (length rules) (length names)) × ((rules ≡ readRules text rules names) × (names ≡ readNames text rules names))
       lines-refused e = refused-as (said-lines ∙ gather e)
 
       module _ {g : Gathered} (e : q ≡ Gather.Whole g) where
-        pub lines-held : Held kind (stateOf kind g words bytes) g words bytes starts heads links marks
+        pub lines-held : Held kind (stateOf kind g words bytes) g words bytes
         lines-held = gather e .1
 
         pub delivered : {rules′ names′ : List ℕ} {r : Read} → Delivered (stateOf kind g words bytes) rules names rules′ names′ r
             → (r ≡ readAnswer text (length rules) (length names)) × ((rules′ ≡ readRules text rules names) × (names′ ≡ readNames text rules names))
         unfolding readAnswer readRules readNames
-        delivered d = let s : said text ≡ accepted (stateOf kind g words bytes) = said-lines ∙ gather e .0 in rw s (d .answer, (rw (sym (d .answer)) (d .rules-after), rw (sym (d .answer)) (d .names-after)))
+        delivered d = let s : said text ≡ accepted (programOf (stateOf kind g words bytes)) (stateOf kind g words bytes .names) = said-lines ∙ gather e .0 in rw s (d .answer, (rw (sym (d .answer)) (d .rules-after), rw (sym (d .answer)) (d .names-after)))

@@ -27,8 +27,9 @@ use Rattle.lines.specs.declared.stage.Stage.{Stage}
 use Rattle.lines.specs.declared.stage.Stage.the-variants.{Declaring, Fixing, Ruling}
 use Rattle.lines.specs.Lines.{lines}
 use Rattle.lines.specs.Forms.{Word, atoms, min, vary, fix, isName, formOf}
-use Rattle.lines.specs.Faults.{State, next, expects, stageAfter, classesAfter, classWords, declared, numbered, with-rule, filled, stepForm}
+use Rattle.lines.specs.Faults.{State, countsOf, next, expects, stageAfter, classesAfter, classWords, declared, numbered, with-rule, filled, stepForm}
 use Rattle.lines.specs.Said.{onStep, readLines}
+use Rattle.gathering.proofs.HeldState.{Fits}
 use Rattle.reader.proofs.LineText.{WholeLine, lines-cons}
 use Rattle.reader.proofs.NameText.{IsName}
 use Rattle.reader.proofs.FormText.{wordOf, list-form, list-whole, rule-line-form, rule-whole}
@@ -102,13 +103,13 @@ listed {kind} {n} {names} xs f h = record {
   different = names-differ names (f .different) xs (h .0) (h .1);
 }
 
-module _ (kind : Kind) (k : ℕ) (words : List ℕ) (names : List (List ℕ)) (f : NamesForm kind (length names) names) where
+module _ (kind : Kind) (k : ℕ) (words : List ℕ) (names : List (List ℕ)) (f : NamesForm kind (length names) names) (full : length names ≤ atomLimit kind) where
   abbrev ruled : List (Rule ℕ) → State
   ruled rs = state kind Ruling k words names rs
 
   reads-one : (before : List (Rule ℕ)) (r : Rule ℕ) → RuleForm kind (length names) r
-      → suc (length before) ≤ ruleLimit kind
-      → sum occurrences before + occurrences r ≤ occurrenceLimit kind
+      → length (before ++ (r ∷ [])) ≤ ruleLimit kind
+      → sum occurrences (before ++ (r ∷ [])) ≤ occurrenceLimit kind
       → Reads (ruled before) (ruleText names r) (ruled (before ++ (r ∷ [])))
   reads-one before r h few room =
       let same : numbered names (named names (r .head)) (named names (r .body)) (named names (r .nots)) ≡ r =
@@ -121,8 +122,7 @@ module _ (kind : Kind) (k : ℕ) (words : List ℕ) (names : List (List ℕ)) (f
         head-listed = listed (r .head) f (h .head-form);
         body-listed = listed (r .body) f (h .body-form);
         nots-listed = listed (r .nots) f (h .nots-form);
-        rules-fit = few;
-        occurrences-fit = omega (arith, length-map (r .head) (λ a. getD names a []), length-map (r .body) (λ a. getD names a []), length-map (r .nots) (λ a. getD names a []));
+        counts-fit = subst (λ q. Fits kind (countsOf (ruled (before ++ (q ∷ []))))) (sym same) (record { atoms = full; rules = few; occurrences = room });
         no-nots = not-filled kind names (r .nots) (h .no-nots);
       } in
       subst (λ q. Reads (ruled before) (ruleText names r) (ruled (before ++ (q ∷ [])))) same (reads-rule adds)
@@ -134,7 +134,7 @@ module _ (kind : Kind) (k : ℕ) (words : List ℕ) (names : List (List ℕ)) (f
   reads-rules before [] h few room = subst (λ l. Reads (ruled before) [] (ruled l)) (sym (append-nil before)) reads-none
   reads-rules before (r ∷ rs) h few room =
       let e = append-snoc before r rs in
-      let first = reads-one before r (h .0) (omega (arith, length-append before (r ∷ rs))) (omega (arith, sum-app occurrences before (r ∷ rs))) in
+      let first = reads-one before r (h .0) (omega (arith, length-append before (r ∷ rs), length-append before (r ∷ []))) (omega (arith, sum-app occurrences before (r ∷ rs), sum-app occurrences before (r ∷ []))) in
       let later = reads-rules (before ++ (r ∷ [])) rs (h .1) (subst (λ l. length l ≤ ruleLimit kind) (sym e) few) (subst (λ l. sum occurrences l ≤ occurrenceLimit kind) (sym e) room) in
       subst (λ l. Reads (ruled before) (flat (ruleText names) (r ∷ rs)) (ruled l)) e (reads-then first later)
 
@@ -145,7 +145,7 @@ reads-atoms names f room = reads-declares {w = atoms} (record {
   expected = tt;
   all-allowed = f .all-allowed;
   not-twice = free-twice [] names (f .different);
-  atoms-fit = omega arith;
+  counts-fit = record { atoms = room; rules = omega arith; occurrences = omega arith };
   classes-fit = omega arith;
 })
 
@@ -181,7 +181,7 @@ module _ (k : ℕ) (words : List ℕ) (names : List (List ℕ)) (few : k ≤ cla
         expected = ok;
         all-allowed = all-chosen (λ x. T (allowed Preference x)) (is b) words names (f .all-allowed);
         not-twice = free-twice old xs (subst Distinct e (distinct-chosen (upTo b) words names (f .different)));
-        atoms-fit = omega (arith, length-append old xs, ap length e, length-chosen (upTo b) words names);
+        counts-fit = record { atoms = omega (arith, ap length e, length-chosen (upTo b) words names); rules = omega arith; occurrences = omega arith };
         classes-fit = fits;
       } in
       let words-are : chosen (upTo a) words words ++ classWords w j (length xs) ≡ chosen (upTo b) words words =

@@ -2,6 +2,7 @@
 use Prim.Native.Nat.{ℕ}
 use mathlib.Core.Path.{_≡_}
 use mathlib.Core.List.{List}
+use Rattle.kinds.specs.Limits.{emptyCounts}
 use Rattle.kinds.specs.declared.limits.Kind.{Kind}
 use Rattle.lines.specs.declared.stage.Stage.the-variants.{Declaring}
 use Rattle.gathering.specs.declared.gathered.Gathered.{Gathered}
@@ -9,22 +10,22 @@ use Rattle.gathering.specs.declared.gathered.Line.{Line}
 use Rattle.gathering.specs.declared.gathered.Line.the-variants.{Next, Fault}
 use Rattle.reader.specs.declared.reading.Gather.{Gather}
 use Rattle.reader.specs.declared.reading.Gather.the-variants.{Whole, Refused}
-use Rattle.lines.specs.Said.{Said, accepted, refused}
+use Rattle.lines.specs.Said.{Said, accepted, refused, programOf}
 use Rattle.gathering.specs.Gathered.{stateOf, Held}
 
 -- before the first line; four words are kept for the header
 abbrev pub startCounts : Gathered
-startCounts = record { stage = Declaring; classes = 0; atoms = 0; rules = 0; occurrences = 0; words = 4; bytes = 0 }
+startCounts = record { stage = Declaring; classes = 0; counts = emptyCounts; words = 4; bytes = 0 }
 
 abbrev pub passedOn : Line → ℕ → Gather
 passedOn (Next g) k = Whole g
 passedOn (Fault r) k = Refused r k
 
 -- what the answer says of what the text says
-abbrev pub GatherSays : Kind → Said → List ℕ → List ℕ → List ℕ → List ℕ → List ℕ → List ℕ → Gather → Type 0
-GatherSays kind s words bytes starts heads links marks (Whole g) =
-    (s ≡ accepted (stateOf kind g words bytes)) × Held kind (stateOf kind g words bytes) g words bytes starts heads links marks
-GatherSays kind s words bytes starts heads links marks (Refused r k) = s ≡ refused r k
+abbrev pub GatherSays : Kind → Said → List ℕ → List ℕ → Gather → Type 0
+GatherSays kind s words bytes (Whole g) =
+    (s ≡ accepted (programOf (stateOf kind g words bytes)) (stateOf kind g words bytes .names)) × Held kind (stateOf kind g words bytes) g words bytes
+GatherSays kind s words bytes (Refused r k) = s ≡ refused r k
 
-pub record GatherIs (kind : Kind) (s : Said) (words bytes starts heads links marks : List ℕ) (r : Gather) : Type 0 where
-  pub says : GatherSays kind s words bytes starts heads links marks r
+pub record GatherIs (kind : Kind) (s : Said) (words bytes : List ℕ) (r : Gather) : Type 0 where
+  pub says : GatherSays kind s words bytes r

@@ -1,2 +1,3 @@
--- What the lines of a text leave.
+-- What the lines of a text leave, and which texts are written.
 pub mod Gathering
+pub mod WrittenText

@@ -3,6 +3,7 @@ use declaring::declared_line;
 use gathering::gathered::Gathered;
 use gathering::gathered::Line;
 use gathering::rule_line;
+use kinds::limits::Counts;
 use kinds::limits::Kind;
 use kinds::refusals::Refusal;
 use lines::forms;
@@ -17,7 +18,7 @@ ghost use Rattle.kinds.specs.Limits.{textLimit};
 ghost use Rattle.lines.specs.Lines.{lines};
 ghost use Rattle.lines.specs.Forms.{atoms, begins, tagOf, formOf};
 ghost use Rattle.lines.specs.Said.{start, readLines};
-ghost use Rattle.gathering.specs.Gathered.{stateOf, Held, LineIs};
+ghost use Rattle.gathering.specs.Gathered.{stateOf, Held, HeldIndex, HeldMarks, LineIs, MarksAre};
 ghost use Rattle.reader.specs.Gathering.{startCounts, passedOn, GatherIs};
 
 // What the lines of a text give: the counts beside the filled scratch stores, or the earliest faulty line with its refusal.
@@ -39,12 +40,11 @@ pub fn kind_of(text: &[u8]) -> Kind
 pub fn start_counts() -> Gathered
     ensures { λ r. ⌜ r ≡ startCounts ⌝ }
 {
+    let counts = Counts::empty();
     Gathered {
         stage: Stage::Declaring,
         classes: 0,
-        atoms: 0,
-        rules: 0,
-        occurrences: 0,
+        counts,
         words: 4,
         bytes: 0,
     }
@@ -63,49 +63,29 @@ fn read_line(
     marks: &mut [u16],
 ) -> Line
     requires { ⌜ length (now line) ≤ textLimit ⌝ }
-    requires { ⌜ Held kind (stateOf kind gathered (now words) (now bytes)) gathered (now words) (now bytes) (now starts) (now firsts) (now links) (now marks) ⌝ }
-    ensures { λ r. ⌜ LineIs kind (stateOf kind gathered (now (words .entry)) (now (bytes .entry))) (formOf (now (line .entry))) (now (words .exit)) (now (bytes .exit)) (now (starts .exit)) (now (firsts .exit)) (now (links .exit)) (now (marks .exit)) r ⌝ }
+    requires { ⌜ Held kind (stateOf kind gathered (now words) (now bytes)) gathered (now words) (now bytes) ⌝ }
+    requires { ⌜ HeldIndex gathered (now bytes) (now starts) (now firsts) (now links) ⌝ }
+    requires { ⌜ HeldMarks gathered (now marks) ⌝ }
+    ensures { λ r. ⌜ LineIs kind (stateOf kind gathered (now (words .entry)) (now (bytes .entry))) (formOf (now (line .entry))) (now (words .exit)) (now (bytes .exit)) (now (starts .exit)) (now (firsts .exit)) (now (links .exit)) r ⌝ }
+    ensures { λ r. ⌜ MarksAre (now (marks .exit)) r ⌝ }
 {
     match forms::shape_of(line, kind) {
-        Shape::Declares {
-            word,
-            from,
-            count,
-            refused,
-        } => declared_line::declare_atoms(
+        Shape::Declares(shape) => declared_line::declare_atoms(
             line,
             kind,
             gathered,
-            word,
-            from,
-            count,
-            refused,
+            shape,
             words,
             bytes,
             starts,
             firsts,
             links,
-            marks,
         ),
-        Shape::Rule {
-            head,
-            body,
-            not,
-            heads,
-            bodies,
-            nots,
-            refused,
-        } => rule_line::add_rule(
+        Shape::Rule(shape) => rule_line::add_rule(
             line,
             kind,
             gathered,
-            head,
-            body,
-            not,
-            heads,
-            bodies,
-            nots,
-            refused,
+            shape,
             words,
             bytes,
             starts,
@@ -138,8 +118,10 @@ pub fn read_lines(
     marks: &mut [u16],
 ) -> Gather
     requires { ⌜ length (now text) ≤ textLimit ⌝ }
-    requires { ⌜ Held kind (start (now text)) startCounts (now words) (now bytes) (now starts) (now firsts) (now links) (now marks) ⌝ }
-    ensures { λ r. ⌜ GatherIs kind (readLines 1 (start (now (text .entry))) (lines (now (text .entry)))) (now (words .exit)) (now (bytes .exit)) (now (starts .exit)) (now (firsts .exit)) (now (links .exit)) (now (marks .exit)) r ⌝ }
+    requires { ⌜ Held kind (start (now text)) startCounts (now words) (now bytes) ⌝ }
+    requires { ⌜ HeldIndex startCounts (now bytes) (now starts) (now firsts) (now links) ⌝ }
+    requires { ⌜ HeldMarks startCounts (now marks) ⌝ }
+    ensures { λ r. ⌜ GatherIs kind (readLines 1 (start (now (text .entry))) (lines (now (text .entry)))) (now (words .exit)) (now (bytes .exit)) r ⌝ }
 {
     let mut gathered = start_counts();
     let mut at: usize = 0;

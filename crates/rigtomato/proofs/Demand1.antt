@@ -24,7 +24,7 @@ use Rattle.name_store.proofs.NameStores.{names-law}
 use Rattle.writer.specs.declared.Written.{Written}
 use Rattle.writer.specs.declared.Written.the-variants.{Text, Refused as NotWritten}
 use Rattle.writer.specs.Answers.{fitted, writtenBytes, storesText, writeAnswer, writeOutput}
-use Rattle.output.specs.Emitted.{over}
+use Rattle.rules.specs.Lists.{over}
 use Rattle.translation.specs.Answers.{storesTranslation, translateAnswer, translateOutput}
 use Rattle.walks.specs.declared.answers.Verdict.{Verdict}
 use Rattle.walks.specs.declared.answers.Verdict.the-variants.{Refused as NotJudged}

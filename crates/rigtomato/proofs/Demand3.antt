@@ -7,7 +7,7 @@ use lib.Dec.{T, leb, leb→le}
 use lib.ListN.{length, take}
 use Rattle.kinds.specs.declared.limits.Kind.{Kind}
 use Rattle.kinds.specs.declared.limits.Kind.the-variants.{Plain, Preference}
-use Rattle.rules.specs.Lists.{sum}
+use Rattle.rules.specs.Lists.{sum, over}
 use Rattle.rules.specs.Rules.{occurrences}
 use Rattle.stores.specs.Program.{Program, Form}
 use Rattle.stores.specs.RuleStore.{encode, decode, isOf}
@@ -16,7 +16,6 @@ use Rattle.stores.proofs.RuleStores.{decode-encode}
 use Rattle.writer.specs.declared.Written.{Written}
 use Rattle.writer.specs.declared.Written.the-variants.{Text, Refused as NotWritten}
 use Rattle.text.specs.Text.{textOf}
-use Rattle.output.specs.Emitted.{over}
 use Rattle.writer.specs.Answers.{fitted}
 use Rattle.text.proofs.TextLength.{text-fits}
 use Rattle.lines.specs.Faults.{State}

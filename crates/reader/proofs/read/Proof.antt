@@ -3,7 +3,7 @@ use mathlib.Core.Path.{refl}
 use lib.ListN.{replicate, length-replicate}
 use Rattle.name_store.specs.NameIndex.{buckets}
 use Rattle.stores.proofs.StoreHeader.{unmarked}
-use Rattle.reader.proofs.WholeText.{start-held, too-long, lines-refused, lines-held, delivered}
+use Rattle.reader.proofs.WholeText.{start-held, start-index, start-marks, too-long, lines-refused, lines-held, delivered}
 use native.Mathlib.Omega.{arith}
 use borrow.Author.Needs.{needs}
 use Rattle.reader.proofs.read.Statement.{statement}
@@ -36,7 +36,7 @@ slice-aggregate-read-lines-6 c = search needs
 read-lines-requires : tie.Need-read-lines-requires
 read-lines-requires c κs =
     let room : buckets ≤ 4096 = omega arith in
-    (c .before .before .before .before .before .before .before .if1 .left, start-held (c .before .before .before .before .before .before .before .before .before .before .before .args .text .now) (c .before .before .before .before .before .before .kind-of .ensures) (replicate 36604 0) (replicate 20900 0) (replicate 1100 0) (replicate 1100 0) refl room (unmarked 1100) (length-replicate {A = ℕ} 36604 0) (length-replicate {A = ℕ} 20900 0) (length-replicate {A = ℕ} 1100 0) (length-replicate {A = ℕ} 1100 0) (length-replicate {A = ℕ} 1100 0))
+    (c .before .before .before .before .before .before .before .if1 .left, (start-held (c .before .before .before .before .before .before .before .before .before .before .before .args .text .now) (c .before .before .before .before .before .before .kind-of .ensures) (replicate 36604 0) (replicate 20900 0) (length-replicate {A = ℕ} 36604 0) (length-replicate {A = ℕ} 20900 0), (start-index (replicate 20900 0) (replicate 1100 0) (replicate 1100 0) refl room (length-replicate {A = ℕ} 1100 0) (length-replicate {A = ℕ} 1100 0), start-marks (unmarked 1100) (length-replicate {A = ℕ} 1100 0))))
 
 enum-known-gathered : tie.Need-enum-known-gathered
 enum-known-gathered c = search needs
@@ -47,20 +47,8 @@ slice-aggregate-deliver c = search needs
 slice-aggregate-deliver-2 : tie.Need-slice-aggregate-deliver-2
 slice-aggregate-deliver-2 c = search needs
 
-slice-aggregate-deliver-3 : tie.Need-slice-aggregate-deliver-3
-slice-aggregate-deliver-3 c = search needs
-
-slice-aggregate-deliver-4 : tie.Need-slice-aggregate-deliver-4
-slice-aggregate-deliver-4 c = search needs
-
-slice-aggregate-deliver-5 : tie.Need-slice-aggregate-deliver-5
-slice-aggregate-deliver-5 c = search needs
-
-slice-aggregate-deliver-6 : tie.Need-slice-aggregate-deliver-6
-slice-aggregate-deliver-6 c = search needs
-
 deliver-requires : tie.Need-deliver-requires
-deliver-requires c κs = lines-held (c .before .before .before .before .before .before .before .before .before .before .before .before .before .before .before .before .before .before .before .before .before .before .before .before .before .before .before .before .before .args .text .now) (c .before .before .before .before .before .before .before .before .before .before .before .before .before .before .before .before .before .before .before .before .before .before .before .before .before .before .before .before .before .args .rules .now) (c .before .before .before .before .before .before .before .before .before .before .before .before .before .before .before .before .before .before .before .before .before .before .before .before .before .before .before .before .before .args .names .now) (c .before .before .before .before .before .before .before .before .before .before .before .before .before .before .before .before .before .before .before .before .before .before .before .before .before .if1 .left) (c .before .before .before .before .before .before .before .before .before .before .before .before .before .before .before .before .before .read-lines .ensures) (c .before .before .before .before .before .before .before .before .before .gathered .given .1)
+deliver-requires c κs = lines-held (c .before .before .before .before .before .before .before .before .before .before .before .before .before .before .before .before .before .before .before .before .before .before .before .before .before .args .text .now) (c .before .before .before .before .before .before .before .before .before .before .before .before .before .before .before .before .before .before .before .before .before .before .before .before .before .args .rules .now) (c .before .before .before .before .before .before .before .before .before .before .before .before .before .before .before .before .before .before .before .before .before .before .before .before .before .args .names .now) (c .before .before .before .before .before .before .before .before .before .before .before .before .before .before .before .before .before .before .before .before .before .if1 .left) (c .before .before .before .before .before .before .before .before .before .before .before .before .before .read-lines .ensures) (c .before .before .before .before .before .gathered .given .1)
 
 enum-known-refusal : tie.Need-enum-known-refusal
 enum-known-refusal c = search needs
@@ -72,7 +60,7 @@ same-length-2 : tie.Need-same-length-2
 same-length-2 c = search needs
 
 returns-2 : tie.Need-returns-2
-returns-2 c = delivered (c .before .before .before .before .before .before .before .before .before .before .before .before .before .before .before .before .before .before .before .before .before .before .before .before .before .before .before .before .before .before .before .before .before .before .before .args .text .now) (c .before .before .before .before .before .before .before .before .before .before .before .before .before .before .before .before .before .before .before .before .before .before .before .before .before .before .before .before .before .before .before .before .before .before .before .args .rules .now) (c .before .before .before .before .before .before .before .before .before .before .before .before .before .before .before .before .before .before .before .before .before .before .before .before .before .before .before .before .before .before .before .before .before .before .before .args .names .now) (c .before .before .before .before .before .before .before .before .before .before .before .before .before .before .before .before .before .before .before .before .before .before .before .before .before .before .before .before .before .before .before .if1 .left) (c .before .before .before .before .before .before .before .before .before .before .before .before .before .before .before .before .before .before .before .before .before .before .before .read-lines .ensures) (c .before .before .before .before .before .before .before .before .before .before .before .before .before .before .before .gathered .given .1) (c .before .before .before .before .before .deliver .ensures)
+returns-2 c = delivered (c .before .before .before .before .before .before .before .before .before .before .before .before .before .before .before .before .before .before .before .before .before .before .before .before .before .before .before .before .before .before .before .args .text .now) (c .before .before .before .before .before .before .before .before .before .before .before .before .before .before .before .before .before .before .before .before .before .before .before .before .before .before .before .before .before .before .before .args .rules .now) (c .before .before .before .before .before .before .before .before .before .before .before .before .before .before .before .before .before .before .before .before .before .before .before .before .before .before .before .before .before .before .before .args .names .now) (c .before .before .before .before .before .before .before .before .before .before .before .before .before .before .before .before .before .before .before .before .before .before .before .before .before .before .before .if1 .left) (c .before .before .before .before .before .before .before .before .before .before .before .before .before .before .before .before .before .before .before .read-lines .ensures) (c .before .before .before .before .before .before .before .before .before .before .before .gathered .given .1) (c .before .before .before .before .before .deliver .ensures)
 
 returns-3 : tie.Need-returns-3
 returns-3 c = lines-refused (c .before .before .before .before .before .before .before .before .before .before .before .before .before .before .before .before .before .before .before .before .before .args .text .now) (c .before .before .before .before .before .before .before .before .before .before .before .before .before .before .before .before .before .before .before .before .before .args .rules .now) (c .before .before .before .before .before .before .before .before .before .before .before .before .before .before .before .before .before .before .before .before .before .args .names .now) (c .before .before .before .before .before .before .before .before .before .before .before .before .before .before .before .before .before .if1 .left) (c .before .before .before .before .before .before .before .before .before .read-lines .ensures) (c .before .refusal .given .1)
@@ -93,10 +81,6 @@ read-spec =
     enum-known-gathered
     slice-aggregate-deliver
     slice-aggregate-deliver-2
-    slice-aggregate-deliver-3
-    slice-aggregate-deliver-4
-    slice-aggregate-deliver-5
-    slice-aggregate-deliver-6
     deliver-requires
     enum-known-refusal
     same-length

@@ -12,27 +12,29 @@ is-expected-requires : tie.Need-is-expected-requires
 is-expected-requires c κs = search needs
 
 returns : tie.Need-returns
-returns c = record { says = not-expected (c .before .before .before .before .before .before .before .before .before .pre .1 .1) (c .before .before .before .before .before .before .before .before .before .pre .0) (c .before .is-expected .ensures) (c .if1 .taken) }
+returns c = record { says = not-expected (c .before .before .before .before .before .before .before .before .pre .1 .1 .0) (c .before .before .before .before .before .before .before .before .pre .1 .1 .1) (c .before .before .before .before .before .before .before .before .pre .0) (c .before .is-expected .ensures) (c .if1 .taken) }
 
 returns-2 : tie.Need-returns-2
-returns-2 c = record { says = name-refused (c .before .before .before .before .before .before .before .before .before .before .pre .1 .1) (c .before .before .before .before .before .before .before .before .before .before .pre .0) (c .before .before .is-expected .ensures) (c .before .if1 .left) (c .if2 .taken) }
+returns-2 c = record { says = name-refused (c .before .before .before .before .before .before .before .before .before .pre .1 .1 .0) (c .before .before .before .before .before .before .before .before .before .pre .1 .1 .1) (c .before .before .before .before .before .before .before .before .before .pre .0) (c .before .before .is-expected .ensures) (c .before .if1 .left) (c .if2 .taken) }
 
 enter-names-requires : tie.Need-enter-names-requires
 unfolding stateOf
 enter-names-requires c κs =
-    let h = c .before .before .before .before .before .before .before .before .before .before .before .before .before .before .pre .1 .1 in
+    let h = c .before .before .before .before .before .before .before .before .before .before .before .before .before .before .pre .1 .1 .0 in
+    let x = c .before .before .before .before .before .before .before .before .before .before .before .before .before .before .pre .1 .1 .1 in
     let p = c .before .before .before .before .before .before .before .before .before .before .before .before .before .before .pre .0 in
-    ((p .inside, all-short h p (c .before .before .before .before .before .before .is-expected .ensures) (c .before .before .before .before .before .if1 .left) (c .before .before .before .before .if2 .left)), (held-room h p, held-stored h p))
+    ((p .inside, all-short h x p (c .before .before .before .before .before .before .before .is-expected .ensures) (c .before .before .before .before .before .before .if1 .left) (c .before .before .before .before .before .if2 .left)), (held-room h x p, held-stored h x p))
 
 enum-known-atoms : tie.Need-enum-known-atoms
 enum-known-atoms c = search needs
 
 keep-names-requires : tie.Need-keep-names-requires
 keep-names-requires c κs =
-    let h = c .before .before .before .before .before .before .before .before .before .before .before .before .before .before .before .before .before .before .before .before .before .before .before .before .before .before .before .pre .1 .1 in
+    let h = c .before .before .before .before .before .before .before .before .before .before .before .before .before .before .before .before .before .before .before .before .before .before .before .before .before .before .before .pre .1 .1 .0 in
+    let x = c .before .before .before .before .before .before .before .before .before .before .before .before .before .before .before .before .before .before .before .before .before .before .before .before .before .before .before .pre .1 .1 .1 in
     let p = c .before .before .before .before .before .before .before .before .before .before .before .before .before .before .before .before .before .before .before .before .before .before .before .before .before .before .before .pre .0 in
     let s = held-small h in
-    (h .classes-fit, omega (arith, s .words, p .is-count, items-few (c .before .before .before .before .before .before .before .before .before .before .before .before .before .before .before .before .before .before .before .before .before .before .before .before .before .before .before .args .line .now) (c .before .before .before .before .before .before .before .before .before .before .before .before .before .before .before .before .before .before .before .before .before .before .before .before .before .before .before .args .from), c .before .before .before .before .before .before .before .before .before .before .before .before .before .before .before .before .before .before .before .before .before .before .before .before .before .before .before .pre .1 .0))
+    (h .classes-fit, omega (arith, s .words, p .is-count, items-few (c .before .before .before .before .before .before .before .before .before .before .before .before .before .before .before .before .before .before .before .before .before .before .before .before .before .before .before .args .line .now) (c .before .before .before .before .before .before .before .before .before .before .before .before .before .before .before .before .before .before .before .before .before .before .before .before .before .before .before .args .shape .from), c .before .before .before .before .before .before .before .before .before .before .before .before .before .before .before .before .before .before .before .before .before .before .before .before .before .before .before .pre .1 .0))
 
 enum-known-at : tie.Need-enum-known-at
 enum-known-at c = search needs
@@ -40,10 +42,11 @@ enum-known-at c = search needs
 past-limit-requires : tie.Need-past-limit-requires
 unfolding stateOf
 past-limit-requires c κs =
-    let h = c .before .before .before .before .before .before .before .before .before .before .before .before .before .before .before .before .before .before .before .before .before .before .before .before .before .before .before .before .before .before .pre .1 .1 in
+    let h = c .before .before .before .before .before .before .before .before .before .before .before .before .before .before .before .before .before .before .before .before .before .before .before .before .before .before .before .before .before .before .pre .1 .1 .0 in
+    let x = c .before .before .before .before .before .before .before .before .before .before .before .before .before .before .before .before .before .before .before .before .before .before .before .before .before .before .before .before .before .before .pre .1 .1 .1 in
     let p = c .before .before .before .before .before .before .before .before .before .before .before .before .before .before .before .before .before .before .before .before .before .before .before .before .before .before .before .before .before .before .pre .0 in
     let s = entered-some (c .before .before .before .before .before .before .before .before .before .before .before .before .before .before .before .enter-names .ensures) (c .before .before .before .before .before .at .given .1) in
-    ((s .inside, rest-short h p (c .before .before .before .before .before .before .before .before .before .before .before .before .before .before .before .before .before .before .before .before .before .before .is-expected .ensures) (c .before .before .before .before .before .before .before .before .before .before .before .before .before .before .before .before .before .before .before .before .before .if1 .left) (c .before .before .before .before .before .before .before .before .before .before .before .before .before .before .before .before .before .before .before .before .if2 .left) s (c .before .before .before .before .before .before .before .before .before .before .before .before .before .before .before .enter-names .kept .1 .1 .1 .0)), ((room-kept h p (c .before .before .before .before .before .before .before .before .before .before .before .before .before .before .before .enter-names .kept .1 .1 .0) (c .before .before .before .before .before .before .before .before .before .before .before .before .before .before .before .enter-names .kept .1 .1 .1 .0) (c .before .before .before .before .before .before .before .before .before .before .before .before .before .before .before .enter-names .kept .1 .1 .1 .1 .1 .0), s .index .firsts-room), full-index h p (c .before .before .before .before .before .before .before .before .before .before .before .before .before .before .before .before .before .before .before .before .before .before .is-expected .ensures) (c .before .before .before .before .before .before .before .before .before .before .before .before .before .before .before .before .before .before .before .before .before .if1 .left) (c .before .before .before .before .before .before .before .before .before .before .before .before .before .before .before .before .before .before .before .before .if2 .left) s (c .before .before .before .before .before .before .before .before .before .before .before .before .before .before .before .enter-names .kept .1 .1 .1 .0)))
+    ((s .inside, rest-short h x p (c .before .before .before .before .before .before .before .before .before .before .before .before .before .before .before .before .before .before .before .before .before .before .before .is-expected .ensures) (c .before .before .before .before .before .before .before .before .before .before .before .before .before .before .before .before .before .before .before .before .before .before .if1 .left) (c .before .before .before .before .before .before .before .before .before .before .before .before .before .before .before .before .before .before .before .before .before .if2 .left) s (c .before .before .before .before .before .before .before .before .before .before .before .before .before .before .before .enter-names .kept .1 .1 .1 .0)), ((room-kept h x p (c .before .before .before .before .before .before .before .before .before .before .before .before .before .before .before .enter-names .kept .1 .1 .0) (c .before .before .before .before .before .before .before .before .before .before .before .before .before .before .before .enter-names .kept .1 .1 .1 .0) (c .before .before .before .before .before .before .before .before .before .before .before .before .before .before .before .enter-names .kept .1 .1 .1 .1 .1 .0), s .index .firsts-room), full-index h x p (c .before .before .before .before .before .before .before .before .before .before .before .before .before .before .before .before .before .before .before .before .before .before .before .is-expected .ensures) (c .before .before .before .before .before .before .before .before .before .before .before .before .before .before .before .before .before .before .before .before .before .before .if1 .left) (c .before .before .before .before .before .before .before .before .before .before .before .before .before .before .before .before .before .before .before .before .before .if2 .left) s (c .before .before .before .before .before .before .before .before .before .before .before .before .before .before .before .enter-names .kept .1 .1 .1 .0)))
 
 enum-told : tie.Need-enum-told
 enum-told c = search needs
@@ -66,9 +69,10 @@ same-length-5 c = search needs
 returns-3 : tie.Need-returns-3
 unfolding stateOf
 returns-3 c =
-    let h = c .before .before .before .before .before .before .before .before .before .before .before .before .before .before .before .before .before .before .before .before .before .before .before .before .before .before .before .before .before .before .pre .1 .1 in
+    let h = c .before .before .before .before .before .before .before .before .before .before .before .before .before .before .before .before .before .before .before .before .before .before .before .before .before .before .before .before .before .before .pre .1 .1 .0 in
+    let x = c .before .before .before .before .before .before .before .before .before .before .before .before .before .before .before .before .before .before .before .before .before .before .before .before .before .before .before .before .before .before .pre .1 .1 .1 in
     let p = c .before .before .before .before .before .before .before .before .before .before .before .before .before .before .before .before .before .before .before .before .before .before .before .before .before .before .before .before .before .before .pre .0 in
-    declared-line h p (c .before .before .before .before .before .before .before .before .before .before .before .before .before .before .before .before .before .before .before .before .before .before .is-expected .ensures) (c .before .before .before .before .before .before .before .before .before .before .before .before .before .before .before .before .before .before .before .before .before .if1 .left) (c .before .before .before .before .before .before .before .before .before .before .before .before .before .before .before .before .before .before .before .before .if2 .left) (entered-all (c .before .before .before .before .before .before .before .before .before .before .before .before .before .before .before .enter-names .ensures) (c .before .before .before .before .before .atoms .given .1)) (c .before .before .before .before .before .before .before .before .before .before .before .before .before .before .before .enter-names .kept .1 .1 .0) (c .before .before .before .before .before .before .before .before .before .before .before .before .before .before .before .enter-names .kept .1 .1 .1 .0) (c .before .before .before .before .before .before .before .before .before .before .before .before .before .before .before .enter-names .kept .1 .1 .1 .1 .1 .0) (c .before .before .keep-names .ensures)
+    declared-line h x p (c .before .before .before .before .before .before .before .before .before .before .before .before .before .before .before .before .before .before .before .before .before .before .before .is-expected .ensures) (c .before .before .before .before .before .before .before .before .before .before .before .before .before .before .before .before .before .before .before .before .before .before .if1 .left) (c .before .before .before .before .before .before .before .before .before .before .before .before .before .before .before .before .before .before .before .before .before .if2 .left) (entered-all (c .before .before .before .before .before .before .before .before .before .before .before .before .before .before .before .enter-names .ensures) (c .before .before .before .before .before .atoms .given .1)) (c .before .before .before .before .before .before .before .before .before .before .before .before .before .before .before .enter-names .kept .1 .1 .0) (c .before .before .before .before .before .before .before .before .before .before .before .before .before .before .before .enter-names .kept .1 .1 .1 .0) (c .before .before .before .before .before .before .before .before .before .before .before .before .before .before .before .enter-names .kept .1 .1 .1 .1 .1 .0) (c .before .before .keep-names .ensures)
 
 same-length-6 : tie.Need-same-length-6
 same-length-6 c = search needs
@@ -85,9 +89,10 @@ same-length-9 c = search needs
 returns-4 : tie.Need-returns-4
 unfolding stateOf
 returns-4 c =
-    let h = c .before .before .before .before .before .before .before .before .before .before .before .before .before .before .before .before .before .before .before .before .before .before .before .before .before .before .before .before .before .before .before .before .before .before .before .before .before .before .before .pre .1 .1 in
+    let h = c .before .before .before .before .before .before .before .before .before .before .before .before .before .before .before .before .before .before .before .before .before .before .before .before .before .before .before .before .before .before .before .before .before .before .before .before .before .before .before .pre .1 .1 .0 in
+    let x = c .before .before .before .before .before .before .before .before .before .before .before .before .before .before .before .before .before .before .before .before .before .before .before .before .before .before .before .before .before .before .before .before .before .before .before .before .before .before .before .pre .1 .1 .1 in
     let p = c .before .before .before .before .before .before .before .before .before .before .before .before .before .before .before .before .before .before .before .before .before .before .before .before .before .before .before .before .before .before .before .before .before .before .before .before .before .before .before .pre .0 in
-    record { says = past-room h p (c .before .before .before .before .before .before .before .before .before .before .before .before .before .before .before .before .before .before .before .before .before .before .before .before .before .before .before .before .before .before .before .is-expected .ensures) (c .before .before .before .before .before .before .before .before .before .before .before .before .before .before .before .before .before .before .before .before .before .before .before .before .before .before .before .before .before .before .if1 .left) (c .before .before .before .before .before .before .before .before .before .before .before .before .before .before .before .before .before .before .before .before .before .before .before .before .before .before .before .before .before .if2 .left) (entered-some (c .before .before .before .before .before .before .before .before .before .before .before .before .before .before .before .before .before .before .before .before .before .before .before .before .enter-names .ensures) (c .before .before .before .before .before .before .before .before .before .before .before .before .before .before .at .given .1)) (c .before .before .before .before .before .before .before .before .before .before .before .before .before .before .before .before .before .before .before .before .before .before .before .before .enter-names .kept .1 .1 .1 .0) (c .before .before .before .before .before .before .before .before .past-limit .ensures) }
+    record { says = past-room h x p (c .before .before .before .before .before .before .before .before .before .before .before .before .before .before .before .before .before .before .before .before .before .before .before .before .before .before .before .before .before .before .before .before .is-expected .ensures) (c .before .before .before .before .before .before .before .before .before .before .before .before .before .before .before .before .before .before .before .before .before .before .before .before .before .before .before .before .before .before .before .if1 .left) (c .before .before .before .before .before .before .before .before .before .before .before .before .before .before .before .before .before .before .before .before .before .before .before .before .before .before .before .before .before .before .if2 .left) (entered-some (c .before .before .before .before .before .before .before .before .before .before .before .before .before .before .before .before .before .before .before .before .before .before .before .before .enter-names .ensures) (c .before .before .before .before .before .before .before .before .before .before .before .before .before .before .at .given .1)) (c .before .before .before .before .before .before .before .before .before .before .before .before .before .before .before .before .before .before .before .before .before .before .before .before .enter-names .kept .1 .1 .1 .0) (c .before .before .before .before .before .before .before .before .past-limit .ensures) }
 
 same-length-10 : tie.Need-same-length-10
 same-length-10 c = search needs
@@ -104,9 +109,10 @@ same-length-13 c = search needs
 returns-5 : tie.Need-returns-5
 unfolding stateOf
 returns-5 c =
-    let h = c .before .before .before .before .before .before .before .before .before .before .before .before .before .before .before .before .before .before .before .before .before .before .before .before .before .pre .1 .1 in
+    let h = c .before .before .before .before .before .before .before .before .before .before .before .before .before .before .before .before .before .before .before .before .before .before .before .before .before .pre .1 .1 .0 in
+    let x = c .before .before .before .before .before .before .before .before .before .before .before .before .before .before .before .before .before .before .before .before .before .before .before .before .before .pre .1 .1 .1 in
     let p = c .before .before .before .before .before .before .before .before .before .before .before .before .before .before .before .before .before .before .before .before .before .before .before .before .before .pre .0 in
-    record { says = declared-twice h p (c .before .before .before .before .before .before .before .before .before .before .before .before .before .before .before .before .before .is-expected .ensures) (c .before .before .before .before .before .before .before .before .before .before .before .before .before .before .before .before .if1 .left) (c .before .before .before .before .before .before .before .before .before .before .before .before .before .before .before .if2 .left) (not-once (c .before .before .before .before .before .before .before .before .before .before .enter-names .ensures) (c .enum-told .given .1)) }
+    record { says = declared-twice h x p (c .before .before .before .before .before .before .before .before .before .before .before .before .before .before .before .before .before .before .is-expected .ensures) (c .before .before .before .before .before .before .before .before .before .before .before .before .before .before .before .before .before .if1 .left) (c .before .before .before .before .before .before .before .before .before .before .before .before .before .before .before .before .if2 .left) (not-once (c .before .before .before .before .before .before .before .before .before .before .enter-names .ensures) (c .enum-told .given .1)) }
 
 pub declare-atoms-spec : {M : Type 1} → statement M
 declare-atoms-spec =

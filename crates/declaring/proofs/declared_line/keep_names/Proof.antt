@@ -1,5 +1,5 @@
 use Rattle.lines.specs.Shapes.{wordOf}
-use Rattle.declaring.proofs.KeptAtoms.{names-over, names-kept}
+use Rattle.declaring.proofs.KeptAtoms.{atoms-over, classes-over, names-kept}
 use borrow.Author.Needs.{needs}
 use Rattle.declaring.proofs.declared_line.keep_names.Statement.{statement}
 use Rattle.declaring.proofs.declared_line.keep_names.Tie as tie
@@ -7,11 +7,14 @@ use Rattle.declaring.proofs.declared_line.keep_names.Tie as tie
 classes-after-requires : tie.Need-classes-after-requires
 classes-after-requires c κs = search needs
 
-names-fit-requires : tie.Need-names-fit-requires
-names-fit-requires c κs = search needs
+within-requires : tie.Need-within-requires
+within-requires c κs = search needs
 
 returns : tie.Need-returns
-returns c = names-over (c .before .before .before .before .args .kind) (c .before .before .before .before .args .gathered) (wordOf (c .before .before .before .before .args .word)) (c .before .before .before .before .args .count) _ _ _ (c .before .before .classes-after .ensures) (c .before .names-fit .ensures) (c .if1 .taken)
+returns c = atoms-over (c .before .before .before .before .before .args .kind) (c .before .before .before .before .before .args .gathered) (wordOf (c .before .before .before .before .before .args .word)) (c .before .before .before .before .before .args .count) _ _ _ (c .before .before .before .classes-after .ensures) (c .before .within .ensures) (c .if1 .taken)
+
+returns-2 : tie.Need-returns-2
+returns-2 c = classes-over (c .before .before .before .before .before .before .args .kind) (c .before .before .before .before .before .before .args .gathered) (wordOf (c .before .before .before .before .before .before .args .word)) (c .before .before .before .before .before .before .args .count) _ _ _ (c .before .before .before .before .classes-after .ensures) (c .before .before .within .ensures) (c .before .if1 .left) (c .if2 .taken)
 
 stage-after-requires : tie.Need-stage-after-requires
 stage-after-requires c κs = search needs
@@ -22,17 +25,18 @@ put-class-words-requires c κs = search needs
 same-length : tie.Need-same-length
 same-length c = search needs
 
-returns-2 : tie.Need-returns-2
-returns-2 c = names-kept (c .before .before .before .before .before .before .before .before .before .args .kind) (c .before .before .before .before .before .before .before .before .before .args .gathered) (wordOf (c .before .before .before .before .before .before .before .before .before .args .word)) (c .before .before .before .before .before .before .before .before .before .args .count) _ _ _ (c .before .before .before .before .before .before .before .classes-after .ensures) (c .before .before .before .before .before .before .names-fit .ensures) (c .before .before .before .before .before .if1 .left) (c .before .before .before .before .stage-after .ensures) (c .before .before .put-class-words .ensures)
+returns-3 : tie.Need-returns-3
+returns-3 c = names-kept (c .before .before .before .before .before .before .before .before .before .before .before .args .kind) (c .before .before .before .before .before .before .before .before .before .before .before .args .gathered) (wordOf (c .before .before .before .before .before .before .before .before .before .before .before .args .word)) (c .before .before .before .before .before .before .before .before .before .before .before .args .count) _ _ _ (c .before .before .before .before .before .before .before .before .before .classes-after .ensures) (c .before .before .before .before .before .before .before .within .ensures) (c .before .before .before .before .before .before .if1 .left) (c .before .before .before .before .before .if2 .left) (c .before .before .before .before .stage-after .ensures) (c .before .before .put-class-words .ensures)
 
 pub keep-names-spec : {M : Type 1} → statement M
 keep-names-spec =
     tie.close
     (tie.spec
     classes-after-requires
-    names-fit-requires
+    within-requires
     returns
+    returns-2
     stage-after-requires
     put-class-words-requires
     same-length
-    returns-2)
+    returns-3)

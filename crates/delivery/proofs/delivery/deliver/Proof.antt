@@ -6,28 +6,28 @@ use Rattle.delivery.proofs.delivery.deliver.Statement.{statement}
 use Rattle.delivery.proofs.delivery.deliver.Tie as tie
 
 returns : tie.Need-returns
-returns c = rules-short (c .before .before .before .before .before .before .before .before .before .pre) _ _ (c .if1 .taken)
+returns c = rules-short (c .before .before .before .before .before .pre) _ _ (c .if1 .taken)
 
 returns-2 : tie.Need-returns-2
-returns-2 c = names-short (c .before .before .before .before .before .before .before .before .before .before .pre) _ _ (c .before .if1 .left) (c .if2 .taken)
+returns-2 c = names-short (c .before .before .before .before .before .before .pre) _ _ (c .before .if1 .left) (c .if2 .taken)
 
 put-header-requires : tie.Need-put-header-requires
-put-header-requires c κs = header-small (c .before .before .before .before .before .before .before .before .before .before .before .pre)
+put-header-requires c κs = header-small (c .before .before .before .before .before .before .before .pre)
 
 slice-reshare-prefix-emit : tie.Need-slice-reshare-prefix-emit
-slice-reshare-prefix-emit c = omega (arith, held-small (c .before .before .before .before .before .before .before .before .before .before .before .before .before .before .pre) .words, c .before .before .before .before .before .before .before .before .before .before .before .before .before .before .pre .words-room, c .before .before .put-header .kept .1 .1 .0)
+slice-reshare-prefix-emit c = omega (arith, held-small (c .before .before .before .before .before .before .before .before .before .before .pre) .words, c .before .before .before .before .before .before .before .before .before .before .pre .words-room, c .before .before .put-header .kept .1 .1 .0)
 
 slice-aggregate-emit : tie.Need-slice-aggregate-emit
-slice-aggregate-emit c = words-part-length (c .before .before .before .before .before .before .before .before .before .before .before .before .before .before .before .pre) (c .before .before .before .put-header .ensures)
+slice-aggregate-emit c = words-part-length (c .before .before .before .before .before .before .before .before .before .before .before .pre) (c .before .before .before .put-header .ensures)
 
 emit-requires : tie.Need-emit-requires
-emit-requires c κs = words-range (c .before .before .before .before .before .before .before .before .before .before .before .before .before .before .before .before .pre) (c .before .before .before .before .put-header .ensures)
+emit-requires c κs = words-range (c .before .before .before .before .before .before .before .before .before .before .before .before .pre) (c .before .before .before .before .put-header .ensures)
 
 slice-aggregate-emit-2 : tie.Need-slice-aggregate-emit-2
-slice-aggregate-emit-2 c = bytes-part-length (c .before .before .before .before .before .before .before .before .before .before .before .before .before .before .before .before .before .before .before .before .pre)
+slice-aggregate-emit-2 c = bytes-part-length (c .before .before .before .before .before .before .before .before .before .before .before .before .before .before .before .before .pre)
 
 emit-requires-2 : tie.Need-emit-requires-2
-emit-requires-2 c κs = bytes-range (c .before .before .before .before .before .before .before .before .before .before .before .before .before .before .before .before .before .before .before .before .before .pre)
+emit-requires-2 c κs = bytes-range (c .before .before .before .before .before .before .before .before .before .before .before .before .before .before .before .before .before .pre)
 
 same-length : tie.Need-same-length
 same-length c = search needs
@@ -39,7 +39,7 @@ same-length-3 : tie.Need-same-length-3
 same-length-3 c = search needs
 
 returns-3 : tie.Need-returns-3
-returns-3 c = both-written (c .before .before .before .before .before .before .before .before .before .before .before .before .before .before .before .before .before .before .before .before .before .before .before .before .pre) _ _ (c .before .before .before .before .before .before .before .before .before .before .before .before .before .before .before .if1 .left) (c .before .before .before .before .before .before .before .before .before .before .before .before .before .before .if2 .left) (c .before .before .before .before .before .before .before .before .before .before .before .before .put-header .ensures) (c .before .before .before .before .before .before .before .emit .ensures) (c .before .before .emit2 .ensures)
+returns-3 c = both-written (c .before .before .before .before .before .before .before .before .before .before .before .before .before .before .before .before .before .before .before .before .pre) _ _ (c .before .before .before .before .before .before .before .before .before .before .before .before .before .before .before .if1 .left) (c .before .before .before .before .before .before .before .before .before .before .before .before .before .before .if2 .left) (c .before .before .before .before .before .before .before .before .before .before .before .before .put-header .ensures) (c .before .before .before .before .before .before .before .emit .ensures) (c .before .before .emit2 .ensures)
 
 pub deliver-spec : {M : Type 1} → statement M
 deliver-spec =

@@ -34,8 +34,8 @@ same-length c = search needs
 
 returns : tie.Need-returns
 returns c =
-    let g = c .before .before .before .before .before .before .before .before .before .before .before .before .before .before .before .before .before .before .args .gathered in
-    renamed (then (c .before .before .before .before .before .before .before .before .before .before .before .before .before .before .push .ensures) (then (c .before .before .before .before .before .before .before .before .before .before .push2 .ensures) (then (c .before .before .before .before .before .before .push3 .ensures) (c .before .before .push4 .ensures)))) (ap (λ k. k ∷ g .atoms ∷ g .classes ∷ g .rules ∷ []) (c .before .before .before .before .before .before .before .before .before .before .before .before .before .before .before .before .kind-word .ensures))
+    let g = c .before .before .before .before .before .before .before .before .before .before .before .before .before .before .before .before .before .before .before .args .gathered in
+    renamed (then (c .before .before .before .before .before .before .before .before .before .before .before .before .before .before .push .ensures) (then (c .before .before .before .before .before .before .before .before .before .before .push2 .ensures) (then (c .before .before .before .before .before .before .push3 .ensures) (c .before .before .push4 .ensures)))) (ap (λ k. k ∷ g .counts .atoms ∷ g .classes ∷ g .counts .rules ∷ []) (c .before .before .before .before .before .before .before .before .before .before .before .before .before .before .before .before .kind-word .ensures))
 
 pub put-header-spec : {M : Type 1} → statement M
 put-header-spec =

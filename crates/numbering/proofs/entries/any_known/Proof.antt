@@ -8,10 +8,10 @@ use Rattle.numbering.proofs.entries.any_known.Statement.{statement}
 use Rattle.numbering.proofs.entries.any_known.Tie as tie
 
 abbrev Inv-loop : tie.InvT-loop
-Inv-loop line from bytes starts heads links i₀ i = Looking (decodeNames (length starts) bytes) line from i
+Inv-loop line from bytes starts firsts links i₀ i = Looking (decodeNames (length starts) bytes) line from i
 
 abbrev μ-loop : tie.MeasureT-loop
-μ-loop line from bytes starts heads links i₀ i = length line - i
+μ-loop line from bytes starts firsts links i₀ i = length line - i
 
 loop-holds : tie.Need-loop-holds Inv-loop μ-loop
 loop-holds c = looking _ _ _ (c .before .before .before .before .before .pre .0)

@@ -8,10 +8,10 @@ use Rattle.numbering.proofs.entries.any_twice.Statement.{statement}
 use Rattle.numbering.proofs.entries.any_twice.Tie as tie
 
 abbrev Inv-loop : tie.InvT-loop
-Inv-loop line from bytes₀ starts₀ heads₀ links₀ at₀ bytes starts heads links at = (length bytes ≡ length bytes₀) × (length starts ≡ length starts₀) × (length heads ≡ length heads₀) × (length links ≡ length links₀) × Blocks line from at bytes starts heads links
+Inv-loop line from bytes₀ starts₀ firsts₀ links₀ at₀ bytes starts firsts links at = (length bytes ≡ length bytes₀) × (length starts ≡ length starts₀) × (length firsts ≡ length firsts₀) × (length links ≡ length links₀) × Blocks line from at bytes starts firsts links
 
 abbrev μ-loop : tie.MeasureT-loop
-μ-loop line from bytes₀ starts₀ heads₀ links₀ at₀ bytes starts heads links at = length line - at
+μ-loop line from bytes₀ starts₀ firsts₀ links₀ at₀ bytes starts firsts links at = length line - at
 
 loop-holds : tie.Need-loop-holds Inv-loop μ-loop
 loop-holds c = (refl, refl, refl, refl, blocks-begin (c .before .before .before .before .before .pre .0 .0) (c .before .before .before .before .before .pre .0 .1) (c .before .before .before .before .before .pre .1 .0) (c .before .before .before .before .before .pre .1 .1))

@@ -7,19 +7,19 @@ use Rattle.numbering.proofs.entries.clear.Statement.{statement}
 use Rattle.numbering.proofs.entries.clear.Tie as tie
 
 abbrev Inv-loop : tie.InvT-loop
-Inv-loop heads₀ i₀ heads i = Clearing heads₀ heads i
+Inv-loop firsts₀ i₀ firsts i = Clearing firsts₀ firsts i
 
 abbrev μ-loop : tie.MeasureT-loop
-μ-loop heads₀ i₀ heads i = length heads₀ - i
+μ-loop firsts₀ i₀ firsts i = length firsts₀ - i
 
 loop-holds : tie.Need-loop-holds Inv-loop μ-loop
 loop-holds c = clearing _
 
-mul-heads : tie.Need-mul-heads Inv-loop μ-loop
-mul-heads c = search needs
+mul-firsts : tie.Need-mul-firsts Inv-loop μ-loop
+mul-firsts c = search needs
 
-slice-write-heads : tie.Need-slice-write-heads Inv-loop μ-loop
-slice-write-heads c = search needs
+slice-write-firsts : tie.Need-slice-write-firsts Inv-loop μ-loop
+slice-write-firsts c = search needs
 
 add-i : tie.Need-add-i Inv-loop μ-loop
 add-i c = search needs
@@ -43,8 +43,8 @@ clear-spec =
     Inv-loop
     μ-loop
     loop-holds
-    mul-heads
-    slice-write-heads
+    mul-firsts
+    slice-write-firsts
     add-i
     loop-less
     loop-again

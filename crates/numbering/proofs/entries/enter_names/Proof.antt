@@ -9,10 +9,10 @@ use Rattle.numbering.proofs.entries.enter_names.Statement.{statement}
 use Rattle.numbering.proofs.entries.enter_names.Tie as tie
 
 abbrev Inv-loop : tie.InvT-loop
-Inv-loop line from bytes₀ starts₀ heads₀ links₀ count used i₀ atom₀ at₀ bytes starts heads links i atom at = (length bytes ≡ length bytes₀) × (length starts ≡ length starts₀) × (length heads ≡ length heads₀) × (length links ≡ length links₀) × Entering (decodeNames count bytes₀) line from bytes starts heads links i atom at
+Inv-loop line from bytes₀ starts₀ firsts₀ links₀ count used i₀ atom₀ at₀ bytes starts firsts links i atom at = (length bytes ≡ length bytes₀) × (length starts ≡ length starts₀) × (length firsts ≡ length firsts₀) × (length links ≡ length links₀) × Entering (decodeNames count bytes₀) line from bytes starts firsts links i atom at
 
 abbrev μ-loop : tie.MeasureT-loop
-μ-loop line from bytes₀ starts₀ heads₀ links₀ count used i₀ atom₀ at₀ bytes starts heads links i atom at = length line - i
+μ-loop line from bytes₀ starts₀ firsts₀ links₀ count used i₀ atom₀ at₀ bytes starts firsts links i atom at = length line - i
 
 loop-holds : tie.Need-loop-holds Inv-loop μ-loop
 loop-holds c = (refl, refl, refl, refl, entering (c .before .before .before .before .before .pre .0 .0) (c .before .before .before .before .before .pre .0 .1) (c .before .before .before .before .before .pre .1 .0) (c .before .before .before .before .before .pre .1 .1))

@@ -13,10 +13,10 @@ use Rattle.numbering.proofs.numbers.numbers_at.Statement.{statement}
 use Rattle.numbering.proofs.numbers.numbers_at.Tie as tie
 
 abbrev Inv-loop : tie.InvT-loop
-Inv-loop line from bytes starts heads next marks₀ stamp out₀ at i₀ end₀ twice₀ marks out i end twice = (length marks ≡ length marks₀) × (length out ≡ length out₀) × Numbering (decodeNames (length starts) bytes) line from stamp out₀ at i end twice marks out
+Inv-loop line from bytes starts firsts links marks₀ stamp out₀ at i₀ end₀ twice₀ marks out i end twice = (length marks ≡ length marks₀) × (length out ≡ length out₀) × Numbering (decodeNames (length starts) bytes) line from stamp out₀ at i end twice marks out
 
 abbrev μ-loop : tie.MeasureT-loop
-μ-loop line from bytes starts heads next marks₀ stamp out₀ at i₀ end₀ twice₀ marks out i end twice = length line - i
+μ-loop line from bytes starts firsts links marks₀ stamp out₀ at i₀ end₀ twice₀ marks out i end twice = length line - i
 
 loop-holds : tie.Need-loop-holds Inv-loop μ-loop
 loop-holds c = (refl, refl, numbering _ _ _ _ _ _ _ (c .before .before .before .before .before .before .before .pre .0 .0) (omega (arith, c .before .before .before .before .before .before .before .pre .0 .2, length-decode (length (c .before .before .before .before .before .before .before .args .starts .now)) (c .before .before .before .before .before .before .before .args .bytes .now))) (c .before .before .before .before .before .before .before .pre .0 .3) (c .before .before .before .before .before .before .before .pre .1 .1))
