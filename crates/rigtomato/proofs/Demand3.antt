@@ -17,9 +17,7 @@ use Rattle.writer.specs.declared.Written.{Written}
 use Rattle.writer.specs.declared.Written.the-variants.{Text, Refused as NotWritten}
 use Rattle.text.specs.Text.{textOf}
 use Rattle.writer.specs.Answers.{fitted}
-use Rattle.text.proofs.TextLength.{text-fits}
-use Rattle.lines.specs.Faults.{State}
-use Rattle.lines.specs.Said.{accepted, said, programOf}
+use Rattle.lines.specs.Said.{accepted, said}
 use Rattle.reader.proofs.RoundTrip.{accepted-form, write-read}
 use Rattle.delivery.specs.Answers.{readRules, readNames}
 use Rattle.delivery.proofs.AcceptedTexts.{Filled, never, filled, reads-as, front}
@@ -27,7 +25,7 @@ use Rattle.pairing.specs.Translated.{translated, translatedNames}
 use Rattle.pairing.proofs.Paired.{paired, only-one}
 use Rattle.pairing.proofs.Sums.{atoms-sum, rules-sum, occurrences-sum}
 use Rattle.pairing.proofs.PlainForm.{plain-form}
-use Rattle.pairing.proofs.PlainNames.{plain-names, file-names}
+use Rattle.pairing.proofs.PlainNames.{plain-names, file-names as names-kept}
 use Rattle.translation.specs.Answers.{translationText, storesTranslation, translateAnswer, translateOutput}
 use Rattle.translation.proofs.ProgramStores.{answered, named, stores-text}
 use Rattle.rigtomato.specs.Demand3.{Handed, delivered, Demand3, Demand3Holds}
@@ -65,81 +63,71 @@ module _ (text rules names out : List ℕ) (h : Handed text rules names out) whe
   read-as : Filled text (length rules) (length names) (h .words) (h .bytes)
   read-as = filled text (length rules) (length names) (h .words) (h .bytes) (h .read)
 
-  abbrev file : State
-  file = read-as .file
-
   abbrev p : Program
-  p = programOf file
+  p = read-as .program
+
+  abbrev file-names : List (List ℕ)
+  file-names = read-as .atom-names
 
   form : Form p
-  form = accepted-form text file (read-as .lines) .0
+  form = accepted-form text p file-names (read-as .lines) .0
 
-  fit : NamesForm (p .kind) (p .atoms) (file .names)
-  fit = accepted-form text file (read-as .lines) .1
+  fit : NamesForm (p .kind) (p .atoms) file-names
+  fit = accepted-form text p file-names (read-as .lines) .1
 
   rules-handed : take (h .words) (readRules text rules names) ≡ encode p
   rules-handed =
-      ap₂ take (read-as .words-are) (reads-as text file (read-as .lines) .rules-filled rules names (read-as .rules-room) (read-as .names-room))
+      ap₂ take (read-as .words-are) (reads-as text p file-names (read-as .lines) .rules-filled rules names (read-as .rules-room) (read-as .names-room))
       ∙ front (encode p) rules
 
-  names-handed : take (h .bytes) (readNames text rules names) ≡ encodeNames (file .names)
+  names-handed : take (h .bytes) (readNames text rules names) ≡ encodeNames file-names
   names-handed =
-      ap₂ take (read-as .bytes-are) (reads-as text file (read-as .lines) .names-filled rules names (read-as .rules-room) (read-as .names-room))
-      ∙ front (encodeNames (file .names)) names
+      ap₂ take (read-as .bytes-are) (reads-as text p file-names (read-as .lines) .names-filled rules names (read-as .rules-room) (read-as .names-room))
+      ∙ front (encodeNames file-names) names
 
-  written : translateAnswer (encode p) (encodeNames (file .names)) (length out) ≡ Text (h .size)
+  written : translateAnswer (encode p) (encodeNames file-names) (length out) ≡ Text (h .size)
   written = ap₂ (λ (r n : List ℕ). translateAnswer r n (length out)) (sym rules-handed) (sym names-handed) ∙ h .written
 
-  sent : Translated p form (file .names) fit (length out) (h .size)
-  sent = translated-only p form (file .names) fit (length out) (h .size) written
+  sent : Translated p form file-names fit (length out) (h .size)
+  sent = translated-only p form file-names fit (length out) (h .size) written
 
   kind : p .kind ≡ Preference
   kind = sent .kind
 
-  delivered-is : delivered h ≡ translationText p (file .names)
+  delivered-is : delivered h ≡ translationText p file-names
   delivered-is =
-      ap₂ take (sent .size-is) (ap₂ (λ (r n : List ℕ). translateOutput r n out) rules-handed names-handed ∙ output-is p form (file .names) fit out (h .size) written)
-      ∙ front (translationText p (file .names)) out
+      ap₂ take (sent .size-is) (ap₂ (λ (r n : List ℕ). translateOutput r n out) rules-handed names-handed ∙ output-is p form file-names fit out (h .size) written)
+      ∙ front (translationText p file-names) out
 
-  plain-fit : NamesForm Plain (translated p .atoms) (translatedNames p (file .names))
-  plain-fit = plain-names p kind form (file .names) (subst (λ (c : Kind). NamesForm c (p .atoms) (file .names)) kind fit)
+  preference-fit : NamesForm Preference (p .atoms) file-names
+  preference-fit = subst (λ (c : Kind). NamesForm c (p .atoms) file-names) kind fit
 
-  read-again : (st : State) × (said (textOf (translated p) (translatedNames p (file .names))) ≡ accepted st) × (programOf st ≡ translated p) × (st .names ≡ translatedNames p (file .names))
-  read-again = write-read (translated p) (translatedNames p (file .names)) (plain-form p kind form) plain-fit (text-fits (plain-form p kind form) plain-fit)
+  plain-fit : NamesForm Plain (translated p .atoms) (translatedNames p file-names)
+  plain-fit = plain-names p kind form file-names preference-fit
 
-  abbrev plain : State
-  plain = read-again .0
-
-  plain-said : said (delivered h) ≡ accepted plain
+  plain-said : said (delivered h) ≡ accepted (translated p) (translatedNames p file-names)
   unfolding translationText
-  plain-said = ap said delivered-is ∙ read-again .1
-
-  program : programOf plain ≡ translated p
-  program = read-again .2
-
-  atoms-are : length (plain .names) ≡ translated p .atoms
-  atoms-are = ap (λ (q : Program). q .atoms) program
-
-  rules-are : plain .program-rules ≡ translated p .rules
-  rules-are = ap (λ (q : Program). q .rules) program
+  plain-said = ap said delivered-is ∙ write-read (translated p) (translatedNames p file-names) (plain-form p kind form) plain-fit
 
   pub demand3 : Demand3 text (delivered h)
   demand3 = record {
-    file = file;
-    plain = plain;
-    file-read = reads-as text file (read-as .lines);
-    plain-read = reads-as (delivered h) plain plain-said;
+    file = p;
+    names = file-names;
+    plain = translated p;
+    plain-names = translatedNames p file-names;
+    file-read = reads-as text p file-names (read-as .lines);
+    plain-read = reads-as (delivered h) (translated p) (translatedNames p file-names) plain-said;
     file-kind = kind;
-    plain-kind = ap (λ (q : Program). q .kind) program;
+    plain-kind = refl;
     steps = delivered-is;
-    program = program;
-    names = read-again .3;
-    own-names = ap (take (length (file .names))) (read-again .3) ∙ file-names p kind form (file .names) (subst (λ (c : Kind). NamesForm c (p .atoms) (file .names)) kind fit);
-    paired = λ s l. rw (atoms-are, rules-are) (paired p kind form s l);
-    only-one = λ t u lt lu st su e. only-one p kind form t u (rw atoms-are at lt) (rw atoms-are at lu) (rw rules-are at st) (rw rules-are at su) e;
-    atoms = atoms-are ∙ atoms-sum p kind form;
-    rules = ap length rules-are ∙ rules-sum p kind form;
-    places = ap (λ r. sum occurrences r) rules-are ∙ occurrences-sum p kind form;
+    program = refl;
+    atom-names = refl;
+    own-names = ap (λ (n : ℕ). take n (translatedNames p file-names)) (fit .count) ∙ names-kept p kind form file-names preference-fit;
+    paired = λ s l. rw (fit .count, plain-fit .count) (paired p kind form s (rw (fit .count) at l));
+    only-one = λ t u lt lu st su e. only-one p kind form t u (rw (plain-fit .count) at lt) (rw (plain-fit .count) at lu) st su (rw (fit .count) at e);
+    atoms = plain-fit .count ∙ atoms-sum p kind form;
+    rules = rules-sum p kind form;
+    places = occurrences-sum p kind form;
   }
 
 pub demand-3 : Demand3Holds

@@ -13,8 +13,7 @@ use Rattle.rules.specs.Preferred.{Preferred}
 use Rattle.writer.specs.declared.Written.the-variants.{Text}
 use Rattle.delivery.specs.ReadsAs.{ReadsAs}
 use Rattle.delivery.specs.declared.answers.Read.the-variants.{Accepted}
-use Rattle.lines.specs.Faults.{State}
-use Rattle.lines.specs.Said.{accepted, programOf}
+use Rattle.stores.specs.Program.{Program}
 use Rattle.delivery.specs.Answers.{readAnswer, readRules, readNames}
 use Rattle.pairing.specs.Translated.{translated, translatedNames, numbers, atomsSum, rulesSum, occurrencesSum}
 use Rattle.translation.specs.Answers.{translationText, translateAnswer, translateOutput}
@@ -33,29 +32,31 @@ delivered {text} {rules} {names} {out} h =
     take (h .size) (translateOutput (take (h .words) (readRules text rules names)) (take (h .bytes) (readNames text rules names)) out)
 
 pub record Demand3 (text plain-text : List ℕ) : Type 0 where
-  -- the lines of the two texts
-  pub file : State
-  pub plain : State
-  pub file-read : ReadsAs text file
-  pub plain-read : ReadsAs plain-text plain
+  -- what the lines of the two texts say
+  pub file : Program
+  pub names : List (List ℕ)
+  pub plain : Program
+  pub plain-names : List (List ℕ)
+  pub file-read : ReadsAs text file names
+  pub plain-read : ReadsAs plain-text plain plain-names
   pub file-kind : file .kind ≡ Preference
   pub plain-kind : plain .kind ≡ Plain
   -- the delivered text is the one that the ten steps give
-  pub steps : plain-text ≡ translationText (programOf file) (file .names)
-  pub program : programOf plain ≡ translated (programOf file)
-  pub names : plain .names ≡ translatedNames (programOf file) (file .names)
+  pub steps : plain-text ≡ translationText file names
+  pub program : plain ≡ translated file
+  pub atom-names : plain-names ≡ translatedNames file names
   -- the members below n bear the file's names in the file's order
-  pub own-names : take (length (file .names)) (plain .names) ≡ file .names
+  pub own-names : take (length names) plain-names ≡ names
   -- preferred states and stable models pair one to one by cutting down
-  pub paired : (s : ℕ) → s < 2 ^ length (file .names)
-      → Preferred (file .words) (file .program-rules) s
-      ↔ ((t : ℕ) × (t < 2 ^ length (plain .names)) × Stable (plain .program-rules) t × (cut (length (file .names)) t ≡ s))
-  pub only-one : (t u : ℕ) → t < 2 ^ length (plain .names) → u < 2 ^ length (plain .names) → Stable (plain .program-rules) t → Stable (plain .program-rules) u
-      → cut (length (file .names)) t ≡ cut (length (file .names)) u → t ≡ u
+  pub paired : (s : ℕ) → s < 2 ^ length names
+      → Preferred (file .words) (file .rules) s
+      ↔ ((t : ℕ) × (t < 2 ^ length plain-names) × Stable (plain .rules) t × (cut (length names) t ≡ s))
+  pub only-one : (t u : ℕ) → t < 2 ^ length plain-names → u < 2 ^ length plain-names → Stable (plain .rules) t → Stable (plain .rules) u
+      → cut (length names) t ≡ cut (length names) u → t ≡ u
   -- the three sums
-  pub atoms : length (plain .names) ≡ atomsSum (numbers (programOf file))
-  pub rules : length (plain .program-rules) ≡ rulesSum (numbers (programOf file))
-  pub places : sum occurrences (plain .program-rules) ≡ occurrencesSum (numbers (programOf file))
+  pub atoms : length plain-names ≡ atomsSum (numbers file)
+  pub rules : length (plain .rules) ≡ rulesSum (numbers file)
+  pub places : sum occurrences (plain .rules) ≡ occurrencesSum (numbers file)
 
 abbrev pub Demand3Holds : Type 0
 Demand3Holds = (text rules names out : List ℕ) (h : Handed text rules names out) → Demand3 text (delivered h)
