@@ -3,6 +3,7 @@ use Prim.Native.Nat.{ℕ, zero, suc, _+_}
 use mathlib.Core.List.{List, [], _∷_, _++_}
 use mathlib.Core.Bool.{Bool, true, false, _&&_, _||_}
 use mathlib.Core.Logic.{_⊎_, _≢_}
+use lib.ListN.{length, drop}
 
 module _ {A : Type 0} where
   abbrev pub All : (A → Type 0) → List A → Type 0
@@ -51,3 +52,7 @@ flat f (x ∷ xs) = f x ++ flat f xs
 abbrev pub from : ℕ → ℕ → List ℕ
 from s zero = []
 from s (suc c) = s ∷ from (suc s) c
+
+-- what is written stands at the front; the entries past it keep their content
+abbrev pub over : List ℕ → List ℕ → List ℕ
+over w before = w ++ drop (length w) before
