@@ -5,6 +5,7 @@ use mathlib.Core.List.{List, [], _∷_, map}
 use native.Mathlib.Omega.{arith}
 use lib.Pow.{pow-lt, pow-pos}
 use lib.Bits.{or-lt}
+use lib.Count.{ones}
 use lib.ListN.{length, take, length-take, length-map}
 use Rattle.kinds.specs.Limits.{classLimit}
 use Rattle.kinds.specs.declared.limits.Kind.{Kind}
@@ -17,7 +18,8 @@ use Rattle.stores.specs.Program.{Program, ClassesForm, RuleForm, NotForm}
 use Rattle.walks.specs.Walk.{capped, preferredNeeds, preferredVerdict, candidates, firstState, cappedNext, nextVerdict}
 use Rattle.walks.proofs.Order.{candidates-from}
 use Rattle.walks.specs.declared.answers.Verdict.{Verdict}
-use Rattle.masks.specs.Masks.{maskOf, careOf, wantOf, classMasks, preferredM}
+use Rattle.walks.specs.declared.answers.NextState.{NextState}
+use Rattle.masks.specs.Masks.{maskOf, careOf, wantOf, classMasks, preferredWalkM, preferredM}
 use Rattle.masks.specs.FilledMasks.{MasksOf, MasksFit, nextMasks}
 use Rattle.masks.specs.declared.masks.Sizes.{Sizes}
 use Rattle.masks.proofs.ClassMasks.{no-class}
@@ -89,3 +91,19 @@ module _ {p : Program} {cs wants ks : List ℕ} {z : Sizes} (d : MasksOf p cs wa
   next-filled start b =
       ap₂ (λ (g : ℕ → Verdict) (x : ℕ). cappedNext b (firstState g (from start (2 ^ x - start)) 0)) (fun-ext needs-are) (sym words-length)
       ∙ ap (λ (l : List ℕ). cappedNext b (firstState (preferredNeeds (p .words) (p .rules)) l 0)) (sym (candidates-from (p .words) start))
+
+-- the number of atoms is that of the free and the fixed ones
+module _ {cs wants : List ℕ} {z : Sizes} (h : MasksFit cs wants z) where
+  pub free-few : z .free + ones (z .fixed) ≤ 60
+  free-few = let e = h .free-is in let l = h .few in omega arith
+
+  pub free-room : z .fixed < 2 ^ (z .free + ones (z .fixed))
+  free-room = subst (λ (n : ℕ). z .fixed < 2 ^ n) (sym (h .free-is)) (h .fixed-fits)
+
+  module _ (ks : List ℕ) where
+    pub walk-of-atoms : {v : Verdict} (m b : ℕ) → v ≡ capped b (preferredWalkM cs wants ks (z .fixed) (z .free + ones (z .fixed)) m) → v ≡ capped b (preferredWalkM cs wants ks (z .fixed) (z .atoms) m)
+    walk-of-atoms m b e = e ∙ ap (λ (n : ℕ). capped b (preferredWalkM cs wants ks (z .fixed) n m)) (h .free-is)
+
+    pub next-of-atoms : {v : NextState} (start b : ℕ) → v ≡ cappedNext b (firstState (preferredM cs wants ks (z .fixed) (z .free + ones (z .fixed))) (from start (2 ^ z .atoms - start)) 0) → v ≡ nextMasks cs wants ks z start b
+    unfolding nextMasks
+    next-of-atoms start b e = e ∙ ap (λ (n : ℕ). cappedNext b (firstState (preferredM cs wants ks (z .fixed) n) (from start (2 ^ z .atoms - start)) 0)) (h .free-is)
