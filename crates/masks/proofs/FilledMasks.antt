@@ -104,6 +104,6 @@ module _ {cs wants : List ℕ} {z : Sizes} (h : MasksFit cs wants z) where
     pub walk-of-atoms : {v : Verdict} (m b : ℕ) → v ≡ capped b (preferredWalkM cs wants ks (z .fixed) (z .free + ones (z .fixed)) m) → v ≡ capped b (preferredWalkM cs wants ks (z .fixed) (z .atoms) m)
     walk-of-atoms m b e = e ∙ ap (λ (n : ℕ). capped b (preferredWalkM cs wants ks (z .fixed) n m)) (h .free-is)
 
-    pub next-of-atoms : {v : NextState} (start b : ℕ) → v ≡ cappedNext b (firstState (preferredM cs wants ks (z .fixed) (z .free + ones (z .fixed))) (from start (2 ^ z .atoms - start)) 0) → v ≡ nextMasks cs wants ks z start b
+    pub next-of-atoms : {v : NextState} (top start b : ℕ) → top ≡ 2 ^ z .atoms → v ≡ cappedNext b (firstState (preferredM cs wants ks (z .fixed) (z .free + ones (z .fixed))) (from start (top - start)) 0) → v ≡ nextMasks cs wants ks z start b
     unfolding nextMasks
-    next-of-atoms start b e = e ∙ ap (λ (n : ℕ). cappedNext b (firstState (preferredM cs wants ks (z .fixed) n) (from start (2 ^ z .atoms - start)) 0)) (h .free-is)
+    next-of-atoms top start b t e = e ∙ ap₂ (λ (n m : ℕ). cappedNext b (firstState (preferredM cs wants ks (z .fixed) n) (from start (m - start)) 0)) (h .free-is) t
