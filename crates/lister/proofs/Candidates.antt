@@ -16,7 +16,7 @@ use Rattle.walks.specs.declared.answers.NextState.{NextState}
 use Rattle.walks.specs.declared.answers.NextState.the-variants.{State, Nothing, Spent as NextSpent}
 use Rattle.walks.proofs.answers.NextState.{the-type}
 use Rattle.walks.proofs.Searches.{Answered, unitsOf, capped-same, capped-spent, never-refused}
-use Rattle.walks.proofs.Listing.{NextAnswered, nextUnits, next-within, next-over, next-same, first-answered}
+use Rattle.walks.proofs.NextStates.{NextAnswered, nextUnits, next-within, next-over, next-same, first-answered}
 
 -- the units of a candidate alone
 alone-units : (v : Verdict) (s u : ℕ) → Answered v → nextUnits (after v s u Nothing) ≡ suc u + unitsOf v
@@ -132,7 +132,7 @@ module _ (verdict : ℕ → Verdict) (answered : (s : ℕ) → Answered (verdict
     later w = firstState verdict (from (suc s) (top - suc s)) w
 
     later-answered : (w : ℕ) → NextAnswered (later w)
-    later-answered w = first-answered verdict (λ x. (u : ℕ) × (verdict x ≡ Yes u)) answered (λ x. (λ h. h, λ h. h)) (suc s) (top - suc s) w
+    later-answered w = first-answered verdict (λ x. (u : ℕ) × (verdict x ≡ Yes u)) answered (λ x. (λ h. h, λ h. h)) (from (suc s) (top - suc s)) w
 
     module _ (l : s < top) (r : NextState) (q : r ≡ cappedNext budget (after (verdict s) s units Nothing)) where
       pub scan-goes-on : (w : ℕ) → r ≡ Nothing w → Scanning (s + 1) w

@@ -3,23 +3,22 @@ use kinds::limits::Kind;
 use kinds::limits::Preference;
 use masks::guard::Guard;
 use masks::guard::check_call;
-use masks::masks::fill_classes;
-use masks::masks::fill_rules;
+use masks::masks::Sizes;
+use masks::masks::fill_masks;
 use masks::masks::first_broken;
-use masks::masks::wide;
 use preferred_verdict::preferred::preferred_walk;
 use walks::answers::NextState;
 use walks::answers::Verdict;
 ghost use mathlib.Core.Path.{_≡_};
-ghost use Prim.Native.Nat.{_+_, _-_, _<_, _≤_, _^_};
+ghost use Prim.Native.Nat.{_+_, _<_, _≤_, _^_};
 ghost use lib.Count.{ones};
 ghost use lib.ListN.{length};
 ghost use Rattle.kinds.specs.Limits.{walkAtoms};
 ghost use Rattle.kinds.specs.declared.limits.Kind.the-variants.{Preference as KindPreference};
 ghost use Rattle.stores.specs.RuleStore.{StoreOf, decode};
-ghost use Rattle.rules.specs.Lists.{from};
-ghost use Rattle.walks.specs.Walk.{after, firstState, cappedNext, nextVerdict};
+ghost use Rattle.walks.specs.Walk.{after, cappedNext, nextVerdict};
 ghost use Rattle.masks.specs.Masks.{preferredM};
+ghost use Rattle.masks.specs.FilledMasks.{MasksFit, nextMasks};
 ghost use Rattle.walks.specs.declared.answers.NextState.the-variants.{Nothing};
 ghost use Rattle.walks.specs.Answers.{nextAnswer};
 
@@ -64,24 +63,21 @@ fn candidate(
 }
 
 // The next state over masks; `units` never passes the budget.
-fn next_masks(
+pub fn next_masks(
     care: &[u64],
     want: &[u64],
     classes: &[u64],
-    fixed: u64,
-    free: u32,
-    n: u32,
+    sizes: Sizes,
     start: u64,
     budget: u64,
 ) -> NextState
-    requires { ⌜ length (now want) ≡ length (now care) ⌝ }
-    requires { ⌜ free + ones fixed ≤ 60 ⌝ }
-    requires { ⌜ fixed < 2 ^ (free + ones fixed) ⌝ }
-    requires { ⌜ n ≤ 60 ⌝ }
-    requires { ⌜ start ≤ 2 ^ n ⌝ }
-    ensures { λ r. ⌜ r ≡ cappedNext budget (firstState (preferredM (now (care .entry)) (now (want .entry)) (now (classes .entry)) fixed (free + ones fixed)) (from start (2 ^ n - start)) 0) ⌝ }
+    requires { ⌜ MasksFit (now care) (now want) sizes ⌝ }
+    requires { ⌜ start ≤ 2 ^ sizes .atoms ⌝ }
+    ensures { λ r. ⌜ r ≡ nextMasks (now (care .entry)) (now (want .entry)) (now (classes .entry)) sizes start budget ⌝ }
 {
-    let end = 1u64 << n;
+    let fixed = sizes.fixed;
+    let free = sizes.free;
+    let end = 1u64 << sizes.atoms;
     let mut s = start;
     let mut units: u64 = 0;
     while s < end {
@@ -103,23 +99,17 @@ fn next_of(words: &[u16], start: u64, budget: u64) -> NextState
     requires { ⌜ start ≤ 2 ^ decode (now words) .atoms ⌝ }
     ensures { λ r. ⌜ r ≡ nextVerdict (decode (now (words .entry)) .words) (decode (now (words .entry)) .rules) start budget ⌝ }
 {
-    let n = wide(words[1]);
-    let k = wide(words[2]);
-    let rules = wide(words[3]);
-    let first = 4 + n;
     let mut classes = [0u64; Preference::CLASSES];
     let mut care = [0u64; Preference::RULES];
     let mut want = [0u64; Preference::RULES];
-    let fixed = fill_classes(words, n, &mut classes);
-    fill_rules(words, first, rules, 0, &mut care, &mut want);
-    let free = n as u32 - u64::count_ones(fixed);
+    let sizes = fill_masks(words, &mut care, &mut want, &mut classes);
+    let rules = sizes.rules;
+    let k = sizes.classes;
     next_masks(
         &care[..rules],
         &want[..rules],
         &classes[..k],
-        fixed,
-        free,
-        n as u32,
+        sizes,
         start,
         budget,
     )

@@ -1,5 +1,5 @@
 -- Filling the masks of the classes, one atom after another.
-use Prim.Native.Nat.{ℕ, zero, suc, _+_, _-_, _*_, _%_, _^_, _≤_, _<_}
+use Prim.Native.Nat.{ℕ, zero, suc, _+_, _-_, _^_, _≤_, _<_}
 use mathlib.Core.Path.{_≡_, refl, sym, ap, ap₂, _∙_, subst}
 use mathlib.Core.Bool.{Bool, true, false, cond, _&&_}
 use mathlib.Core.List.{List, [], _∷_, _++_, map}
@@ -7,8 +7,7 @@ use native.Mathlib.Decide.{ℕ-discrete}
 use native.Mathlib.Omega.{arith}
 use lib.Dec.{eqb, leb}
 use lib.Bits.{bitOr, or-zero-l, or-zero-r}
-use lib.ListN.{length, getD, take, drop, set, length-drop, replicate, length-map}
-use lib.Seq.{getD-take, getD-drop, length-take-le}
+use lib.ListN.{length, getD, set, replicate, length-map}
 use borrow.Author.Tests.{ne-eqb, eq-eqb, eqb-true, leb-true, le-leb}
 use Rattle.kinds.specs.Limits.{classLimit, varying, fixed}
 use Rattle.rules.specs.Lists.{keep, filter, from}
@@ -18,7 +17,7 @@ use Rattle.stores.specs.Program.{roleOf}
 use Rattle.stores.specs.declared.roles.Role.{Role}
 use Rattle.stores.specs.declared.roles.Role.the-variants.{Minimised, Varying, Fixed, Unknown}
 use Rattle.masks.specs.Masks.{maskOf, classMasks, noted}
-use Rattle.masks.proofs.MaskLoops.{or-assoc, shifted}
+use Rattle.masks.proofs.MaskLoops.{or-assoc}
 
 -- what the role tells of the word
 
@@ -167,46 +166,36 @@ module _ (f g : ℕ → ℕ) (w bit : ℕ) (law : (c : ℕ) → g c ≡ cond (eq
 
 -- what the loop keeps
 
-module _ (words : List ℕ) (n : ℕ) where
-  abbrev pub classWords : List ℕ
-  classWords = take n (drop 4 words)
-
+module _ (words : List ℕ) where
   pub record Noting (ks : List ℕ) (fixedMask i : ℕ) : Type 0 where
-    pub inside : i ≤ n
-    pub classes : ks ≡ map (λ c. maskOf (below classWords i c)) (from 1 classLimit)
-    pub fixed-is : fixedMask ≡ maskOf (below classWords i fixed)
+    pub inside : i ≤ length words
+    pub classes : ks ≡ map (λ c. maskOf (below words i c)) (from 1 classLimit)
+    pub fixed-is : fixedMask ≡ maskOf (below words i fixed)
 
   pub notes-begin : (ks : List ℕ) → ks ≡ replicate classLimit 0 → Noting ks 0 0
   unfolding maskOf
   notes-begin ks e = record { inside = omega arith; classes = e; fixed-is = refl }
 
-  pub notes-length : (ks : List ℕ) (x i : ℕ) → Noting ks x i → length ks ≡ classLimit
-  notes-length ks x i h = ap length (h .classes) ∙ length-map (from 1 classLimit) (λ c. maskOf (below classWords i c))
+  module _ (ks : List ℕ) (x i : ℕ) (h : Noting ks x i) where
+    pub notes-length : length ks ≡ classLimit
+    notes-length = ap length (h .classes) ∙ length-map (from 1 classLimit) (λ c. maskOf (below words i c))
 
-  module _ (fits : 4 + n ≤ length words) (few : n ≤ 60) where
-    word-at : (i : ℕ) → i < n → getD words (4 + i) 0 ≡ getD classWords i 0
-    word-at i l = sym (getD-take n (drop 4 words) i 0 l ∙ getD-drop 4 words i 0)
-
-    pub notes-go-on : (ks ks′ : List ℕ) (x y i : ℕ) → Noting ks x i → i < n
-        → ks′ ≡ noted (getD words (4 + i) 0) ((1 * 2 ^ i) % 2 ^ 64) ks → y ≡ cond (eqb (getD words (4 + i) 0) fixed) ((1 * 2 ^ i) % 2 ^ 64) 0 → Noting ks′ (bitOr x y) (i + 1)
-    notes-go-on ks ks′ x y i h l e q =
-        let b : (1 * 2 ^ i) % 2 ^ 64 ≡ 2 ^ i = shifted i (omega arith) in
+    pub notes-go-on : (ks′ : List ℕ) (y b : ℕ) → i < length words → b ≡ 2 ^ i
+        → ks′ ≡ noted (getD words i 0) b ks → y ≡ cond (eqb (getD words i 0) fixed) b 0 → Noting ks′ (bitOr x y) (i + 1)
+    notes-go-on ks′ y b l e p q =
         let s : suc i ≡ i + 1 = omega arith in
         subst (λ (j : ℕ). Noting ks′ (bitOr x y) j) s (record {
           inside = omega arith;
-          classes = e ∙ ap₂ (λ (w z : ℕ). noted w z ks) (word-at i l) b ∙ ap (noted (getD classWords i 0) (2 ^ i)) (h .classes)
-              ∙ noted-classes (λ c. maskOf (below classWords i c)) (λ c. maskOf (below classWords (suc i) c)) (getD classWords i 0) (2 ^ i) (mask-below classWords i);
-          fixed-is = ap₂ bitOr (h .fixed-is) (q ∙ ap₂ (λ (w z : ℕ). cond (eqb w fixed) z 0) (word-at i l) b) ∙ join (eqb (getD classWords i 0) fixed) ∙ sym (mask-below classWords i fixed);
+          classes = p ∙ ap₂ (noted (getD words i 0)) e (h .classes)
+              ∙ noted-classes (λ c. maskOf (below words i c)) (λ c. maskOf (below words (suc i) c)) (getD words i 0) (2 ^ i) (mask-below words i);
+          fixed-is = ap₂ bitOr (h .fixed-is) (q ∙ ap (λ (z : ℕ). cond (eqb (getD words i 0) fixed) z 0) e) ∙ join (eqb (getD words i 0) fixed) ∙ sym (mask-below words i fixed);
         })
       where
-        join : (p : Bool) → bitOr (maskOf (below classWords i fixed)) (cond p (2 ^ i) 0) ≡ cond p (bitOr (maskOf (below classWords i fixed)) (2 ^ i)) (maskOf (below classWords i fixed))
+        join : (p : Bool) → bitOr (maskOf (below words i fixed)) (cond p (2 ^ i) 0) ≡ cond p (bitOr (maskOf (below words i fixed)) (2 ^ i)) (maskOf (below words i fixed))
         join true = refl
-        join false = or-zero-r (maskOf (below classWords i fixed))
+        join false = or-zero-r (maskOf (below words i fixed))
 
-    pub notes-end : (ks : List ℕ) (x i : ℕ) → Noting ks x i → n ≤ i → (ks ≡ classMasks classWords 1 classLimit) × (x ≡ maskOf (ofClass classWords fixed))
-    notes-end ks x i h l =
-        let e : i ≡ length classWords = ends (h .inside) in
-        (h .classes ∙ ap (λ (j : ℕ). map (λ c. maskOf (below classWords j c)) (from 1 classLimit)) e, h .fixed-is ∙ ap (λ (j : ℕ). maskOf (below classWords j fixed)) e)
-      where
-        ends : i ≤ n → i ≡ length classWords
-        ends k = let d : length (drop 4 words) ≡ length words - 4 = length-drop 4 words in let t : length (take n (drop 4 words)) ≡ n = length-take-le n (drop 4 words) (omega arith) in omega arith
+    pub notes-end : length words ≤ i → (ks ≡ classMasks words 1 classLimit) × (x ≡ maskOf (ofClass words fixed))
+    notes-end l =
+        let e : i ≡ length words = omega (arith, h .inside) in
+        (h .classes ∙ ap (λ (j : ℕ). map (λ c. maskOf (below words j c)) (from 1 classLimit)) e, h .fixed-is ∙ ap (λ (j : ℕ). maskOf (below words j fixed)) e)

@@ -15,11 +15,10 @@ use Rattle.kinds.specs.declared.limits.Kind.{Kind}
 use Rattle.kinds.specs.declared.limits.Kind.the-variants.{Plain, Preference}
 use Rattle.kinds.specs.declared.refusals.Refusal.{Refusal}
 use Rattle.kinds.specs.declared.refusals.Refusal.the-variants.{RuleStore as NoStore, TooManyAtoms, SetNumber, Budget}
-use Rattle.stores.specs.RuleStore.{StoreOf, decode, ruleStore}
+use Rattle.stores.specs.RuleStore.{StoreOf, decode, ruleStore, isOf}
 use Rattle.stores.specs.declared.rule_store.RuleStore.{RuleStore}
 use Rattle.stores.specs.declared.rule_store.RuleStore.the-variants.{Of, Refused as StoreRefused}
 use Rattle.stores.proofs.RuleStores.{of-kind}
-use Rattle.stores.specs.RuleStore.{isOf}
 use Rattle.walks.specs.Answers.{guarded}
 use Rattle.masks.specs.declared.guard.Guard.{Guard}
 use Rattle.masks.specs.declared.guard.Guard.the-variants.{Passed, Refused}

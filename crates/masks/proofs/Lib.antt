@@ -5,10 +5,11 @@ pub mod MaskBits
 pub mod RuleMasks
 pub mod ClassMasks
 pub mod MaskLoops
-pub mod RowLaws
+pub mod RulesFill
 pub mod ClassFill
 pub mod Subsets
 pub mod Steps
 pub mod VerdictMasks
 pub mod CheckedStore
+pub mod FilledMasks
 pub mod Guarding

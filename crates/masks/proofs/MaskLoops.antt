@@ -1,7 +1,7 @@
 -- What the loops over masks keep.
 use Prim.Native.Nat.{ℕ, suc, _+_, _-_, _*_, _%_, _^_, _≤_, _<_, max}
-use mathlib.Core.Path.{_≡_, refl, sym, ap, ap₂, _∙_}
-use mathlib.Core.Bool.{Bool, false, not, cond, _&&_}
+use mathlib.Core.Path.{_≡_, refl, sym, ap, ap₂, _∙_, subst}
+use mathlib.Core.Bool.{Bool, false, not, cond}
 use mathlib.Core.List.{List, [], _∷_, _++_, append-nil}
 use native.Mathlib.Nat.{add-zero, sub-zero, mod-eq-of-lt, one-mul}
 use native.Mathlib.Numerals.{add-one}
@@ -12,9 +12,11 @@ use lib.Bits.{bitAnd, bitOr, or-zero-l, or-zero-r}
 use lib.ListN.{length, getD, take, drop, set, length-set, drop-of-length-le}
 use lib.Seq.{drop-cons, drop-drop, getD-drop, drop-set-lt, take-suc-set, append-snoc}
 use borrow.Author.Tests.{ne-eqb, eq-eqb}
-use Rattle.rules.specs.Lists.{keep}
+use Rattle.kinds.specs.Limits.{walkAtoms}
+use Rattle.rules.specs.Lists.{All, keep}
+use Rattle.rules.proofs.Lists.{all-at}
 use Rattle.rules.specs.Rules.{countIf}
-use Rattle.masks.specs.Masks.{maskOf, live, firstM, agreeM, withinM, sparesM, gatherCare, gatherWant}
+use Rattle.masks.specs.Masks.{maskOf, firstM, agreeM, withinM, sparesM, gatherCare, gatherWant}
 use Rattle.masks.proofs.Bits.{bit, bit-or, ext}
 
 -- 1 << n in a u64
@@ -37,41 +39,23 @@ or-assoc a b c = ext _ _ (λ i.
     max-assoc : (x y z : ℕ) → max (max x y) z ≡ max x (max y z)
     max-assoc x y z = omega arith
 
-module _ (ws : List ℕ) (start count : ℕ) (inside : start + count ≤ length ws) where
-  part-cons : (i : ℕ) → i < count → take (count - i) (drop (start + i) ws) ≡ getD ws (start + i) 0 ∷ take (count - (i + 1)) (drop (start + (i + 1)) ws)
-  part-cons i h =
-      let e : count - i ≡ suc (count - (i + 1)) = omega arith in
-      let l : start + i < length ws = omega arith in
-      let n : suc (start + i) ≡ start + (i + 1) = omega arith in
-      ap₂ take e (drop-cons ws (start + i) 0 l) ∙ ap (λ (k : ℕ). getD ws (start + i) 0 ∷ take (count - (i + 1)) (drop k ws)) n
+module _ (xs : List ℕ) where
+  pub atom-below : All (λ a. a < walkAtoms) xs → (i x : ℕ) → i < length xs → x ≡ getD xs i 0 → x < walkAtoms
+  atom-below h i x l e = subst (λ (y : ℕ). y < walkAtoms) (sym e) (all-at (λ a. a < walkAtoms) 0 xs h i l)
 
-  pub mask-first : maskOf (take count (drop start ws)) ≡ bitOr 0 (maskOf (take (count - 0) (drop (start + 0) ws)))
-  mask-first = sym (or-zero-l (maskOf (take (count - 0) (drop (start + 0) ws))) ∙ ap₂ (λ (k j : ℕ). maskOf (take k (drop j ws))) (sub-zero count) (add-zero start))
+  pub mask-first : maskOf xs ≡ bitOr 0 (maskOf xs)
+  mask-first = sym (or-zero-l (maskOf xs))
 
-  pub mask-more : (m i : ℕ) → i < count → getD ws (start + i) 0 < 60 → maskOf (take count (drop start ws)) ≡ bitOr m (maskOf (take (count - i) (drop (start + i) ws)))
-      → maskOf (take count (drop start ws)) ≡ bitOr (bitOr m ((1 * 2 ^ getD ws (start + i) 0) % 2 ^ 64)) (maskOf (take (count - (i + 1)) (drop (start + (i + 1)) ws)))
+  pub mask-more : (m i b : ℕ) → i < length xs → b ≡ 2 ^ getD xs i 0 → maskOf xs ≡ bitOr m (maskOf (drop i xs)) → maskOf xs ≡ bitOr (bitOr m b) (maskOf (drop (i + 1) xs))
   unfolding maskOf
-  mask-more m i h g e =
-      let s : (1 * 2 ^ getD ws (start + i) 0) % 2 ^ 64 ≡ 2 ^ getD ws (start + i) 0 = shifted (getD ws (start + i) 0) (omega arith) in
-      e ∙ ap (λ (l : List ℕ). bitOr m (maskOf l)) (part-cons i h)
-      ∙ sym (or-assoc m (2 ^ getD ws (start + i) 0) (maskOf (take (count - (i + 1)) (drop (start + (i + 1)) ws))))
-      ∙ ap (λ (z : ℕ). bitOr (bitOr m z) (maskOf (take (count - (i + 1)) (drop (start + (i + 1)) ws)))) (sym s)
+  mask-more m i b h q e =
+      e ∙ ap (λ (l : List ℕ). bitOr m (maskOf l)) (drop-cons xs i 0 h)
+      ∙ sym (or-assoc m (2 ^ getD xs i 0) (maskOf (drop (suc i) xs)))
+      ∙ ap₂ (λ (z k : ℕ). bitOr (bitOr m z) (maskOf (drop k xs))) (sym q) (sym (add-one i))
 
-  pub mask-last : (m i : ℕ) → i ≤ count → count ≤ i → maskOf (take count (drop start ws)) ≡ bitOr m (maskOf (take (count - i) (drop (start + i) ws))) → m ≡ maskOf (take count (drop start ws))
+  pub mask-last : (m i : ℕ) → length xs ≤ i → maskOf xs ≡ bitOr m (maskOf (drop i xs)) → m ≡ maskOf xs
   unfolding maskOf
-  mask-last m i h g e =
-      let z : count - i ≡ 0 = omega arith in
-      sym (e ∙ ap (λ (k : ℕ). bitOr m (maskOf (take k (drop (start + i) ws)))) z ∙ or-zero-r m)
-
--- a rule that the reduct drops, and one that it keeps
-
-pub live-dropped : (m h b n : ℕ) → (bitAnd m n ≡ 0 → ⊥) → false ≡ live m h b n
-unfolding live
-live-dropped m h b n f = ap (λ (p : Bool). p && eqb (bitAnd h b) 0) (sym (ne-eqb (bitAnd m n) 0 f))
-
-pub live-kept : (m h b n : ℕ) → bitAnd m n ≡ 0 → eqb (bitAnd h b) 0 ≡ live m h b n
-unfolding live
-live-kept m h b n e = ap (λ (p : Bool). p && eqb (bitAnd h b) 0) (sym (eq-eqb (bitAnd m n) 0 e))
+  mask-last m i h e = sym (e ∙ ap (λ (l : List ℕ). bitOr m (maskOf l)) (drop-of-length-le xs h) ∙ or-zero-r m)
 
 -- the first broken rule, one rule further
 

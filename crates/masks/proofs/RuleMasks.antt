@@ -14,7 +14,7 @@ use Rattle.rules.specs.Rules.{Rule, reduct, holds?, model?, countIf, firstBroke
 use Rattle.rules.proofs.Booleans.{stable, bool-ext, eq→eqb, T-of, T-and, T-and-l, T-and-r, T-or, T-or-out, T-not-in, T-not-out}
 use Rattle.rules.proofs.Lists.{all-imp}
 use Rattle.rules.proofs.Rules.{all-in, any-in, all-out, holds-law, model-law, Asks, reduct→asks, asks→reduct, no-broken-model, model-no-broken}
-use Rattle.masks.specs.Masks.{maskOf, live, careOf, wantOf, firstM, modelM}
+use Rattle.masks.specs.Masks.{maskOf, asked, careOf, wantOf, firstM, modelM}
 use Rattle.masks.proofs.MaskBits.{has-and, has-or, every-mask, some-mask, same-members, disjoint}
 
 -- one test for a body that is in and a head that is out, where the two have no atom in common
@@ -50,20 +50,19 @@ module _ (m s : ℕ) (r : Rule ℕ) where
   abbrev Broken : Type 0
   Broken = T (not (some (has m) (r .nots))) × T (every (has s) (r .body)) × T (not (some (has s) (r .head)))
 
-  alive : Broken → T (live m (maskOf (r .head)) (maskOf (r .body)) (maskOf (r .nots)))
-  unfolding live
+  alive : Broken → T (asked m r)
   alive b = T-and (eqb (bitAnd m (maskOf (r .nots))) 0) (eqb (bitAnd (maskOf (r .head)) (maskOf (r .body))) 0)
       (disjoint m (maskOf (r .nots)) .1 (some-mask (has m) (r .nots) .0 (b .0)))
       (disjoint (maskOf (r .head)) (maskOf (r .body)) .1 (λ i t k. some-mask (has s) (r .head) .0 (b .2) i k (every-mask (has s) (r .body) .0 (b .1) i t)))
 
   pub broken-law : T (eqb (bitAnd s (careOf m r)) (wantOf m r)) ↔ Broken
-  unfolding careOf wantOf live
-  broken-law = step (live m (maskOf (r .head)) (maskOf (r .body)) (maskOf (r .nots))) refl
+  unfolding careOf wantOf
+  broken-law = step (asked m r) refl
     where
-      step : (b : Bool) → live m (maskOf (r .head)) (maskOf (r .body)) (maskOf (r .nots)) ≡ b
+      step : (b : Bool) → asked m r ≡ b
           → T (eqb (bitAnd s (cond b (bitOr (maskOf (r .head)) (maskOf (r .body))) 0)) (cond b (maskOf (r .body)) 1)) ↔ Broken
       step true e =
-          let l : T (live m (maskOf (r .head)) (maskOf (r .body)) (maskOf (r .nots))) = T-of (sym e) tt in
+          let l : T (asked m r) = T-of (sym e) tt in
           let q = one-test s (maskOf (r .head)) (maskOf (r .body)) (T-and-r (eqb (bitAnd m (maskOf (r .nots))) 0) (eqb (bitAnd (maskOf (r .head)) (maskOf (r .body))) 0) l) in (
             λ t. let f = q .0 t in (
               some-mask (has m) (r .nots) .1 (disjoint m (maskOf (r .nots)) .0 (T-and-l (eqb (bitAnd m (maskOf (r .nots))) 0) (eqb (bitAnd (maskOf (r .head)) (maskOf (r .body))) 0) l)),

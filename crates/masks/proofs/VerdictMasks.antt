@@ -14,12 +14,13 @@ use Rattle.rules.specs.Rules.{Rule, reduct, model?, countIf}
 use Rattle.rules.specs.Stable.{subset?}
 use Rattle.rules.specs.Preferred.{ofClass, agree?, spares?, beats?}
 use Rattle.rules.proofs.Booleans.{bool-ext, T-of, T-and-r}
-use Rattle.rules.proofs.Lists.{all-filter, all-from}
+use Rattle.rules.proofs.Lists.{all-filter}
 use Rattle.rules.proofs.Stable.{subset-law}
-use Rattle.walks.specs.Walk.{search, preferredWalk, stableWalk, preferredNeeds}
+use Rattle.walks.specs.Walk.{search, walkOrder, preferredWalk, stableWalk, preferredNeeds}
 use Rattle.masks.specs.Masks.{maskOf, careOf, wantOf, firstM, modelM, classMasks, beatsM, preferredWalkM, preferredM, subsetM, stableWalkM, gatherCare, gatherWant}
 use Rattle.walks.specs.declared.answers.Verdict.{Verdict}
 use Rattle.walks.specs.declared.answers.Verdict.the-variants.{Beaten, Broken}
+use Rattle.walks.proofs.Order.{walk-order-from, all-walk-order, stable-walk-from}
 use Rattle.masks.proofs.MaskBits.{has-and, inside}
 use Rattle.masks.proofs.RuleMasks.{reduct-mask, first-mask, model-mask, empty-nots}
 use Rattle.masks.proofs.ClassMasks.{agree-mask, spares-first}
@@ -49,10 +50,10 @@ module _ (ws : List ℕ) (rs : List (Rule ℕ)) (k : ℕ) (few : k ≤ classLimi
   unfolding preferredWalkM preferredWalk
   walk-mask m =
       let b : ℕ → Bool = beatsM (map (careOf 0) rs) (map (wantOf 0) rs) (classMasks ws 1 k) m in
-      let l : List ℕ = from 0 (2 ^ length ws) in
-      ap (λ (t : ℕ → Bool). search b (filter t l) 0) (fun-ext (λ s. sym (agree-mask (ofClass ws fixed) s m)))
+      let l : List ℕ = walkOrder (length ws) in
+      ap₂ (λ (t : ℕ → Bool) (o : List ℕ). search b (filter t o) 0) (fun-ext (λ s. sym (agree-mask (ofClass ws fixed) s m))) (sym (walk-order-from (length ws)))
       ∙ search-same b (λ s. beats? ws rs s m) (filter (λ s. agree? (ofClass ws fixed) s m) l) 0
-      (all-filter (λ s. b s ≡ beats? ws rs s m) (λ s. agree? (ofClass ws fixed) s m) l (all-from (λ s. T (agree? (ofClass ws fixed) s m) → b s ≡ beats? ws rs s m) 0 (2 ^ length ws) (λ s a c t. beats-mask m s t)))
+      (all-filter (λ s. b s ≡ beats? ws rs s m) (λ s. agree? (ofClass ws fixed) s m) l (all-walk-order (length ws) (λ s. T (agree? (ofClass ws fixed) s m) → b s ≡ beats? ws rs s m) .1 (λ s a t. beats-mask m s t)))
 
   pub preferred-mask : (m : ℕ) → preferredM (map (careOf 0) rs) (map (wantOf 0) rs) (classMasks ws 1 k) (maskOf (ofClass ws fixed)) (length ws) m ≡ preferredNeeds ws rs m
   unfolding preferredM preferredNeeds
@@ -66,10 +67,11 @@ module _ (ws : List ℕ) (rs : List (Rule ℕ)) (k : ℕ) (few : k ≤ classLimi
 subset-mask : (s m : ℕ) → subset? s m ≡ subsetM m s
 subset-mask s m = bool-ext (subset? s m) (subsetM m s) (λ h. inside s m .1 (subset-law s m .0 h)) (λ h. subset-law s m .1 (inside s m .0 h))
 
-pub stable-walk-mask : (rs : List (Rule ℕ)) (m : ℕ) → stableWalkM (map (careOf m) rs) (map (wantOf m) rs) m ≡ search (λ s. model? (reduct rs (has m)) (has s)) (stableWalk m) 0
-unfolding stableWalkM stableWalk
-stable-walk-mask rs m =
+pub stable-walk-mask : (n : ℕ) (rs : List (Rule ℕ)) (m : ℕ) → m < 2 ^ n → stableWalkM (map (careOf m) rs) (map (wantOf m) rs) m ≡ search (λ s. model? (reduct rs (has m)) (has s)) (stableWalk n m) 0
+unfolding stableWalkM
+stable-walk-mask n rs m l =
     ap₂ (λ (b t : ℕ → Bool). search b (filter t (from 0 m)) 0) (fun-ext (λ s. reduct-mask m s rs)) (fun-ext (λ s. sym (subset-mask s m)))
+    ∙ ap (λ (w : List ℕ). search (λ s. model? (reduct rs (has m)) (has s)) w 0) (sym (stable-walk-from n m l))
 
 -- rules that no set breaks may be left out
 module _ (s : ℕ) where

@@ -1,10 +1,10 @@
 -- The verdicts over masks: a list of atoms is the number of its set, and a rule is two masks.
 use Prim.Native.Nat.{ℕ, _-_, _^_}
 use mathlib.Core.Bool.{Bool, false, not, cond, _&&_}
-use mathlib.Core.List.{List, [], _∷_, _++_, map}
+use mathlib.Core.List.{List, [], _∷_, map}
 use lib.Dec.{eqb, leb}
 use lib.Bits.{bitAnd, bitOr, bitXor}
-use lib.ListN.{length, getD, set, drop}
+use lib.ListN.{length, getD, set}
 use Rattle.kinds.specs.Limits.{classLimit}
 use Rattle.rules.specs.Lists.{keep, filter, from}
 use Rattle.rules.specs.Rules.{Rule, countIf}
@@ -17,20 +17,23 @@ unfoldable pub maskOf : List ℕ → ℕ
 maskOf [] = 0
 maskOf (a ∷ xs) = bitOr (2 ^ a) (maskOf xs)
 
--- the reduct by m keeps the rule, and some set breaks it
-unfoldable pub live : ℕ → ℕ → ℕ → ℕ → Bool
-live m h b n = eqb (bitAnd m n) 0 && eqb (bitAnd h b) 0
+-- the reduct by m keeps a rule whose `not` atoms are n: none of them is in m
+abbrev pub keptBy : ℕ → ℕ → Bool
+keptBy m n = eqb (bitAnd m n) 0
+
+-- some set breaks a rule with head h and body b: they have no atom in common
+abbrev pub breakable : ℕ → ℕ → Bool
+breakable h b = eqb (bitAnd h b) 0
+
+abbrev pub asked : ℕ → Rule ℕ → Bool
+asked m r = keptBy m (maskOf (r .nots)) && breakable (maskOf (r .head)) (maskOf (r .body))
 
 -- A rule of the reduct by m as two masks: it is broken at s exactly when s & care is want. Care 0 with want 1 is never broken.
 unfoldable pub careOf : ℕ → Rule ℕ → ℕ
-careOf m r = cond (live m (maskOf (r .head)) (maskOf (r .body)) (maskOf (r .nots))) (bitOr (maskOf (r .head)) (maskOf (r .body))) 0
+careOf m r = cond (asked m r) (bitOr (maskOf (r .head)) (maskOf (r .body))) 0
 
 unfoldable pub wantOf : ℕ → Rule ℕ → ℕ
-wantOf m r = cond (live m (maskOf (r .head)) (maskOf (r .body)) (maskOf (r .nots))) (maskOf (r .body)) 1
-
--- the first entries replaced
-abbrev pub filled : List ℕ → List ℕ → List ℕ
-filled d s = s ++ drop (length s) d
+wantOf m r = cond (asked m r) (maskOf (r .body)) 1
 
 -- the number of the first rule broken at s, or the number of rules
 unfoldable pub firstM : ℕ → List ℕ → List ℕ → ℕ

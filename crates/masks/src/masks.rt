@@ -1,23 +1,34 @@
 // The masks of a checked store: two for each rule, one for each class, one for the fixed atoms.
 use stores::roles::Role;
 use stores::roles::role_of;
+use stores::rule_words::rule_size;
 ghost use mathlib.Core.Path.{_≡_};
 ghost use mathlib.Core.List.{map};
 ghost use mathlib.Core.Bool.{cond};
-ghost use Prim.Native.Nat.{ℕ, _+_, _<_, _≤_, min};
+ghost use Prim.Native.Nat.{_<_, _≤_, _^_, min};
 ghost use lib.Dec.{eqb};
-ghost use lib.ListN.{length, getD, take, drop, replicate};
-ghost use Rattle.kinds.specs.Limits.{classLimit, walkAtoms, fixed as fixedWord};
+ghost use lib.ListN.{length, take, replicate};
+ghost use Rattle.kinds.specs.Limits.{classLimit, walkAtoms, fixed as fixedWord, ruleLimit};
 ghost use Rattle.rules.specs.Preferred.{ofClass};
-ghost use Rattle.stores.specs.RuleStore.{rulesFrom};
-ghost use Rattle.masks.specs.Masks.{maskOf, live, careOf, wantOf, filled, noted, classMasks, firstM, gatherCare, gatherWant};
-ghost use Rattle.masks.specs.Rows.{Row, Rows, ReadRule};
+ghost use Rattle.stores.specs.RuleStore.{rulesFrom, StoreOf, decode, ruleAt};
+ghost use Rattle.masks.specs.Masks.{maskOf, careOf, wantOf, noted, classMasks, firstM, gatherCare, gatherWant, keptBy, breakable};
+ghost use Rattle.kinds.specs.declared.limits.Kind.the-variants.{Preference as KindPreference};
+ghost use Rattle.rules.specs.Lists.{All, over};
+ghost use Rattle.stores.specs.StoredRules.{StoredRule, StoredRules};
+ghost use Rattle.masks.specs.FilledMasks.{MasksOf};
 
 pub struct RuleMasks {
     pub care: u64,
     pub want: u64,
-    // Where the next rule lies.
-    pub next: usize,
+}
+
+// How much of the masks is filled, and the mask of the fixed atoms; `free` atoms are not fixed.
+pub struct Sizes {
+    pub atoms: u32,
+    pub classes: usize,
+    pub rules: usize,
+    pub fixed: u64,
+    pub free: u32,
 }
 
 pub fn wide(x: u16) -> usize
@@ -35,84 +46,79 @@ pub fn least(a: u64, b: u64) -> u64
     b
 }
 
-// The mask of `count` atom numbers, from place `start` on.
-fn mask_of(words: &[u16], start: usize, count: usize) -> u64
-    requires { ⌜ start + count ≤ length (now words) ⌝ }
-    requires { ⌜ ((k : ℕ) → k < count → getD (now words) (start + k) 0 < 60) ⌝ }
-    ensures { λ r. ⌜ r ≡ maskOf (take count (drop start (now (words .entry)))) ⌝ }
+// The mask of one atom.
+pub fn bit_of(atom: usize) -> u64
+    requires { ⌜ atom < walkAtoms ⌝ }
+    ensures { λ r. ⌜ r ≡ 2 ^ atom ⌝ }
+{
+    1u64 << atom
+}
+
+fn mask_of(atoms: &[u16]) -> u64
+    requires { ⌜ All (λ a. a < walkAtoms) (now atoms) ⌝ }
+    ensures { λ r. ⌜ r ≡ maskOf (now (atoms .entry)) ⌝ }
 {
     let mut m: u64 = 0;
     let mut i = 0;
-    while i < count {
-        let at = start + i;
-        m |= 1u64 << words[at];
+    while i < atoms.len() {
+        m |= bit_of(wide(atoms[i]));
         i += 1;
     }
     m
 }
 
-// Whether the reduct by `of` keeps the rule and some set breaks it.
-fn is_live(of: u64, head: u64, body: u64, nots: u64) -> bool
-    ensures { λ r. ⌜ r ≡ live of head body nots ⌝ }
+// Whether the reduct by `of` keeps a rule with these `not` atoms.
+fn is_kept(of: u64, nots: u64) -> bool
+    ensures { λ r. ⌜ r ≡ keptBy of nots ⌝ }
 {
-    if of & nots != 0 {
-        return false;
-    }
+    of & nots == 0
+}
+
+// Whether some set breaks a rule with this head and body.
+fn is_breakable(head: u64, body: u64) -> bool
+    ensures { λ r. ⌜ r ≡ breakable head body ⌝ }
+{
     head & body == 0
 }
 
-// The rule at place `at`, of the reduct by `of`.
-fn read_rule(words: &[u16], at: usize, of: u64) -> RuleMasks
-    requires { ⌜ Row (now words) at ⌝ }
-    ensures { λ r. ⌜ ReadRule (now (words .entry)) of at (r .care) (r .want) (r .next) ⌝ }
+// The rule at the front, of the reduct by `of`.
+fn read_rule(words: &[u16], of: u64) -> RuleMasks
+    requires { ⌜ StoredRule walkAtoms (now words) ⌝ }
+    ensures { λ r. ⌜ (r .care ≡ careOf of (ruleAt (now (words .entry)))) × (r .want ≡ wantOf of (ruleAt (now (words .entry)))) ⌝ }
 {
-    let second = at + 1;
-    let third = at + 2;
-    let h = wide(words[at]);
-    let b = wide(words[second]);
-    let n = wide(words[third]);
-    let hs = at + 3;
-    let bs = hs + h;
-    let ns = bs + b;
-    let next = ns + n;
-    let head = mask_of(words, hs, h);
-    let body = mask_of(words, bs, b);
-    let nots = mask_of(words, ns, n);
-    if is_live(of, head, body, nots) {
-        return RuleMasks {
-            care: head | body,
-            want: body,
-            next: next,
-        };
+    let body = 3 + words[0] as usize;
+    let not = body + words[1] as usize;
+    let end = not + words[2] as usize;
+    let heads = mask_of(&words[3..body]);
+    let bodies = mask_of(&words[body..not]);
+    let nots = mask_of(&words[not..end]);
+    if !is_kept(of, nots) {
+        return RuleMasks { care: 0, want: 1 };
+    }
+    if !is_breakable(heads, bodies) {
+        return RuleMasks { care: 0, want: 1 };
     }
     RuleMasks {
-        care: 0,
-        want: 1,
-        next: next,
+        care: heads | bodies,
+        want: bodies,
     }
 }
 
-// Fills the two masks of each rule, of the reduct by `of`; the first rule lies at `start`.
-pub fn fill_rules(
-    words: &[u16],
-    start: usize,
-    rules: usize,
-    of: u64,
-    care: &mut [u64],
-    want: &mut [u64],
-)
-    requires { ⌜ Rows (now words) rules start ⌝ }
+// Fills the two masks of each rule, of the reduct by `of`; the first rule is at the front.
+pub fn fill_rules(words: &[u16], rules: usize, of: u64, care: &mut [u64], want: &mut [u64])
+    requires { ⌜ StoredRules walkAtoms rules (now words) ⌝ }
     requires { ⌜ (rules ≤ length (now care)) × (rules ≤ length (now want)) ⌝ }
-    ensures { λ _. ⌜ now (care .exit) ≡ filled (now (care .entry)) (map (careOf of) (rulesFrom rules (drop start (now (words .entry))))) ⌝ }
-    ensures { λ _. ⌜ now (want .exit) ≡ filled (now (want .entry)) (map (wantOf of) (rulesFrom rules (drop start (now (words .entry))))) ⌝ }
+    ensures { λ _. ⌜ now (care .exit) ≡ over (map (careOf of) (rulesFrom rules (now (words .entry)))) (now (care .entry)) ⌝ }
+    ensures { λ _. ⌜ now (want .exit) ≡ over (map (wantOf of) (rulesFrom rules (now (words .entry)))) (now (want .entry)) ⌝ }
 {
-    let mut at = start;
+    let mut from = 0;
     let mut j = 0;
     while j < rules {
-        let rule = read_rule(words, at, of);
+        let size = rule_size(&words[from..]);
+        let rule = read_rule(&words[from..], of);
         care[j] = rule.care;
         want[j] = rule.want;
-        at = rule.next;
+        from += size;
         j += 1;
     }
 }
@@ -173,20 +179,42 @@ fn note_role(word: u16, bit: u64, classes: &mut [u64]) -> u64
     }
 }
 
-// Fills the mask of each class from the class words of n atoms; answers the mask of the fixed atoms.
-pub fn fill_classes(words: &[u16], n: usize, classes: &mut [u64]) -> u64
-    requires { ⌜ 4 + n ≤ length (now words) ⌝ }
-    requires { ⌜ n ≤ walkAtoms ⌝ }
+// Fills the mask of each class from the atoms' class words; answers the mask of the fixed atoms.
+fn fill_classes(words: &[u16], classes: &mut [u64]) -> u64
+    requires { ⌜ length (now words) ≤ walkAtoms ⌝ }
     requires { ⌜ now classes ≡ replicate classLimit 0 ⌝ }
-    ensures { λ r. ⌜ now (classes .exit) ≡ classMasks (take n (drop 4 (now (words .entry)))) 1 classLimit ⌝ }
-    ensures { λ r. ⌜ r ≡ maskOf (ofClass (take n (drop 4 (now (words .entry)))) fixedWord) ⌝ }
+    ensures { λ r. ⌜ now (classes .exit) ≡ classMasks (now (words .entry)) 1 classLimit ⌝ }
+    ensures { λ r. ⌜ r ≡ maskOf (ofClass (now (words .entry)) fixedWord) ⌝ }
 {
     let mut fixed: u64 = 0;
     let mut i = 0;
-    while i < n {
-        let at = 4 + i;
-        fixed |= note_role(words[at], 1u64 << i, classes);
+    while i < words.len() {
+        fixed |= note_role(words[i], bit_of(i), classes);
         i += 1;
     }
     fixed
+}
+
+// Fills all masks of a checked preference store.
+pub fn fill_masks(words: &[u16], care: &mut [u64], want: &mut [u64], classes: &mut [u64]) -> Sizes
+    requires { ⌜ StoreOf (now words) (decode (now words)) ⌝ }
+    requires { ⌜ decode (now words) .atoms ≤ walkAtoms ⌝ }
+    requires { ⌜ decode (now words) .kind ≡ KindPreference ⌝ }
+    requires { ⌜ (length (now care) ≡ ruleLimit KindPreference) × (length (now want) ≡ ruleLimit KindPreference) × (now classes ≡ replicate classLimit 0) ⌝ }
+    ensures { λ r. ⌜ MasksOf (decode (now (words .entry))) (now (care .exit)) (now (want .exit)) (now (classes .exit)) r ⌝ }
+{
+    let n = wide(words[1]);
+    let k = wide(words[2]);
+    let rules = wide(words[3]);
+    let first = 4 + n;
+    let fixed = fill_classes(&words[4..first], classes);
+    fill_rules(&words[first..], rules, 0, care, want);
+    let atoms = n as u32;
+    Sizes {
+        atoms: atoms,
+        classes: k,
+        rules: rules,
+        fixed: fixed,
+        free: atoms - u64::count_ones(fixed),
+    }
 }

@@ -3,11 +3,10 @@ use kinds::limits::Kind;
 use kinds::limits::Preference;
 use masks::guard::Guard;
 use masks::guard::check_call;
-use masks::masks::fill_classes;
-use masks::masks::fill_rules;
+use masks::masks::Sizes;
+use masks::masks::fill_masks;
 use masks::masks::first_broken;
 use masks::masks::least;
-use masks::masks::wide;
 use walks::answers::Verdict;
 ghost use mathlib.Core.Path.{_≡_};
 ghost use Prim.Native.Nat.{_+_, _<_, _≤_, _^_};
@@ -18,6 +17,7 @@ ghost use Rattle.kinds.specs.declared.limits.Kind.the-variants.{Preference as K
 ghost use Rattle.stores.specs.RuleStore.{StoreOf, decode};
 ghost use Rattle.walks.specs.Walk.{capped, preferredVerdict};
 ghost use Rattle.masks.specs.Masks.{sparesM, lackingM, beatsM, preferredWalkM, preferredM};
+ghost use Rattle.masks.specs.FilledMasks.{MasksFit};
 ghost use Rattle.walks.specs.Answers.{preferredAnswer};
 
 // Whether at the first class on which the two differ `set` has a part of what `of` has.
@@ -102,19 +102,16 @@ pub fn preferred_walk(
 }
 
 // The preferred verdict over masks.
-pub fn preferred_masks(
+fn preferred_masks(
     care: &[u64],
     want: &[u64],
     classes: &[u64],
-    fixed: u64,
-    free: u32,
+    sizes: Sizes,
     set: u64,
     budget: u64,
 ) -> Verdict
-    requires { ⌜ length (now want) ≡ length (now care) ⌝ }
-    requires { ⌜ free + ones fixed ≤ 60 ⌝ }
-    requires { ⌜ fixed < 2 ^ (free + ones fixed) ⌝ }
-    ensures { λ r. ⌜ r ≡ capped budget (preferredM (now (care .entry)) (now (want .entry)) (now (classes .entry)) fixed (free + ones fixed) set) ⌝ }
+    requires { ⌜ MasksFit (now care) (now want) sizes ⌝ }
+    ensures { λ r. ⌜ r ≡ capped budget (preferredM (now (care .entry)) (now (want .entry)) (now (classes .entry)) (sizes .fixed) (sizes .atoms) set) ⌝ }
 {
     let broken = first_broken(care, want, set);
     if broken != care.len() {
@@ -122,6 +119,8 @@ pub fn preferred_masks(
             rule: broken as u64,
         };
     }
+    let fixed = sizes.fixed;
+    let free = sizes.free;
     preferred_walk(care, want, classes, fixed, free, set, budget)
 }
 
@@ -132,22 +131,17 @@ fn preferred_of(words: &[u16], set: u64, budget: u64) -> Verdict
     requires { ⌜ decode (now words) .kind ≡ KindPreference ⌝ }
     ensures { λ r. ⌜ r ≡ preferredVerdict (decode (now (words .entry)) .words) (decode (now (words .entry)) .rules) set budget ⌝ }
 {
-    let n = wide(words[1]);
-    let k = wide(words[2]);
-    let rules = wide(words[3]);
-    let start = 4 + n;
     let mut classes = [0u64; Preference::CLASSES];
     let mut care = [0u64; Preference::RULES];
     let mut want = [0u64; Preference::RULES];
-    let fixed = fill_classes(words, n, &mut classes);
-    fill_rules(words, start, rules, 0, &mut care, &mut want);
-    let free = n as u32 - u64::count_ones(fixed);
+    let sizes = fill_masks(words, &mut care, &mut want, &mut classes);
+    let rules = sizes.rules;
+    let k = sizes.classes;
     preferred_masks(
         &care[..rules],
         &want[..rules],
         &classes[..k],
-        fixed,
-        free,
+        sizes,
         set,
         budget,
     )

@@ -322,10 +322,10 @@ read-refuses text rules names = record {
   accepted = read-accepted text (length rules) (length names);
   kept = λ r line q. (ap (λ (v : Read). over (writtenIf v (λ p ns. encode p) (said text)) rules) q, ap (λ (v : Read). over (writtenIf v (λ p ns. encodeNames ns) (said text)) names) q);
   filled = λ words bytes q p ns a. (
-    let e = said-accepted text p ns .1 a in
-    let h = long-accepted text (length rules) (length names) p ns e words bytes .0 q in (
-      ap₂ (λ (v : Read) (s : Said). over (writtenIf v (λ p ns. encode p) s) rules) q e ∙ ap (λ (k : ℕ). encode p ++ drop k rules) (sym (h .1)),
-      ap₂ (λ (v : Read) (s : Said). over (writtenIf v (λ p ns. encodeNames ns) s) names) q e ∙ ap (λ (k : ℕ). encodeNames ns ++ drop k names) (sym (h .2)),
-    )
-  );
+      let e = said-accepted text p ns .1 a in
+      let h = long-accepted text (length rules) (length names) p ns e words bytes .0 q in (
+        ap₂ (λ (v : Read) (s : Said). over (writtenIf v (λ p ns. encode p) s) rules) q e ∙ ap (λ (k : ℕ). encode p ++ drop k rules) (sym (h .1)),
+        ap₂ (λ (v : Read) (s : Said). over (writtenIf v (λ p ns. encodeNames ns) s) names) q e ∙ ap (λ (k : ℕ). encodeNames ns ++ drop k names) (sym (h .2)),
+      )
+      );
 }

@@ -1,5 +1,5 @@
 -- The table of steps: what the loop that fills it keeps, and what the walk reads in it.
-use Prim.Native.Nat.{ℕ, suc, _+_, _-_, _*_, _%_, _^_, _≤_, _<_}
+use Prim.Native.Nat.{ℕ, suc, _+_, _-_, _^_, _≤_, _<_}
 use mathlib.Core.Path.{_≡_, sym, ap, _∙_, subst}
 use mathlib.Core.List.{List}
 use native.Mathlib.Decide.{ℕ-discrete}
@@ -10,12 +10,11 @@ use lib.Count.{ones, trailingZeros, ones-le}
 use lib.ListN.{length, getD, set, length-set}
 use lib.Seq.{getD-set-same, getD-set-other}
 use Rattle.masks.specs.Subsets.{rank, NextSub, stepOf, StepTable}
-use Rattle.masks.proofs.MaskLoops.{shifted}
 use Rattle.masks.proofs.Subsets.{Lowest, lowest, zeros-lt, step-pos, next-sub, rank-lt, rank-top}
 
--- the lowest atom of a set, as the shift of a u64 computes it
+-- the lowest atom of a set
 abbrev pub lowAtom : ℕ → ℕ
-lowAtom x = (1 * 2 ^ trailingZeros 64 x) % 2 ^ 64
+lowAtom x = 2 ^ trailingZeros 64 x
 
 module _ (m : ℕ) where
   -- the steps of j atoms stand, `below` has these atoms and `left` the others
@@ -56,14 +55,11 @@ module _ (m : ℕ) where
       pub zeros-small : trailingZeros 64 left < 60
       zeros-small = zeros-lt 64 60 left (omega arith) small
 
-      atom-is : lowAtom left ≡ 2 ^ trailingZeros 64 left
-      atom-is = shifted (trailingZeros 64 left) (omega (arith, zeros-small))
-
       pub atom-within : lowAtom left ≤ left
-      atom-within = omega (arith, atom-is, low .within)
+      atom-within = low .within
 
       pub left-falls : left - lowAtom left < left
-      left-falls = omega (arith, atom-is, pow-pos (trailingZeros 64 left))
+      left-falls = omega (arith, pow-pos (trailingZeros 64 left), low .within)
 
       more : j < ones m
       more = omega (arith, low .fewer, st .count)
@@ -77,7 +73,7 @@ module _ (m : ℕ) where
       here : stepOf 64 m j ≡ lowAtom left - below
       here =
           let e : j ≡ j + 0 = omega arith in
-          ap (stepOf 64 m) e ∙ st .rest 0 ∙ ap (λ (x : ℕ). x - below) (low .first ∙ sym atom-is)
+          ap (stepOf 64 m) e ∙ st .rest 0 ∙ ap (λ (x : ℕ). x - below) (low .first)
 
       pub atom-above : below ≤ lowAtom left
       atom-above = let f = st .fits in omega (arith, here, step-pos 64 m j (omega arith) more)
@@ -89,11 +85,11 @@ module _ (m : ℕ) where
       steps-go-on = record {
         fits = st .fits;
         total = let t = st .total in omega (arith, atom-within);
-        count = let e : ones (left - lowAtom left) ≡ ones (left - 2 ^ trailingZeros 64 left) = ap (λ (x : ℕ). ones (left - x)) atom-is in omega (arith, low .fewer, st .count);
+        count = omega (arith, low .fewer, st .count);
         room = length-set steps j (lowAtom left - below) ∙ st .room;
         rest = λ i.
             let e : j + 1 + i ≡ j + suc i = omega arith in
-            let q : stepOf 64 left (suc i) ≡ stepOf 64 (left - lowAtom left) i - lowAtom left = low .later i ∙ ap (λ (x : ℕ). stepOf 64 (left - x) i - x) (sym atom-is) in
+            let q : stepOf 64 left (suc i) ≡ stepOf 64 (left - lowAtom left) i - lowAtom left = low .later i in
             ap (stepOf 64 m) e ∙ st .rest (suc i) ∙ ap (λ (x : ℕ). x - below) q ∙ (omega arith);
         done = λ i l. at i l (ℕ-discrete i j);
       }

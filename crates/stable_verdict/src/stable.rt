@@ -4,6 +4,7 @@ use kinds::limits::Plain;
 use kinds::limits::Walk;
 use masks::guard::Guard;
 use masks::guard::check_call;
+use masks::masks::bit_of;
 use masks::masks::fill_rules;
 use masks::masks::first_broken;
 use masks::masks::gather;
@@ -40,7 +41,7 @@ fn fill_steps(set: u64, steps: &mut [u64])
     let mut below: u64 = 0;
     let mut j = 0;
     while left != 0 {
-        let atom = 1u64 << u64::trailing_zeros(left);
+        let atom = bit_of(u64::trailing_zeros(left) as usize);
         steps[j] = atom - below;
         below += atom;
         left -= atom;
@@ -108,12 +109,12 @@ fn stable_of(words: &[u16], set: u64, budget: u64) -> Verdict
     requires { ⌜ decode (now words) .atoms ≤ walkAtoms ⌝ }
     requires { ⌜ decode (now words) .kind ≡ KindPlain ⌝ }
     requires { ⌜ set < 2 ^ decode (now words) .atoms ⌝ }
-    ensures { λ r. ⌜ r ≡ stableVerdict (decode (now (words .entry)) .rules) set budget ⌝ }
+    ensures { λ r. ⌜ r ≡ stableVerdict (decode (now (words .entry)) .atoms) (decode (now (words .entry)) .rules) set budget ⌝ }
 {
     let rules = wide(words[3]);
     let mut care = [0u64; Plain::RULES];
     let mut want = [0u64; Plain::RULES];
-    fill_rules(words, 4, rules, set, &mut care, &mut want);
+    fill_rules(&words[4..], rules, set, &mut care, &mut want);
     let broken = first_broken(&care[..rules], &want[..rules], set);
     if broken != rules {
         return Verdict::Broken {

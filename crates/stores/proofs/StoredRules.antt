@@ -7,18 +7,16 @@ use lib.ListN.{length, drop, length-append}
 use lib.Seq.{drop-at, drop-drop}
 use Rattle.kinds.specs.Limits.{occurrenceLimit}
 use Rattle.kinds.specs.declared.limits.Kind.{Kind}
-use Rattle.kinds.specs.declared.limits.Kind.the-variants.{Plain, Preference}
+use Rattle.kinds.specs.declared.limits.Kind.the-variants.{Plain}
 use Rattle.rules.specs.Lists.{All, sum, flat}
 use Rattle.rules.specs.Rules.{Rule, occurrences}
+use Rattle.rules.proofs.Lists.{all-imp}
 use Rattle.stores.specs.Program.{Program, RuleForm}
-use Rattle.stores.specs.RuleStore.{ruleWords, encode, StoreOf, wordCount}
+use Rattle.stores.specs.RuleStore.{ruleWords, encode, StoreOf, wordCount, places, ruleAt}
 use Rattle.stores.specs.StoredRules.{StoredRules}
 use Rattle.stores.proofs.RuleTests.{rule-front, past-front}
 use Rattle.stores.proofs.RuleStores.{words-count}
-
-occurrences-small : (kind : Kind) → occurrenceLimit kind ≤ occurrenceLimit Plain
-occurrences-small Plain = omega arith
-occurrences-small Preference = omega arith
+use Rattle.stores.proofs.RulePlace.{limit-small}
 
 one-by-one : (kind : Kind) (n : ℕ) (rs : List (Rule ℕ)) → All (RuleForm kind n) rs → sum occurrences rs ≤ occurrenceLimit Plain → StoredRules n (length rs) (flat ruleWords rs)
 one-by-one kind n [] h l = tt
@@ -45,4 +43,17 @@ module _ {ws : List ℕ} {p : Program} (s : StoreOf ws p) where
   pub stored-rules : StoredRules (p .atoms) (length (p .rules)) (drop (4 + wordCount (p .kind) (p .atoms)) ws)
   stored-rules =
       subst (StoredRules (p .atoms) (length (p .rules))) (sym rule-part)
-      (one-by-one (p .kind) (p .atoms) (p .rules) (s .form .rule-forms) (omega (arith, s .form .occurrences-fit, occurrences-small (p .kind))))
+      (one-by-one (p .kind) (p .atoms) (p .rules) (s .form .rule-forms) (omega (arith, s .form .occurrences-fit, limit-small (p .kind))))
+
+-- atoms below n are below anything larger
+module _ {n k : ℕ} (l : n ≤ k) where
+  more-atoms : (xs : List ℕ) → All (λ a. a < n) xs → All (λ a. a < k) xs
+  more-atoms = all-imp (λ a. a < n) (λ a. a < k) (λ a h. omega arith)
+
+  pub stored-more : (r : ℕ) (ws : List ℕ) → StoredRules n r ws → StoredRules k r ws
+  stored-more zero ws h = tt
+  stored-more (suc r) ws h =
+      let q = h .0 in (
+        record { inside = q .inside; few = q .few; heads = more-atoms (ruleAt ws .head) (q .heads); bodies = more-atoms (ruleAt ws .body) (q .bodies); nots = more-atoms (ruleAt ws .nots) (q .nots) },
+        stored-more r (drop (3 + places ws) ws) (h .1),
+      )

@@ -22,13 +22,13 @@ use Rattle.walks.proofs.Searches.{Answered, unitsOf, under-budget, over
 use Rattle.walks.proofs.Order.{candidates-from}
 use Rattle.walks.proofs.Meanings.{preferred-answered, yes-law, candidate-law}
 
-abbrev nextUnits : NextState → ℕ
+abbrev pub nextUnits : NextState → ℕ
 nextUnits (State s u) = u
 nextUnits (Nothing u) = u
 nextUnits (NextSpent u) = u
 nextUnits (NextRefused f) = 0
 
-abbrev NextAnswered : NextState → Type 0
+abbrev pub NextAnswered : NextState → Type 0
 NextAnswered (State s u) = Unit {0}
 NextAnswered (Nothing u) = Unit {0}
 NextAnswered (NextSpent u) = ⊥
@@ -39,14 +39,14 @@ state-nothing e = absurd (let z : _≡_ {A = ℕ} 0 1 = cc in omega arith)
 
 -- the budget
 
-next-within : (b : ℕ) (v : NextState) → NextAnswered v → nextUnits v ≤ b → cappedNext b v ≡ v
+pub next-within : (b : ℕ) (v : NextState) → NextAnswered v → nextUnits v ≤ b → cappedNext b v ≡ v
 unfolding cappedNext
 next-within b (State s u) a h = ap (λ (p : Bool). cond p (State s u) (NextSpent b)) (le-leb u b h)
 next-within b (Nothing u) a h = ap (λ (p : Bool). cond p (Nothing u) (NextSpent b)) (le-leb u b h)
 next-within b (NextSpent u) a h = refl
 next-within b (NextRefused f) a h = refl
 
-next-over : (b : ℕ) (v : NextState) → NextAnswered v → b < nextUnits v → cappedNext b v ≡ NextSpent b
+pub next-over : (b : ℕ) (v : NextState) → NextAnswered v → b < nextUnits v → cappedNext b v ≡ NextSpent b
 unfolding cappedNext
 next-over b (State s u) a h = ap (λ (p : Bool). cond p (State s u) (NextSpent b)) (lt-leb u b h)
 next-over b (Nothing u) a h = ap (λ (p : Bool). cond p (Nothing u) (NextSpent b)) (lt-leb u b h)
@@ -57,7 +57,7 @@ spent-inj : (u w : ℕ) → NextSpent u ≡ NextSpent w → u ≡ w
 spent-inj u w e = cc
 
 module _ (b : ℕ) (v : NextState) (a : NextAnswered v) where
-  next-same : (r : NextState) → NextAnswered r → cappedNext b v ≡ r ↔ ((v ≡ r) × (nextUnits r ≤ b))
+  pub next-same : (r : NextState) → NextAnswered r → cappedNext b v ≡ r ↔ ((v ≡ r) × (nextUnits r ≤ b))
   next-same = under-budget nextUnits NextAnswered NextSpent cappedNext next-within next-over (λ u h. h) spent-inj b v a
 
   capped-spent : (u : ℕ) → cappedNext b v ≡ NextSpent u ↔ ((u ≡ b) × (b < nextUnits v))
@@ -101,7 +101,7 @@ module _ (verdict : ℕ → Verdict) (P : ℕ → Type 0) (answered : (s : ℕ) 
   other-not : (s : ℕ) → Other (verdict s) → P s → ⊥
   other-not s o p = let q = law s .1 p in subst Other (q .1) o
 
-  first-answered : (l : List ℕ) (u : ℕ) → NextAnswered (firstState verdict l u)
+  pub first-answered : (l : List ℕ) (u : ℕ) → NextAnswered (firstState verdict l u)
   unfolding firstState
   first-answered [] u = tt
   first-answered (x ∷ l) u = step (cases (verdict x) (answered x)) (first-answered l (u + cost x))

@@ -1,114 +1,123 @@
-use Prim.Native.Nat.{ℕ, _+_, _≤_, _<_}
-use mathlib.Core.List.{List}
-use native.Mathlib.Omega.{arith}
+use mathlib.Core.Path.{refl}
+use borrow.Author.Tests.{not-true, not-false}
+use Rattle.masks.proofs.RulesFill.{heads-below, bodies-below, nots-below, read-dropped, read-unbreakable, read-asked}
 use borrow.Author.Needs.{needs}
-use lib.ListN.{length, getD}
-use Rattle.masks.proofs.RowLaws.{row-room, row-atoms, read-live, read-idle}
 use Rattle.masks.proofs.masks.read_rule.Statement.{statement}
 use Rattle.masks.proofs.masks.read_rule.Tie as tie
 
--- the rule lies within the words, by the counts that were read
-module _ (c : tie.After-wide3) where
-  abbrev ws : List ℕ
-  ws = c .before .before .before .before .before .before .before .args .words .now
+shared-slice-read-body : tie.Need-shared-slice-read-body
+shared-slice-read-body c = search needs
 
-  abbrev at : ℕ
-  at = c .before .before .before .before .before .before .before .args .at
+cast-body : tie.Need-cast-body
+cast-body c = search needs
 
-  abbrev end : ℕ
-  end = at + 3 + c .before .before .before .before .wide .result + c .before .before .wide2 .result + c .wide3 .result
+add-body : tie.Need-add-body
+add-body c = search needs
 
-  room : end ≤ length ws
-  room = row-room ws at _ _ _ (c .before .before .before .before .wide .ensures) (c .before .before .wide2 .ensures) (c .wide3 .ensures) (c .before .before .before .before .before .before .before .pre)
+shared-slice-read-not : tie.Need-shared-slice-read-not
+shared-slice-read-not c = search needs
 
-  atoms : (k : ℕ) → at + 3 ≤ k → k < end → getD ws k 0 < 60
-  atoms = row-atoms ws at _ _ _ (c .before .before .before .before .wide .ensures) (c .before .before .wide2 .ensures) (c .wide3 .ensures) (c .before .before .before .before .before .before .before .pre)
+cast-not : tie.Need-cast-not
+cast-not c = search needs
 
-add-second : tie.Need-add-second
-add-second c = search needs
+add-not : tie.Need-add-not
+add-not c = search needs
 
-add-third : tie.Need-add-third
-add-third c = search needs
+shared-slice-read-end : tie.Need-shared-slice-read-end
+shared-slice-read-end c = search needs
 
-mul-wide : tie.Need-mul-wide
-mul-wide c = search needs
+cast-end : tie.Need-cast-end
+cast-end c = search needs
 
-shared-slice-read-wide : tie.Need-shared-slice-read-wide
-shared-slice-read-wide c = search needs
+add-end : tie.Need-add-end
+add-end c = search needs
 
-wide-requires : tie.Need-wide-requires
-wide-requires c κs = search needs
+sub-mask-of : tie.Need-sub-mask-of
+sub-mask-of c = search needs
 
-mul-wide-2 : tie.Need-mul-wide-2
-mul-wide-2 c = search needs
+part-mask-of-start : tie.Need-part-mask-of-start
+part-mask-of-start c = search needs
 
-shared-slice-read-wide-2 : tie.Need-shared-slice-read-wide-2
-shared-slice-read-wide-2 c = search needs
-
-wide-requires-2 : tie.Need-wide-requires-2
-wide-requires-2 c κs = search needs
-
-mul-wide-3 : tie.Need-mul-wide-3
-mul-wide-3 c = search needs
-
-shared-slice-read-wide-3 : tie.Need-shared-slice-read-wide-3
-shared-slice-read-wide-3 c = search needs
-
-wide-requires-3 : tie.Need-wide-requires-3
-wide-requires-3 c κs = search needs
-
-add-hs : tie.Need-add-hs
-add-hs c = search needs
-
-add-bs : tie.Need-add-bs
-add-bs c = omega (arith, room c)
-
-add-ns : tie.Need-add-ns
-add-ns c = omega (arith, room c)
-
-add-next : tie.Need-add-next
-add-next c = omega (arith, room c)
+part-mask-of-end : tie.Need-part-mask-of-end
+part-mask-of-end c = search needs
 
 mask-of-requires : tie.Need-mask-of-requires
-mask-of-requires c κs = (omega (arith, room c), λ k l. atoms c _ (omega arith) (omega arith))
+mask-of-requires c κs = heads-below _ (c .before .before .before .before .before .pre)
+
+mul-mask-of : tie.Need-mul-mask-of
+mul-mask-of c = search needs
+
+sub-mask-of-2 : tie.Need-sub-mask-of-2
+sub-mask-of-2 c = search needs
+
+part-mask-of-start-2 : tie.Need-part-mask-of-start-2
+part-mask-of-start-2 c = search needs
+
+part-mask-of-end-2 : tie.Need-part-mask-of-end-2
+part-mask-of-end-2 c = search needs
 
 mask-of-requires-2 : tie.Need-mask-of-requires-2
-mask-of-requires-2 c κs = (omega (arith, room (c .before)), λ k l. atoms (c .before) _ (omega arith) (omega arith))
+mask-of-requires-2 c κs = bodies-below _ (c .before .before .before .before .before .before .before .pre)
+
+mul-mask-of-2 : tie.Need-mul-mask-of-2
+mul-mask-of-2 c = search needs
+
+sub-mask-of-3 : tie.Need-sub-mask-of-3
+sub-mask-of-3 c = search needs
+
+part-mask-of-start-3 : tie.Need-part-mask-of-start-3
+part-mask-of-start-3 c = search needs
+
+part-mask-of-end-3 : tie.Need-part-mask-of-end-3
+part-mask-of-end-3 c = search needs
 
 mask-of-requires-3 : tie.Need-mask-of-requires-3
-mask-of-requires-3 c κs = (omega (arith, room (c .before .before)), λ k l. atoms (c .before .before) _ (omega arith) (omega arith))
+mask-of-requires-3 c κs = nots-below _ (c .before .before .before .before .before .before .before .before .before .pre)
 
-is-live-requires : tie.Need-is-live-requires
-is-live-requires c κs = search needs
+is-kept-requires : tie.Need-is-kept-requires
+is-kept-requires c κs = search needs
 
 returns : tie.Need-returns
-returns c = read-live _ _ _ _ _ (c .before .before .before .before .before .before .before .before .before .wide .ensures) (c .before .before .before .before .before .before .before .wide2 .ensures) (c .before .before .before .before .before .wide3 .ensures) _ _ _ _ (c .before .before .before .before .mask-of .ensures) (c .before .before .before .mask-of2 .ensures) (c .before .before .mask-of3 .ensures) _ (c .before .is-live .ensures) (c .if1 .taken)
+returns c = read-dropped _ _ _ _ _ (c .before .before .before .before .before .before .mask-of .ensures) (c .before .before .before .before .mask-of2 .ensures) (c .before .before .mask-of3 .ensures) _ _ (c .before .is-kept .ensures) refl (not-true _ (c .if1 .taken))
+
+is-breakable-requires : tie.Need-is-breakable-requires
+is-breakable-requires c κs = search needs
 
 returns-2 : tie.Need-returns-2
-returns-2 c = read-idle _ _ _ _ _ (c .before .before .before .before .before .before .before .before .before .wide .ensures) (c .before .before .before .before .before .before .before .wide2 .ensures) (c .before .before .before .before .before .wide3 .ensures) _ _ _ _ (c .before .before .before .before .mask-of .ensures) (c .before .before .before .mask-of2 .ensures) (c .before .before .mask-of3 .ensures) _ (c .before .is-live .ensures) (c .if1 .left)
+returns-2 c = read-unbreakable _ _ _ _ _ (c .before .before .before .before .before .before .before .before .mask-of .ensures) (c .before .before .before .before .before .before .mask-of2 .ensures) (c .before .before .before .before .mask-of3 .ensures) _ _ (c .before .before .before .is-kept .ensures) (c .before .is-breakable .ensures) (not-true _ (c .if2 .taken))
+
+returns-3 : tie.Need-returns-3
+returns-3 c = read-asked _ _ _ _ _ (c .before .before .before .before .before .before .before .before .mask-of .ensures) (c .before .before .before .before .before .before .mask-of2 .ensures) (c .before .before .before .before .mask-of3 .ensures) _ _ (c .before .before .before .is-kept .ensures) (c .before .is-breakable .ensures) (not-false _ (c .before .before .if1 .left)) (not-false _ (c .if2 .left))
 
 pub read-rule-spec : {M : Type 1} → statement M
 read-rule-spec =
     tie.close
     (tie.spec
-    add-second
-    add-third
-    mul-wide
-    shared-slice-read-wide
-    wide-requires
-    mul-wide-2
-    shared-slice-read-wide-2
-    wide-requires-2
-    mul-wide-3
-    shared-slice-read-wide-3
-    wide-requires-3
-    add-hs
-    add-bs
-    add-ns
-    add-next
+    shared-slice-read-body
+    cast-body
+    add-body
+    shared-slice-read-not
+    cast-not
+    add-not
+    shared-slice-read-end
+    cast-end
+    add-end
+    sub-mask-of
+    part-mask-of-start
+    part-mask-of-end
     mask-of-requires
+    mul-mask-of
+    sub-mask-of-2
+    part-mask-of-start-2
+    part-mask-of-end-2
     mask-of-requires-2
+    mul-mask-of-2
+    sub-mask-of-3
+    part-mask-of-start-3
+    part-mask-of-end-3
     mask-of-requires-3
-    is-live-requires
+    is-kept-requires
     returns
-    returns-2)
+    is-breakable-requires
+    returns-2
+    returns-3)

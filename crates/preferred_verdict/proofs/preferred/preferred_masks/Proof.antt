@@ -1,5 +1,6 @@
-use borrow.Author.Needs.{needs}
+use Rattle.masks.proofs.FilledMasks.{free-few, free-room, walk-of-atoms}
 use Rattle.preferred_verdict.proofs.AgreeingSets.{no-model, a-model}
+use borrow.Author.Needs.{needs}
 use Rattle.preferred_verdict.proofs.preferred.preferred_masks.Statement.{statement}
 use Rattle.preferred_verdict.proofs.preferred.preferred_masks.Tie as tie
 
@@ -10,10 +11,10 @@ returns : tie.Need-returns
 returns c = no-model _ _ _ _ _ _ _ _ (c .before .first-broken .ensures) (c .if1 .taken)
 
 preferred-walk-requires : tie.Need-preferred-walk-requires
-preferred-walk-requires c κs = search needs
+preferred-walk-requires c κs = (c .before .before .before .before .before .pre .same-rules, (free-few (c .before .before .before .before .before .pre), free-room (c .before .before .before .before .before .pre)))
 
 returns-2 : tie.Need-returns-2
-returns-2 c = a-model _ _ _ _ _ _ _ _ _ (c .before .before .first-broken .ensures) (c .before .if1 .left) (c .preferred-walk .ensures)
+returns-2 c = a-model _ _ _ _ _ _ _ _ _ (c .before .before .first-broken .ensures) (c .before .if1 .left) (walk-of-atoms (c .before .before .before .before .before .before .pre) _ _ _ (c .preferred-walk .ensures))
 
 pub preferred-masks-spec : {M : Type 1} → statement M
 preferred-masks-spec =
