@@ -1,0 +1,324 @@
+-- Each computed test of a line says its sentence of document 01.
+use Prim.Native.Nat.{ℕ, suc, _+_, _≤_, _<_}
+use native.Mathlib.Omega.{arith}
+use native.Mathlib.Decide.{decLt}
+use mathlib.Core.Path.{_≡_, refl, sym, ap, ap₂, subst}
+use mathlib.Core.Logic.{_⊎_, inl, inr, _↔_, _≢_}
+use mathlib.Core.Bool.{Bool, true, false, not, _&&_, _||_}
+use mathlib.Core.List.{List, [], _∷_, _++_, map, append-nil}
+use lib.Dec.{T, leb, leb→le, le→leb}
+use lib.ListN.{length, length-append, length-map}
+use lib.Seq.{append-snoc}
+use Rattle.kinds.specs.Limits.{atomLimit, ruleLimit, occurrenceLimit, classLimit, within}
+use Rattle.kinds.specs.declared.limits.Counts.{Counts}
+use Rattle.kinds.specs.declared.limits.Kind.{Kind}
+use Rattle.kinds.specs.declared.limits.Kind.the-variants.{Plain, Preference}
+use Rattle.rules.specs.Lists.{All, Any, Distinct, some, sum}
+use Rattle.rules.specs.Rules.{Rule, occurrences}
+use Rattle.rules.proofs.Booleans.{decide, T-not-in, T-not-out, T-and, T-and-l, T-and-r, T-or, T-or-out}
+use Rattle.rules.proofs.Lists.{all-app, all-imp, all-any, any-imp, any-with, any-app, app-any, some-any, sum-app}
+use Rattle.names.specs.declared.forms.NameClass.{NameClass}
+use Rattle.names.specs.declared.forms.NameClass.the-variants.{House, Generated, TooLong, Wrong}
+use Rattle.names.specs.Names.{nameClass, takes, allowed}
+use Rattle.name_store.specs.NameStore.{sameBytes}
+use Rattle.name_store.proofs.NameStores.{same-law}
+use Rattle.lines.specs.declared.stage.Stage.{Stage}
+use Rattle.lines.specs.declared.stage.Stage.the-variants.{Declaring, Fixing, Ruling}
+use Rattle.lines.specs.Forms.{Word, atoms, min, vary, fix, Form, declares, rules, broken}
+use Rattle.lines.specs.Faults.{State, countsOf, expects, ruling?, classesAfter, twice, refusedName, undeclared, numberOf, anyOf, declared, numbered, with-rule, filled}
+use Rattle.faults.specs.Sentences.{Among, Twice, Comes, atoms-line, min-line, vary-line, fix-line, NotAllowed, atomsWith, rulesWith, occurrencesWith, classesWith, PassesLimit, atoms-pass, rules-pass, occurrences-pass, classes-pass}
+
+-- a test that fails says that its sentence does not hold
+pub not-law : {P : Type 0} (b : Bool) → T b ↔ P → T (not b) ↔ (P → ⊥)
+not-law b law = (λ t p. T-not-out b t (law .1 p), λ h. T-not-in b (λ t. h (law .0 t)))
+
+-- two tests
+or-law : {P Q : Type 0} (a b : Bool) → T a ↔ P → T b ↔ Q → T (a || b) ↔ (P ⊎ Q)
+or-law {P} {Q} a b f g = (λ t. there (T-or-out a b t), λ h. T-or a b (back h))
+  where
+    there : T a ⊎ T b → P ⊎ Q
+    there (inl t) = inl (f .0 t)
+    there (inr t) = inr (g .0 t)
+
+    back : P ⊎ Q → T a ⊎ T b
+    back (inl h) = inl (f .1 h)
+    back (inr h) = inr (g .1 h)
+
+-- 2
+
+pub comes-law : (kind : Kind) (stage : Stage) (w : Word) → T (expects kind stage w) ↔ Comes kind stage w
+comes-law kind stage w = (there kind stage w, back)
+  where
+    there : (k : Kind) (s : Stage) (v : Word) → T (expects k s v) → Comes k s v
+    there Plain Declaring atoms t = atoms-line
+    there Plain Declaring min t = absurd t
+    there Plain Declaring vary t = absurd t
+    there Plain Declaring fix t = absurd t
+    there Plain Fixing v t = absurd t
+    there Plain Ruling v t = absurd t
+    there Preference Declaring atoms t = absurd t
+    there Preference Declaring min t = min-line
+    there Preference Declaring vary t = vary-line
+    there Preference Declaring fix t = absurd t
+    there Preference Fixing atoms t = absurd t
+    there Preference Fixing min t = absurd t
+    there Preference Fixing vary t = absurd t
+    there Preference Fixing fix t = fix-line
+    there Preference Ruling v t = absurd t
+
+    back : {k : Kind} {s : Stage} {v : Word} → Comes k s v → T (expects k s v)
+    back atoms-line = tt
+    back min-line = tt
+    back vary-line = tt
+    back fix-line = tt
+
+pub ruling-law : (stage : Stage) → T (ruling? stage) ↔ (stage ≡ Ruling)
+ruling-law stage = (there stage, λ e. subst (λ s. T (ruling? s)) (sym e) tt)
+  where
+    there : (s : Stage) → T (ruling? s) → s ≡ Ruling
+    there Declaring t = absurd t
+    there Fixing t = absurd t
+    there Ruling t = refl
+
+-- 3
+
+-- of what is a name at all
+pub allowed-law : (kind : Kind) (x : List ℕ) → T (refusedName kind x) ↔ (NotAllowed kind x ⊎ (nameClass x ≡ Wrong))
+unfolding allowed
+allowed-law kind x = (there kind (nameClass x), back kind (nameClass x))
+  where
+    there : (k : Kind) (c : NameClass) → T (not (takes k c)) → ((c ≡ TooLong) ⊎ ((k ≡ Preference) × (c ≡ Generated))) ⊎ (c ≡ Wrong)
+    there Plain House t = absurd t
+    there Plain Generated t = absurd t
+    there Plain TooLong t = inl (inl refl)
+    there Plain Wrong t = inr refl
+    there Preference House t = absurd t
+    there Preference Generated t = inl (inr (refl, refl))
+    there Preference TooLong t = inl (inl refl)
+    there Preference Wrong t = inr refl
+
+    long : (k : Kind) → T (not (takes k TooLong))
+    long Plain = tt
+    long Preference = tt
+
+    wrong : (k : Kind) → T (not (takes k Wrong))
+    wrong Plain = tt
+    wrong Preference = tt
+
+    back : (k : Kind) (c : NameClass) → ((c ≡ TooLong) ⊎ ((k ≡ Preference) × (c ≡ Generated))) ⊎ (c ≡ Wrong) → T (not (takes k c))
+    back k c (inl (inl e)) = subst (λ d. T (not (takes k d))) (sym e) (long k)
+    back k c (inl (inr e)) = subst (λ j. T (not (takes j c))) (sym (e .0)) (subst (λ d. T (not (takes Preference d))) (sym (e .1)) tt)
+    back k c (inr e) = subst (λ d. T (not (takes k d))) (sym e) (wrong k)
+
+pub names-law : (kind : Kind) (xs : List (List ℕ)) → All (λ x. nameClass x ≢ Wrong) xs → T (some (refusedName kind) xs) ↔ Any (NotAllowed kind) xs
+names-law kind xs named = let law = some-any (refusedName kind) (λ x. NotAllowed kind x ⊎ (nameClass x ≡ Wrong)) (allowed-law kind) xs in (
+  λ t. any-imp (λ x. (nameClass x ≢ Wrong) × (NotAllowed kind x ⊎ (nameClass x ≡ Wrong))) (NotAllowed kind) right xs (any-with (λ x. NotAllowed kind x ⊎ (nameClass x ≡ Wrong)) (λ x. nameClass x ≢ Wrong) xs named (law .0 t)),
+  λ h. law .1 (any-imp (NotAllowed kind) (λ x. NotAllowed kind x ⊎ (nameClass x ≡ Wrong)) (λ x k. inl k) xs h),
+)
+  where
+    right : (x : List ℕ) → (nameClass x ≢ Wrong) × (NotAllowed kind x ⊎ (nameClass x ≡ Wrong)) → NotAllowed kind x
+    right x (n, inl h) = h
+    right x (n, inr e) = absurd (n e)
+
+-- in any of a rule's three lists
+pub any-law : (P : List ℕ → Type 0) (p : List ℕ → Bool) (hs bs ns : List (List ℕ)) → T (some p hs) ↔ Any P hs → T (some p bs) ↔ Any P bs → T (some p ns) ↔ Any P ns → T (anyOf (some p) hs bs ns) ↔ Any P (hs ++ (bs ++ ns))
+any-law P p hs bs ns h b n = let law = or-law (some p hs) (some p bs || some p ns) h (or-law (some p bs) (some p ns) b n) in (
+  λ t. any-app P hs (bs ++ ns) (there (law .0 t)),
+  λ k. law .1 (back (app-any P hs (bs ++ ns) k)),
+)
+  where
+    there : Any P hs ⊎ (Any P bs ⊎ Any P ns) → Any P hs ⊎ Any P (bs ++ ns)
+    there (inl k) = inl k
+    there (inr k) = inr (any-app P bs ns k)
+
+    back : Any P hs ⊎ Any P (bs ++ ns) → Any P hs ⊎ (Any P bs ⊎ Any P ns)
+    back (inl k) = inl k
+    back (inr k) = inr (app-any P bs ns k)
+
+-- 4 and 6
+
+pub among-law : (names : List (List ℕ)) (x : List ℕ) → T (some (sameBytes x) names) ↔ Among names x
+among-law names x = some-any (sameBytes x) (λ y. x ≡ y) (same-law x) names
+
+module _ {A : Type 0} where
+  twice-l : (xs ys : List A) → Twice xs → Twice (xs ++ ys)
+  twice-l [] ys h = absurd h
+  twice-l (x ∷ xs) ys (inl h) = inl (any-app (λ y. x ≡ y) xs ys (inl h))
+  twice-l (x ∷ xs) ys (inr h) = inr (twice-l xs ys h)
+
+  -- an entry after a list that has it
+  twice-again : (xs : List A) (x : A) (ys : List A) → Among xs x → Twice (xs ++ (x ∷ ys))
+  twice-again [] x ys h = absurd h
+  twice-again (y ∷ xs) x ys (inl e) = inl (any-app (λ z. y ≡ z) xs (x ∷ ys) (inr (inl (sym e))))
+  twice-again (y ∷ xs) x ys (inr h) = inr (twice-again xs x ys h)
+
+  twice-last : (xs : List A) (x : A) → Twice (xs ++ (x ∷ [])) → Twice xs ⊎ Among xs x
+  twice-last [] x (inl h) = absurd h
+  twice-last [] x (inr h) = absurd h
+  twice-last (y ∷ xs) x (inl h) = step (app-any (λ z. y ≡ z) xs (x ∷ []) h)
+    where
+      step : Among xs y ⊎ ((y ≡ x) ⊎ ⊥) → Twice (y ∷ xs) ⊎ Among (y ∷ xs) x
+      step (inl k) = inl (inl k)
+      step (inr (inl e)) = inr (inl (sym e))
+      step (inr (inr k)) = absurd k
+  twice-last (y ∷ xs) x (inr h) = step (twice-last xs x h)
+    where
+      step : Twice xs ⊎ Among xs x → Twice (y ∷ xs) ⊎ Among (y ∷ xs) x
+      step (inl k) = inl (inr k)
+      step (inr k) = inr (inr k)
+
+  -- not twice is different
+  pub distinct-law : (xs : List A) → (Twice xs → ⊥) ↔ Distinct xs
+  distinct-law [] = (λ h. tt, λ d h. h)
+  distinct-law (x ∷ xs) = let r = distinct-law xs in (
+    λ h. (apart xs (λ k. h (inl k)), r .0 (λ k. h (inr k))),
+    λ d h. either (λ (k : Among xs x). (let a = all-any (λ y. x ≢ y) (λ y. x ≡ y) xs (d .0) k in a .1 (a .2))) (r .1 (d .1)) h,
+  )
+    where
+      apart : (ys : List A) → (Among ys x → ⊥) → All (λ y. x ≢ y) ys
+      apart [] h = tt
+      apart (y ∷ ys) h = (λ e. h (inl e), apart ys (λ k. h (inr k)))
+
+      either : (Among xs x → ⊥) → (Twice xs → ⊥) → Among xs x ⊎ Twice xs → ⊥
+      either a b (inl h) = a h
+      either a b (inr h) = b h
+
+-- after names that differ
+pub twice-law : (old xs : List (List ℕ)) → (Twice old → ⊥) → T (twice old xs) ↔ Twice (old ++ xs)
+unfolding twice
+twice-law old [] d = (λ t. absurd t, λ h. d (subst Twice (append-nil old) h))
+twice-law old (x ∷ xs) d = step (decide (some (sameBytes x) old)) (λ (n : Twice (old ++ (x ∷ [])) → ⊥). twice-law (old ++ (x ∷ [])) xs n)
+  where
+    a : Bool
+    a = some (sameBytes x) old
+
+    b : Bool
+    b = twice (old ++ (x ∷ [])) xs
+
+    step : T a ⊎ (T a → ⊥) → ((Twice (old ++ (x ∷ [])) → ⊥) → T b ↔ Twice ((old ++ (x ∷ [])) ++ xs)) → T (a || b) ↔ Twice (old ++ (x ∷ xs))
+    step (inl t) r = (λ u. twice-again old x xs (among-law old x .0 t), λ h. T-or a b (inl t))
+    step (inr n) r =
+        let law = r (λ h. new (twice-last old x h)) in
+        (λ u. subst Twice (append-snoc old x xs) (law .0 (other (T-or-out a b u))), λ h. T-or a b (inr (law .1 (subst Twice (sym (append-snoc old x xs)) h))))
+      where
+        new : Twice old ⊎ Among old x → ⊥
+        new (inl k) = d k
+        new (inr k) = n (among-law old x .1 k)
+
+        other : T a ⊎ T b → T b
+        other (inl k) = absurd (n k)
+        other (inr k) = k
+
+pub lists-law : (hs bs ns : List (List ℕ)) → T (anyOf (twice []) hs bs ns) ↔ (Twice hs ⊎ (Twice bs ⊎ Twice ns))
+lists-law hs bs ns = or-law (twice [] hs) (twice [] bs || twice [] ns) (one hs) (or-law (twice [] bs) (twice [] ns) (one bs) (one ns))
+  where
+    one : (xs : List (List ℕ)) → T (twice [] xs) ↔ Twice xs
+    one xs = twice-law [] xs (λ h. h)
+
+-- 5
+
+pub undeclared-law : (names : List (List ℕ)) (x : List ℕ) → T (undeclared names x) ↔ (Among names x → ⊥)
+undeclared-law names x = not-law (some (sameBytes x) names) (among-law names x)
+
+-- 7
+
+passes-law : (n limit : ℕ) → T (not (leb n limit)) ↔ (limit < n)
+passes-law n limit = let law = not-law (leb n limit) (leb→le n limit, le→leb n limit) in (λ t. past (law .0 t) (decLt limit n), λ h. law .1 (λ k. omega arith))
+  where
+    past : (n ≤ limit → ⊥) → Dec (limit < n) → limit < n
+    past h (yes l) = l
+    past h (no l) = absurd (h (omega arith))
+
+not-and : {P Q : Type 0} (a b : Bool) → T (not a) ↔ P → T (not b) ↔ Q → T (not (a && b)) ↔ (P ⊎ Q)
+not-and {P} {Q} true b f g = (λ t. inr (g .0 t), λ h. right h)
+  where
+    right : P ⊎ Q → T (not b)
+    right (inl h) = absurd (f .1 h)
+    right (inr h) = g .1 h
+not-and {P} {Q} false b f g = (λ t. inl (f .0 tt), λ h. tt)
+
+-- some of the three counts passes its limit
+abbrev CountPasses : Kind → Counts → Type 0
+CountPasses kind c = (atomLimit kind < c .atoms) ⊎ ((ruleLimit kind < c .rules) ⊎ (occurrenceLimit kind < c .occurrences))
+
+within-law : (kind : Kind) (c : Counts) → T (not (within kind c)) ↔ CountPasses kind c
+within-law kind c =
+    not-and (leb (c .atoms) (atomLimit kind)) (leb (c .rules) (ruleLimit kind) && leb (c .occurrences) (occurrenceLimit kind)) (passes-law (c .atoms) (atomLimit kind))
+    (not-and (leb (c .rules) (ruleLimit kind)) (leb (c .occurrences) (occurrenceLimit kind)) (passes-law (c .rules) (ruleLimit kind)) (passes-law (c .occurrences) (occurrenceLimit kind)))
+
+-- the counts with the line's own
+abbrev countsWith : State → Form → Counts
+countsWith st f = record { atoms = atomsWith st f; rules = rulesWith st f; occurrences = occurrencesWith st f }
+
+limit-law : (st : State) (f : Form) → (CountPasses (st .kind) (countsWith st f) ⊎ (classLimit < classesWith st f)) ↔ PassesLimit st f
+limit-law st f = (there, back)
+  where
+    there : CountPasses (st .kind) (countsWith st f) ⊎ (classLimit < classesWith st f) → PassesLimit st f
+    there (inl (inl h)) = atoms-pass h
+    there (inl (inr (inl h))) = rules-pass h
+    there (inl (inr (inr h))) = occurrences-pass h
+    there (inr h) = classes-pass h
+
+    back : PassesLimit st f → CountPasses (st .kind) (countsWith st f) ⊎ (classLimit < classesWith st f)
+    back (atoms-pass h) = inl (inl h)
+    back (rules-pass h) = inl (inr (inl h))
+    back (occurrences-pass h) = inl (inr (inr h))
+    back (classes-pass h) = inr h
+
+module _ (st : State) where
+  declared-counts : (w : Word) (xs : List (List ℕ)) → countsOf (declared st w xs) ≡ countsWith st (declares w xs)
+  declared-counts w xs = ap (λ n. record { atoms = n; rules = length (st .program-rules); occurrences = sum occurrences (st .program-rules) }) (length-append (st .names) xs)
+
+  pub classes-counted : (w : Word) (xs : List (List ℕ)) → classesAfter w (st .classes) ≡ classesWith st (declares w xs)
+  classes-counted atoms xs = refl
+  classes-counted min xs = refl
+  classes-counted vary xs = refl
+  classes-counted fix xs = refl
+
+  pub declared-limit : (w : Word) (xs : List (List ℕ)) → T (not (within (st .kind) (countsOf (declared st w xs)) && leb (classesAfter w (st .classes)) classLimit)) ↔ PassesLimit st (declares w xs)
+  declared-limit w xs =
+      let counts = subst (λ c. T (not (within (st .kind) c)) ↔ CountPasses (st .kind) (countsWith st (declares w xs))) (sym (declared-counts w xs)) (within-law (st .kind) (countsWith st (declares w xs))) in
+      let classes = subst (λ n. T (not (leb n classLimit)) ↔ (classLimit < classesWith st (declares w xs))) (sym (classes-counted w xs)) (passes-law (classesWith st (declares w xs)) classLimit) in
+      let law = not-and (within (st .kind) (countsOf (declared st w xs))) (leb (classesAfter w (st .classes)) classLimit) counts classes in
+      let limit = limit-law st (declares w xs) in
+      (λ t. limit .0 (law .0 t), λ h. law .1 (limit .1 h))
+
+  module _ (hs bs ns : List (List ℕ)) where
+    abbrev line-rule : Rule ℕ
+    line-rule = numbered (st .names) hs bs ns
+
+    rule-counts : countsOf (with-rule st line-rule) ≡ countsWith st (rules hs bs ns)
+    rule-counts = ap₂ (λ r o. record { atoms = length (st .names); rules = r; occurrences = o }) one-more places
+      where
+        one-more : length (st .program-rules ++ (line-rule ∷ [])) ≡ suc (length (st .program-rules))
+        one-more = omega (arith, length-append (st .program-rules) (line-rule ∷ []))
+
+        places : sum occurrences (st .program-rules ++ (line-rule ∷ [])) ≡ occurrencesWith st (rules hs bs ns)
+        places = omega (arith, sum-app occurrences (st .program-rules) (line-rule ∷ []), length-map hs (numberOf (st .names)), length-map bs (numberOf (st .names)), length-map ns (numberOf (st .names)))
+
+    pub rule-limit : st .classes ≤ classLimit → T (not (within (st .kind) (countsOf (with-rule st line-rule)))) ↔ PassesLimit st (rules hs bs ns)
+    rule-limit fits =
+        let law = subst (λ c. T (not (within (st .kind) c)) ↔ CountPasses (st .kind) (countsWith st (rules hs bs ns))) (sym rule-counts) (within-law (st .kind) (countsWith st (rules hs bs ns))) in
+        let limit = limit-law st (rules hs bs ns) in
+        (λ t. limit .0 (inl (law .0 t)), λ h. law .1 (no-class (limit .1 h)))
+      where
+        no-class : CountPasses (st .kind) (countsWith st (rules hs bs ns)) ⊎ (classLimit < st .classes) → CountPasses (st .kind) (countsWith st (rules hs bs ns))
+        no-class (inl h) = h
+        no-class (inr h) = absurd (omega arith)
+
+-- 8
+
+pub filled-law : (kind : Kind) (ns : List (List ℕ)) → T (filled kind ns) ↔ ((kind ≡ Preference) × (ns ≢ []))
+filled-law Plain ns = (λ t. absurd t, λ h. differ (h .0))
+  where
+    differ : Plain ≡ Preference → ⊥
+    differ e = subst (λ k. kindly k) e tt
+      where
+        kindly : Kind → Type 0
+        kindly Plain = Unit {0}
+        kindly Preference = ⊥
+filled-law Preference [] = (λ t. absurd t, λ h. h .1 refl)
+filled-law Preference (x ∷ ns) = (λ t. (refl, λ e. cons e), λ h. tt)
+  where
+    cons : x ∷ ns ≡ [] → ⊥
+    cons e = absurd (let z : _≡_ {A = ℕ} 0 1 = cc in omega arith)

@@ -1,0 +1,3 @@
+-- What document 01 says of each refusal, and of the line that it is answered with.
+pub mod Sentences
+pub mod EarliestFault
