@@ -1,9 +1,9 @@
 -- The names of a line's form are names: one that is none breaks the form.
 use Prim.Native.Nat.{ℕ}
-use mathlib.Core.Path.{_≡_, sym, subst}
+use mathlib.Core.Path.{refl, subst}
 use mathlib.Core.Logic.{_↔_, _≢_}
 use mathlib.Core.Bool.{Bool, true, false, cond}
-use mathlib.Core.List.{List, [], _∷_, _++_}
+use mathlib.Core.List.{List, _++_}
 use lib.Dec.{T}
 use lib.ListN.{length, drop}
 use Rattle.rules.specs.Lists.{All, every}
@@ -33,7 +33,7 @@ is-name c = (λ t e. absurd (subst (λ d. T (isName d)) e t), back c)
     back House h = tt
     back Generated h = tt
     back TooLong h = tt
-    back Wrong h = absurd (h (λ i. Wrong))
+    back Wrong h = absurd (h refl)
 
 -- a test kept as a premise
 on-cond : {A : Type 0} (P : A → Type 0) (b : Bool) (x y : A) → (T b → P x) → P y → P (cond b x y)

@@ -1,11 +1,11 @@
 -- Each computed test of a line says its sentence of document 01.
-use Prim.Native.Nat.{ℕ, suc, _+_, _≤_, _<_}
+use Prim.Native.Nat.{ℕ, suc, _≤_, _<_}
 use native.Mathlib.Omega.{arith}
 use native.Mathlib.Decide.{decLt}
 use mathlib.Core.Path.{_≡_, refl, sym, ap, ap₂, subst}
 use mathlib.Core.Logic.{_⊎_, inl, inr, _↔_, _≢_}
 use mathlib.Core.Bool.{Bool, true, false, not, _&&_, _||_}
-use mathlib.Core.List.{List, [], _∷_, _++_, map, append-nil}
+use mathlib.Core.List.{List, [], _∷_, _++_, append-nil}
 use lib.Dec.{T, leb, leb→le, le→leb}
 use lib.ListN.{length, length-append, length-map}
 use lib.Seq.{append-snoc}
@@ -15,8 +15,8 @@ use Rattle.kinds.specs.declared.limits.Kind.{Kind}
 use Rattle.kinds.specs.declared.limits.Kind.the-variants.{Plain, Preference}
 use Rattle.rules.specs.Lists.{All, Any, Distinct, some, sum}
 use Rattle.rules.specs.Rules.{Rule, occurrences}
-use Rattle.rules.proofs.Booleans.{decide, T-not-in, T-not-out, T-and, T-and-l, T-and-r, T-or, T-or-out}
-use Rattle.rules.proofs.Lists.{all-app, all-imp, all-any, any-imp, any-with, any-app, app-any, some-any, sum-app}
+use Rattle.rules.proofs.Booleans.{decide, T-not-in, T-not-out, T-or, T-or-out}
+use Rattle.rules.proofs.Lists.{all-any, any-imp, any-with, any-app, app-any, some-any, sum-app}
 use Rattle.names.specs.declared.forms.NameClass.{NameClass}
 use Rattle.names.specs.declared.forms.NameClass.the-variants.{House, Generated, TooLong, Wrong}
 use Rattle.names.specs.Names.{nameClass, takes, allowed}
@@ -24,7 +24,7 @@ use Rattle.name_store.specs.NameStore.{sameBytes}
 use Rattle.name_store.proofs.NameStores.{same-law}
 use Rattle.lines.specs.declared.stage.Stage.{Stage}
 use Rattle.lines.specs.declared.stage.Stage.the-variants.{Declaring, Fixing, Ruling}
-use Rattle.lines.specs.Forms.{Word, atoms, min, vary, fix, Form, declares, rules, broken}
+use Rattle.lines.specs.Forms.{Word, atoms, min, vary, fix, Form, declares, rules}
 use Rattle.lines.specs.Faults.{State, countsOf, expects, ruling?, classesAfter, twice, refusedName, undeclared, numberOf, anyOf, declared, numbered, with-rule, filled}
 use Rattle.faults.specs.Sentences.{Among, Twice, Comes, atoms-line, min-line, vary-line, fix-line, NotAllowed, atomsWith, rulesWith, occurrencesWith, classesWith, PassesLimit, atoms-pass, rules-pass, occurrences-pass, classes-pass}
 
