@@ -19,7 +19,7 @@ use Rattle.lines.specs.Forms.{formOf}
 use Rattle.lines.specs.Faults.{State, next, fault, ruling?, stepForm}
 use Rattle.lines.specs.Said.{Said, accepted, refused, start, programOf, onStep, readLines, said}
 use Rattle.faults.specs.Sentences.{Lowest, Faultless, added, Sound}
-use Rattle.faults.specs.EarliestFault.{Passed, RefusedAt, AcceptedAs}
+use Rattle.faults.specs.EarliestFault.{Passed, RefusedAt, AcceptedAs, Refuses, Accepts}
 use Rattle.faults.proofs.Tests.{ruling-law}
 use Rattle.faults.proofs.LowestFault.{Answers, line-answers, fault-iff, next-iff, start-sound, added-sound}
 
@@ -154,7 +154,9 @@ module _ (text : List ℕ) where
           let p = passed-read 1 (start text) (start-sound text) (h .before) (h .line ∷ h .rest) (h .state) (h .passed) in
           let n : 1 + length (h .before) ≡ k = let m = h .number in omega arith in
           ap (readLines 1 (start text)) (h .are-lines) ∙ p .0 ∙ fault-read (1 + length (h .before)) (h .state) (h .line) (h .rest) r (fault-iff (h .state) (p .1) (h .line) r .1 (h .lowest)) ∙ ap (refused r) n
-      back (inr h) = lines-passed (h .state) (h .passed) ∙ end-incomplete (suc (length (lines text))) (h .state) (h .incomplete) ∙ ap₂ refused (sym (h .refusal)) (sym (h .number))
+      back (inr h) =
+          let n : suc (length (lines text)) ≡ k = let m = h .number in omega arith in
+          lines-passed (h .state) (h .passed) ∙ end-incomplete (suc (length (lines text))) (h .state) (h .incomplete) ∙ ap₂ refused (sym (h .refusal)) n
 
   whole-accepted : (p : Program) (names : List (List ℕ)) → whole ≡ accepted p names ↔ AcceptedAs text p names
   whole-accepted p names = (λ e. there e (outcome 1 (start text) (start-sound text) (lines text)), back)
@@ -174,30 +176,30 @@ module _ (text : List ℕ) where
       back h = lines-passed (h .state) (h .passed) ∙ end-complete (suc (length (lines text))) (h .state) (h .complete) ∙ ap₂ accepted (sym (h .program)) (sym (h .are-names))
 
   -- refusal 1 with line 0 exactly when the text is too long; any other with the earliest faulty line, or one past the last where a line is missing
-  pub said-refused : (r : Refusal) (k : ℕ) → said text ≡ refused r k ↔ (((textLimit < length text) × (r ≡ TextTooLong) × (k ≡ 0)) ⊎ ((length text ≤ textLimit) × RefusedAt text r k))
+  pub said-refused : (r : Refusal) (k : ℕ) → said text ≡ refused r k ↔ Refuses text r k
   unfolding said
   said-refused r k = step (leb (length text) textLimit) (leb→le (length text) textLimit) (le→leb (length text) textLimit)
     where
-      step : (b : Bool) → (T b → length text ≤ textLimit) → (length text ≤ textLimit → T b) → cond b whole (refused TextTooLong 0) ≡ refused r k ↔ (((textLimit < length text) × (r ≡ TextTooLong) × (k ≡ 0)) ⊎ ((length text ≤ textLimit) × RefusedAt text r k))
+      step : (b : Bool) → (T b → length text ≤ textLimit) → (length text ≤ textLimit → T b) → cond b whole (refused TextTooLong 0) ≡ refused r k ↔ Refuses text r k
       step true f g = (λ e. inr (f tt, whole-refused r k .0 e), back (f tt))
         where
-          back : length text ≤ textLimit → ((textLimit < length text) × (r ≡ TextTooLong) × (k ≡ 0)) ⊎ ((length text ≤ textLimit) × RefusedAt text r k) → whole ≡ refused r k
+          back : length text ≤ textLimit → Refuses text r k → whole ≡ refused r k
           back l (inl h) = absurd (let m = h .0 in omega arith)
           back l (inr h) = whole-refused r k .1 (h .1)
-      step false f g = (λ e. let s = same-refusal e in inl (long (decLt textLimit (length text)), sym (s .0), sym (s .1)), back)
+      step false f g = (λ e. let s = same-refusal e in inl (long (decLt textLimit (length text)), sym (s .0), omega (arith, s .1)), back)
         where
           long : Dec (textLimit < length text) → textLimit < length text
           long (yes l) = l
           long (no l) = absurd (g (omega arith))
 
-          back : ((textLimit < length text) × (r ≡ TextTooLong) × (k ≡ 0)) ⊎ ((length text ≤ textLimit) × RefusedAt text r k) → refused TextTooLong 0 ≡ refused r k
-          back (inl h) = ap₂ refused (sym (h .1)) (sym (h .2))
+          back : Refuses text r k → refused TextTooLong 0 ≡ refused r k
+          back (inl h) = let n : 0 ≡ k = omega (arith, h .2) in ap₂ refused (sym (h .1)) n
           back (inr h) = absurd (g (h .0))
 
-  pub said-accepted : (p : Program) (names : List (List ℕ)) → said text ≡ accepted p names ↔ ((length text ≤ textLimit) × AcceptedAs text p names)
+  pub said-accepted : (p : Program) (names : List (List ℕ)) → said text ≡ accepted p names ↔ Accepts text p names
   unfolding said
   said-accepted p names = step (leb (length text) textLimit) (leb→le (length text) textLimit) (le→leb (length text) textLimit)
     where
-      step : (b : Bool) → (T b → length text ≤ textLimit) → (length text ≤ textLimit → T b) → cond b whole (refused TextTooLong 0) ≡ accepted p names ↔ ((length text ≤ textLimit) × AcceptedAs text p names)
+      step : (b : Bool) → (T b → length text ≤ textLimit) → (length text ≤ textLimit → T b) → cond b whole (refused TextTooLong 0) ≡ accepted p names ↔ Accepts text p names
       step true f g = (λ e. (f tt, whole-accepted p names .0 e), λ h. whole-accepted p names .1 (h .1))
       step false f g = (λ e. absurd (apart (sym e)), λ h. absurd (g (h .0)))

@@ -98,7 +98,7 @@ module _ (st : State) (f : Form) where
 
   -- a test before the others
   tested : (b : Bool) (r : Refusal) (s : Step) → T b ↔ Says r st f → NoneBelow (numberOf r) → (NoneBelow (suc (numberOf r)) → Answers s) → Answers (first b r s)
-  tested true r s law below rest = inl (r, refl, record { says = law .0 tt; none-lower = below })
+  tested true r s law below rest = inl (r, refl, record { says = law .0 tt; none-lower = λ q l. below q (omega arith) })
   tested false r s law below rest = rest (none-up r below (law .1))
 
   passes : NoneBelow 9 → Answers (next (added st f))
@@ -149,7 +149,7 @@ module _ (st : State) (sound : Sound st) where
   form-answers : (f : Form) → Named f → Answers st f (stepForm st f)
   form-answers (declares w xs) named = declare-answers w xs named
   form-answers (rules hs bs ns) named = rule-answers hs bs ns named
-  form-answers broken named = inl (BrokenForm, refl, record { says = tt; none-lower = none-at-all st broken })
+  form-answers broken named = inl (BrokenForm, refl, record { says = tt; none-lower = λ q l. none-at-all st broken q (omega arith) })
 
   pub line-answers : (l : List ℕ) → Answers st (formOf l) (stepForm st (formOf l))
   line-answers l = form-answers (formOf l) (line-named l)
@@ -160,8 +160,8 @@ one-lowest : (st : State) (f : Form) (q r : Refusal) → Lowest st f q → Lowes
 one-lowest st f q r a b = step (decLt (numberOf q) (numberOf r)) (decLt (numberOf r) (numberOf q))
   where
     step : Dec (numberOf q < numberOf r) → Dec (numberOf r < numberOf q) → q ≡ r
-    step (yes k) m = absurd (b .none-lower q k (a .says))
-    step (no k) (yes m) = absurd (a .none-lower r m (b .says))
+    step (yes k) m = absurd (b .none-lower q (omega arith) (a .says))
+    step (no k) (yes m) = absurd (a .none-lower r (omega arith) (b .says))
     step (no k) (no m) = one-number q r (omega arith)
 
 fault-of : Step → Refusal
@@ -218,7 +218,7 @@ pub added-sound : (st : State) → Sound st → (f : Form) → Faultless st f �
 added-sound st sound (declares w xs) none = record { different = none DeclaredTwice; classes-fit = fit (decLt classLimit (classesAfter w (st .classes))) }
   where
     fit : Dec (classLimit < classesAfter w (st .classes)) → classesAfter w (st .classes) ≤ classLimit
-    fit (yes h) = absurd (none Limit (classes-pass (subst (λ n. classLimit < n) (classes-counted st w xs) h)))
+    fit (yes h) = absurd (none Limit (classes-pass (omega (arith, classes-counted st w xs))))
     fit (no h) = omega arith
 added-sound st sound (rules hs bs ns) none = record { different = sound .different; classes-fit = sound .classes-fit }
 added-sound st sound broken none = sound

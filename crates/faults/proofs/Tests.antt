@@ -254,16 +254,16 @@ limit-law : (st : State) (f : Form) → (CountPasses (st .kind) (countsWith st f
 limit-law st f = (there, back)
   where
     there : CountPasses (st .kind) (countsWith st f) ⊎ (classLimit < classesWith st f) → PassesLimit st f
-    there (inl (inl h)) = atoms-pass h
-    there (inl (inr (inl h))) = rules-pass h
-    there (inl (inr (inr h))) = occurrences-pass h
-    there (inr h) = classes-pass h
+    there (inl (inl h)) = atoms-pass (omega arith)
+    there (inl (inr (inl h))) = rules-pass (omega arith)
+    there (inl (inr (inr h))) = occurrences-pass (omega arith)
+    there (inr h) = classes-pass (omega arith)
 
     back : PassesLimit st f → CountPasses (st .kind) (countsWith st f) ⊎ (classLimit < classesWith st f)
-    back (atoms-pass h) = inl (inl h)
-    back (rules-pass h) = inl (inr (inl h))
-    back (occurrences-pass h) = inl (inr (inr h))
-    back (classes-pass h) = inr h
+    back (atoms-pass h) = inl (inl (omega arith))
+    back (rules-pass h) = inl (inr (inl (omega arith)))
+    back (occurrences-pass h) = inl (inr (inr (omega arith)))
+    back (classes-pass h) = inr (omega arith)
 
 module _ (st : State) where
   declared-counts : (w : Word) (xs : List (List ℕ)) → countsOf (declared st w xs) ≡ countsWith st (declares w xs)

@@ -1,11 +1,12 @@
 -- "The earliest faulty line counts; on it, the lowest number. A missing line stands one past the last." (document 01, "Who can be turned back")
-use Prim.Native.Nat.{ℕ, suc}
+use Prim.Native.Nat.{ℕ, suc, _≤_, _<_}
 use mathlib.Core.Path.{_≡_}
 use mathlib.Core.Logic.{_⊎_, _≢_}
 use mathlib.Core.List.{List, [], _∷_, _++_}
 use lib.ListN.{length}
+use Rattle.kinds.specs.Limits.{textLimit}
 use Rattle.kinds.specs.declared.refusals.Refusal.{Refusal}
-use Rattle.kinds.specs.declared.refusals.Refusal.the-variants.{Form as BrokenForm}
+use Rattle.kinds.specs.declared.refusals.Refusal.the-variants.{TextTooLong, Form as BrokenForm}
 use Rattle.stores.specs.Program.{Program}
 use Rattle.lines.specs.declared.stage.Stage.the-variants.{Ruling}
 use Rattle.lines.specs.Lines.{lines}
@@ -48,3 +49,10 @@ pub record AcceptedAs (text : List ℕ) (p : Program) (names : List (List ℕ)) 
   pub complete : state .stage ≡ Ruling
   pub program : p ≡ programOf state
   pub are-names : names ≡ state .names
+
+-- 1 "text too long (line 0, tested first)", then the lines
+abbrev pub Refuses : List ℕ → Refusal → ℕ → Type 0
+Refuses text r k = ((textLimit < length text) × (r ≡ TextTooLong) × (k ≡ 0)) ⊎ ((length text ≤ textLimit) × RefusedAt text r k)
+
+abbrev pub Accepts : List ℕ → Program → List (List ℕ) → Type 0
+Accepts text p names = (length text ≤ textLimit) × AcceptedAs text p names
