@@ -1,4 +1,6 @@
 -- The laws of the faults.
+pub mod Connectives
+pub mod NameClasses
 pub mod Tests
 pub mod LineNames
 pub mod LowestFault

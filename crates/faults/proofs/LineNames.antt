@@ -15,6 +15,7 @@ use Rattle.name_store.specs.NameStore.{sameBytes}
 use Rattle.lines.specs.Items.{items, span}
 use Rattle.lines.specs.Forms.{Word, atoms, min, vary, fix, Form, declares, rules, broken, isName, begins, Cut, cut, none, cutNames, cutList, onCut, tagOf, headTag, bodyTag, notTag, listEnd, ruleEnd, closed, declaredForm, ruleForm, formOf}
 use Rattle.faults.specs.Sentences.{namesOf}
+use Rattle.faults.proofs.Connectives.{on-cond}
 
 abbrev Names : List (List ℕ) → Type 0
 Names xs = All (λ x. nameClass x ≢ Wrong) xs
@@ -35,28 +36,23 @@ is-name c = (λ t e. absurd (subst (λ d. T (isName d)) e t), back c)
     back TooLong h = tt
     back Wrong h = absurd (h refl)
 
--- a test kept as a premise
-on-cond : {A : Type 0} (P : A → Type 0) (b : Bool) (x y : A) → (T b → P x) → P y → P (cond b x y)
-on-cond P true x y h k = h tt
-on-cond P false x y h k = k
-
 names-cut : (s : List ℕ) → CutNamed (cutNames s)
 unfolding cutNames
 names-cut s =
     on-cond CutNamed (every (λ x. isName (nameClass x)) (items s)) (cut (items s) (drop (span (items s)) s)) none
     (every-all (λ x. isName (nameClass x)) (λ x. nameClass x ≢ Wrong) (λ x. is-name (nameClass x)) (items s) .0)
-    tt
+    (λ f. tt)
 
 list-cut : (tag s : List ℕ) → CutNamed (cutList tag s)
 unfolding cutList
-list-cut tag s = on-cond CutNamed (begins tag s) (cutNames (drop (length tag) s)) none (λ t. names-cut (drop (length tag) s)) tt
+list-cut tag s = on-cond CutNamed (begins tag s) (cutNames (drop (length tag) s)) none (λ t. names-cut (drop (length tag) s)) (λ f. tt)
 
 on-cut : (c : Cut) (f : List (List ℕ) → List ℕ → Form) → CutNamed c → ((ns : List (List ℕ)) (rest : List ℕ) → Names ns → Named (f ns rest)) → Named (onCut c f)
 on-cut (cut ns rest) f h k = k ns rest h
 on-cut none f h k = tt
 
 on-closed : (rest ending : List ℕ) (f : Form) → Named f → Named (closed rest ending f)
-on-closed rest ending f h = on-cond Named (sameBytes rest ending) f broken (λ t. h) tt
+on-closed rest ending f h = on-cond Named (sameBytes rest ending) f broken (λ t. h) (λ f. tt)
 
 declared-named : (w : Word) (l : List ℕ) → Named (declaredForm w l)
 unfolding declaredForm
@@ -74,9 +70,9 @@ pub line-named : (l : List ℕ) → Named (formOf l)
 unfolding formOf
 line-named l =
     on-cond Named (begins (tagOf atoms) l) (declaredForm atoms l) after-atoms (λ t. declared-named atoms l)
-    (on-cond Named (begins (tagOf min) l) (declaredForm min l) after-min (λ t. declared-named min l)
-    (on-cond Named (begins (tagOf vary) l) (declaredForm vary l) after-vary (λ t. declared-named vary l)
-    (on-cond Named (begins (tagOf fix) l) (declaredForm fix l) (ruleForm l) (λ t. declared-named fix l) (rule-named l))))
+    (λ f. on-cond Named (begins (tagOf min) l) (declaredForm min l) after-min (λ t. declared-named min l)
+    (λ g. on-cond Named (begins (tagOf vary) l) (declaredForm vary l) after-vary (λ t. declared-named vary l)
+    (λ h. on-cond Named (begins (tagOf fix) l) (declaredForm fix l) (ruleForm l) (λ t. declared-named fix l) (λ k. rule-named l))))
   where
     after-vary : Form
     after-vary = cond (begins (tagOf fix) l) (declaredForm fix l) (ruleForm l)

@@ -20,7 +20,8 @@ use Rattle.lines.specs.Forms.{Word, Form, declares, rules, broken, formOf}
 use Rattle.lines.specs.Faults.{State, Step, next, fault, first, countsOf, expects, ruling?, classesAfter, twice, refusedName, undeclared, anyOf, declared, numbered, with-rule, filled, declare, addRule, stepForm}
 use Rattle.lines.specs.Said.{start}
 use Rattle.faults.specs.Sentences.{Among, NotAllowed, Says, Lowest, Faultless, added, Sound, classes-pass}
-use Rattle.faults.proofs.Tests.{not-law, comes-law, ruling-law, names-law, any-law, twice-law, lists-law, undeclared-law, classes-counted, declared-limit, rule-limit, filled-law}
+use Rattle.faults.proofs.Connectives.{not-law}
+use Rattle.faults.proofs.Tests.{comes-law, ruling-law, names-law, any-law, twice-law, lists-law, undeclared-law, classes-counted, declared-limit, rule-limit, filled-law}
 use Rattle.faults.proofs.LineNames.{Named, line-named}
 
 -- refusals of one number are the same

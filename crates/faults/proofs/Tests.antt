@@ -26,23 +26,8 @@ use Rattle.lines.specs.declared.stage.Stage.{Stage}
 use Rattle.lines.specs.declared.stage.Stage.the-variants.{Declaring, Fixing, Ruling}
 use Rattle.lines.specs.Forms.{Word, atoms, min, vary, fix, Form, declares, rules}
 use Rattle.lines.specs.Faults.{State, countsOf, expects, ruling?, classesAfter, twice, refusedName, undeclared, numberOf, anyOf, declared, numbered, with-rule, filled}
+use Rattle.faults.proofs.Connectives.{not-law, or-law, not-and}
 use Rattle.faults.specs.Sentences.{Among, Twice, Comes, atoms-line, min-line, vary-line, fix-line, NotAllowed, atomsWith, rulesWith, occurrencesWith, classesWith, PassesLimit, atoms-pass, rules-pass, occurrences-pass, classes-pass}
-
--- a test that fails says that its sentence does not hold
-pub not-law : {P : Type 0} (b : Bool) → T b ↔ P → T (not b) ↔ (P → ⊥)
-not-law b law = (λ t p. T-not-out b t (law .1 p), λ h. T-not-in b (λ t. h (law .0 t)))
-
--- two tests
-or-law : {P Q : Type 0} (a b : Bool) → T a ↔ P → T b ↔ Q → T (a || b) ↔ (P ⊎ Q)
-or-law {P} {Q} a b f g = (λ t. there (T-or-out a b t), λ h. T-or a b (back h))
-  where
-    there : T a ⊎ T b → P ⊎ Q
-    there (inl t) = inl (f .0 t)
-    there (inr t) = inr (g .0 t)
-
-    back : P ⊎ Q → T a ⊎ T b
-    back (inl h) = inl (f .1 h)
-    back (inr h) = inr (g .1 h)
 
 -- 2
 
@@ -228,14 +213,6 @@ passes-law n limit = let law = not-law (leb n limit) (leb→le n limit, le→leb
     past : (n ≤ limit → ⊥) → Dec (limit < n) → limit < n
     past h (yes l) = l
     past h (no l) = absurd (h (omega arith))
-
-not-and : {P Q : Type 0} (a b : Bool) → T (not a) ↔ P → T (not b) ↔ Q → T (not (a && b)) ↔ (P ⊎ Q)
-not-and {P} {Q} true b f g = (λ t. inr (g .0 t), λ h. right h)
-  where
-    right : P ⊎ Q → T (not b)
-    right (inl h) = absurd (f .1 h)
-    right (inr h) = g .1 h
-not-and {P} {Q} false b f g = (λ t. inl (f .0 tt), λ h. tt)
 
 -- some of the three counts passes its limit
 abbrev CountPasses : Kind → Counts → Type 0
