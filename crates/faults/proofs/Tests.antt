@@ -27,6 +27,7 @@ use Rattle.lines.specs.declared.stage.Stage.the-variants.{Declaring, Fixing, Ru
 use Rattle.lines.specs.Forms.{Word, atoms, min, vary, fix, Form, declares, rules}
 use Rattle.lines.specs.Faults.{State, countsOf, expects, ruling?, classesAfter, twice, refusedName, undeclared, numberOf, anyOf, declared, numbered, with-rule, filled}
 use Rattle.faults.proofs.Connectives.{not-law, or-law, not-and}
+use Rattle.faults.proofs.NameClasses.{long-iff, generated-iff}
 use Rattle.faults.specs.Sentences.{Among, Twice, Comes, atoms-line, min-line, vary-line, fix-line, NotAllowed, atomsWith, rulesWith, occurrencesWith, classesWith, PassesLimit, atoms-pass, rules-pass, occurrences-pass, classes-pass}
 
 -- 2
@@ -67,33 +68,50 @@ ruling-law stage = (there stage, λ e. subst (λ s. T (ruling? s)) (sym e) tt)
 
 -- 3
 
--- of what is a name at all
-pub allowed-law : (kind : Kind) (x : List ℕ) → T (refusedName kind x) ↔ (NotAllowed kind x ⊎ (nameClass x ≡ Wrong))
-unfolding allowed
-allowed-law kind x = (there kind (nameClass x), back kind (nameClass x))
-  where
-    there : (k : Kind) (c : NameClass) → T (not (takes k c)) → ((c ≡ TooLong) ⊎ ((k ≡ Preference) × (c ≡ Generated))) ⊎ (c ≡ Wrong)
-    there Plain House t = absurd t
-    there Plain Generated t = absurd t
-    there Plain TooLong t = inl (inl refl)
-    there Plain Wrong t = inr refl
-    there Preference House t = absurd t
-    there Preference Generated t = inl (inr (refl, refl))
-    there Preference TooLong t = inl (inl refl)
-    there Preference Wrong t = inr refl
+module _ (kind : Kind) (x : List ℕ) where
+  -- by the class of the name
+  abbrev ClassRefused : Kind → NameClass → Type 0
+  ClassRefused k c = ((c ≡ TooLong) ⊎ ((k ≡ Preference) × (c ≡ Generated))) ⊎ (c ≡ Wrong)
 
-    long : (k : Kind) → T (not (takes k TooLong))
-    long Plain = tt
-    long Preference = tt
+  class-law : T (refusedName kind x) ↔ ClassRefused kind (nameClass x)
+  unfolding allowed
+  class-law = (there kind (nameClass x), back kind (nameClass x))
+    where
+      there : (k : Kind) (c : NameClass) → T (not (takes k c)) → ClassRefused k c
+      there Plain House t = absurd t
+      there Plain Generated t = absurd t
+      there Plain TooLong t = inl (inl refl)
+      there Plain Wrong t = inr refl
+      there Preference House t = absurd t
+      there Preference Generated t = inl (inr (refl, refl))
+      there Preference TooLong t = inl (inl refl)
+      there Preference Wrong t = inr refl
 
-    wrong : (k : Kind) → T (not (takes k Wrong))
-    wrong Plain = tt
-    wrong Preference = tt
+      long : (k : Kind) → T (not (takes k TooLong))
+      long Plain = tt
+      long Preference = tt
 
-    back : (k : Kind) (c : NameClass) → ((c ≡ TooLong) ⊎ ((k ≡ Preference) × (c ≡ Generated))) ⊎ (c ≡ Wrong) → T (not (takes k c))
-    back k c (inl (inl e)) = subst (λ d. T (not (takes k d))) (sym e) (long k)
-    back k c (inl (inr e)) = subst (λ j. T (not (takes j c))) (sym (e .0)) (subst (λ d. T (not (takes Preference d))) (sym (e .1)) tt)
-    back k c (inr e) = subst (λ d. T (not (takes k d))) (sym e) (wrong k)
+      wrong : (k : Kind) → T (not (takes k Wrong))
+      wrong Plain = tt
+      wrong Preference = tt
+
+      back : (k : Kind) (c : NameClass) → ClassRefused k c → T (not (takes k c))
+      back k c (inl (inl e)) = subst (λ d. T (not (takes k d))) (sym e) (long k)
+      back k c (inl (inr e)) = subst (λ j. T (not (takes j c))) (sym (e .0)) (subst (λ d. T (not (takes Preference d))) (sym (e .1)) tt)
+      back k c (inr e) = subst (λ d. T (not (takes k d))) (sym e) (wrong k)
+
+  allowed-law : T (refusedName kind x) ↔ (NotAllowed kind x ⊎ (nameClass x ≡ Wrong))
+  allowed-law = (λ t. there (class-law .0 t), λ h. class-law .1 (back h))
+    where
+      there : ClassRefused kind (nameClass x) → NotAllowed kind x ⊎ (nameClass x ≡ Wrong)
+      there (inl (inl e)) = inl (inl (long-iff x .0 e))
+      there (inl (inr e)) = inl (inr (e .0, generated-iff x .0 (e .1)))
+      there (inr e) = inr e
+
+      back : NotAllowed kind x ⊎ (nameClass x ≡ Wrong) → ClassRefused kind (nameClass x)
+      back (inl (inl h)) = inl (inl (long-iff x .1 h))
+      back (inl (inr h)) = inl (inr (h .0, generated-iff x .1 (h .1)))
+      back (inr e) = inr e
 
 pub names-law : (kind : Kind) (xs : List (List ℕ)) → All (λ x. nameClass x ≢ Wrong) xs → T (some (refusedName kind) xs) ↔ Any (NotAllowed kind) xs
 names-law kind xs named = let law = some-any (refusedName kind) (λ x. NotAllowed kind x ⊎ (nameClass x ≡ Wrong)) (allowed-law kind) xs in (

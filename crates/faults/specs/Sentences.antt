@@ -12,12 +12,11 @@ use Rattle.kinds.specs.declared.refusals.Refusal.{Refusal}
 use Rattle.kinds.specs.declared.refusals.Refusal.the-variants.{TextTooLong, Form as BrokenForm, Name, DeclaredTwice, Undeclared, TwiceInList, Limit, FilledNot, Output, RuleStore, TooManyAtoms, SetNumber, Budget, NameStore}
 use Rattle.rules.specs.Lists.{Any, sum}
 use Rattle.rules.specs.Rules.{occurrences}
-use Rattle.names.specs.declared.forms.NameClass.the-variants.{Generated, TooLong}
-use Rattle.names.specs.Names.{nameClass}
 use Rattle.lines.specs.declared.stage.Stage.{Stage}
 use Rattle.lines.specs.declared.stage.Stage.the-variants.{Declaring, Fixing, Ruling}
 use Rattle.lines.specs.Forms.{Word, atoms, min, vary, fix, Form, declares, rules, broken}
 use Rattle.lines.specs.Faults.{State, numbered, declared, with-rule}
+use Rattle.faults.specs.NameForms.{GeneratedName, TooLongName}
 
 -- x is one of the entries
 abbrev pub Among : {A : Type 0} → List A → A → Type 0
@@ -49,7 +48,7 @@ BreaksForm st broken = Unit {0}
 
 -- 3 "house name too long (after `N.`, `S.` or `D.` too), or a generated name in a preference file"
 abbrev pub NotAllowed : Kind → List ℕ → Type 0
-NotAllowed kind x = (nameClass x ≡ TooLong) ⊎ ((kind ≡ Preference) × (nameClass x ≡ Generated))
+NotAllowed kind x = TooLongName x ⊎ ((kind ≡ Preference) × GeneratedName x)
 
 abbrev pub HasNameNotAllowed : State → Form → Type 0
 HasNameNotAllowed st f = Any (NotAllowed (st .kind)) (namesOf f)
