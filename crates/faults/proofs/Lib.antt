@@ -1,6 +1,7 @@
 -- The laws of the faults.
 pub mod Connectives
 pub mod NameClasses
+pub mod LineForms
 pub mod Tests
 pub mod LineNames
 pub mod LowestFault

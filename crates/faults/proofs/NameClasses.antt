@@ -19,7 +19,7 @@ use Rattle.names.specs.Names.{letter?, digit?, nameByte?, house?, classNumber?,
 use Rattle.faults.specs.NameForms.{Letter, Digit, NameByte, HouseBytes, HouseName, LongHouseName, Marked, ClassNumber, GeneratedName, TooLongName}
 use Rattle.faults.proofs.Connectives.{or-law, and-law, on-cond}
 
-eq-law : (m n : ℕ) → T (eqb m n) ↔ (m ≡ n)
+pub eq-law : (m n : ℕ) → T (eqb m n) ↔ (m ≡ n)
 eq-law m n = (eqb→eq m n, eq→eqb m n)
 
 le-law : (m n : ℕ) → T (leb m n) ↔ (m ≤ n)
