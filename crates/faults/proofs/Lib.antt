@@ -3,6 +3,5 @@ pub mod Connectives
 pub mod NameClasses
 pub mod LineForms
 pub mod Tests
-pub mod LineNames
 pub mod LowestFault
 pub mod EarliestFault

@@ -8,10 +8,10 @@ use mathlib.Core.List.{List, [], _∷_, _++_, append-assoc}
 use lib.Dec.{T, eqb, eqb→eq}
 use lib.ListN.{length, take, drop, length-append, take-append-drop}
 use lib.Seq.{drop-nil, take-append-seam, drop-append-seam}
-use Rattle.kinds.specs.Words.{space, open-bracket, close-bracket, line-end, headWord, bodyWord, notWord}
+use Rattle.kinds.specs.Words.{space, open-bracket, close-bracket, line-end, bodyWord, notWord}
 use Rattle.rules.specs.Lists.{All, every}
 use Rattle.rules.proofs.Booleans.{T-not-in, is-true}
-use Rattle.rules.proofs.Lists.{all-imp, every-all}
+use Rattle.rules.proofs.Lists.{all-app, all-imp, every-all}
 use Rattle.names.specs.declared.forms.NameClass.{NameClass}
 use Rattle.names.specs.declared.forms.NameClass.the-variants.{House, Generated, TooLong, Wrong}
 use Rattle.names.specs.Names.{nameClass}
@@ -21,6 +21,7 @@ use Rattle.lines.specs.Items.{delimiter?, run, itemsFrom, items, span}
 use Rattle.lines.specs.Forms.{Word, atoms, min, vary, fix, Form, declares, rules, broken, isName, begins, Cut, cut, none, cutNames, cutList, onCut, tagOf, headTag, bodyTag, notTag, listEnd, ruleEnd, closed, declaredForm, ruleForm, formOf}
 use Rattle.faults.specs.NameForms.{NameByte, HouseBytes, Marked, ClassNumber}
 use Rattle.faults.specs.LineForms.{IsName, spaced, DeclaringLine, RuleLine, HasForm}
+use Rattle.faults.specs.Sentences.{namesOf}
 use Rattle.faults.proofs.Connectives.{or-law, on-cond}
 use Rattle.faults.proofs.NameClasses.{eq-law, house-iff, long-iff, generated-iff}
 
@@ -292,3 +293,11 @@ module _ (l : List ℕ) where
       back h (declares w xs) e r = absurd (h .0 w xs (subst (Reads l) e r))
       back h (rules hs bs ns) e r = absurd (h .1 hs bs ns (subst (Reads l) e r))
       back h broken e r = e
+
+  pub line-names : All IsName (namesOf (formOf l))
+  line-names = go (formOf l) (reads-line l)
+    where
+      go : (f : Form) → Reads l f → All IsName (namesOf f)
+      go (declares w xs) h = h .1
+      go (rules hs bs ns) h = all-app IsName hs (bs ++ ns) (h .1) (all-app IsName bs ns (h .2) (h .3))
+      go broken h = tt

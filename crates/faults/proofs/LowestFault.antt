@@ -3,7 +3,7 @@ use Prim.Native.Nat.{ℕ, suc, _≤_, _<_}
 use native.Mathlib.Omega.{arith}
 use native.Mathlib.Decide.{decLt}
 use mathlib.Core.Path.{_≡_, refl, sym, ap, _∙_, subst}
-use mathlib.Core.Logic.{_⊎_, inl, inr, _↔_, _≢_}
+use mathlib.Core.Logic.{_⊎_, inl, inr, _↔_}
 use mathlib.Core.Bool.{Bool, true, false, not, _&&_}
 use mathlib.Core.List.{List, [], _∷_, _++_}
 use lib.Dec.{T, leb}
@@ -14,15 +14,14 @@ use Rattle.kinds.specs.declared.refusals.Refusal.{Refusal}
 use Rattle.kinds.specs.declared.refusals.Refusal.the-variants.{TextTooLong, Form as BrokenForm, Name, DeclaredTwice, Undeclared, TwiceInList, Limit, FilledNot, Output, RuleStore, TooManyAtoms, SetNumber, Budget, NameStore}
 use Rattle.rules.specs.Lists.{All, Any, some}
 use Rattle.rules.proofs.Lists.{all-app-l, all-app-r, some-any}
-use Rattle.names.specs.declared.forms.NameClass.the-variants.{Wrong}
-use Rattle.names.specs.Names.{nameClass}
 use Rattle.lines.specs.Forms.{Word, Form, declares, rules, broken, formOf}
 use Rattle.lines.specs.Faults.{State, Step, next, fault, first, countsOf, expects, ruling?, classesAfter, twice, refusedName, undeclared, anyOf, declared, numbered, with-rule, filled, declare, addRule, stepForm}
 use Rattle.lines.specs.Said.{start}
-use Rattle.faults.specs.Sentences.{Among, NotAllowed, Says, Lowest, Faultless, added, Sound, classes-pass}
+use Rattle.faults.specs.LineForms.{IsName}
+use Rattle.faults.specs.Sentences.{namesOf, Among, NotAllowed, Says, Lowest, Faultless, added, Sound, classes-pass}
 use Rattle.faults.proofs.Connectives.{not-law}
 use Rattle.faults.proofs.Tests.{comes-law, ruling-law, names-law, any-law, twice-law, lists-law, undeclared-law, classes-counted, declared-limit, rule-limit, filled-law}
-use Rattle.faults.proofs.LineNames.{Named, line-named}
+use Rattle.faults.proofs.LineForms.{line-names}
 
 -- refusals of one number are the same
 
@@ -106,7 +105,7 @@ module _ (st : State) (f : Form) where
   passes below = inr (refl, none-left below)
 
 module _ (st : State) (sound : Sound st) where
-  declare-answers : (w : Word) (xs : List (List ℕ)) → Named (declares w xs) → Answers st (declares w xs) (declare st w xs)
+  declare-answers : (w : Word) (xs : List (List ℕ)) → All IsName xs → Answers st (declares w xs) (declare st w xs)
   unfolding declare
   declare-answers w xs named =
       tested st f (not (expects (st .kind) (st .stage) w)) BrokenForm _ (not-law (expects (st .kind) (st .stage) w) (comes-law (st .kind) (st .stage) w)) (none-at-all st f)
@@ -118,7 +117,7 @@ module _ (st : State) (sound : Sound st) where
       f : Form
       f = declares w xs
 
-  rule-answers : (hs bs ns : List (List ℕ)) → Named (rules hs bs ns) → Answers st (rules hs bs ns) (addRule st hs bs ns)
+  rule-answers : (hs bs ns : List (List ℕ)) → All IsName (hs ++ (bs ++ ns)) → Answers st (rules hs bs ns) (addRule st hs bs ns)
   unfolding addRule
   rule-answers hs bs ns named =
       tested st f (not (ruling? (st .stage))) BrokenForm _ (not-law (ruling? (st .stage)) (ruling-law (st .stage))) (none-at-all st f)
@@ -138,22 +137,22 @@ module _ (st : State) (sound : Sound st) where
       none-declared : (xs : List (List ℕ)) → T (some (undeclared (st .names)) xs) ↔ Any None xs
       none-declared xs = some-any (undeclared (st .names)) None (undeclared-law (st .names)) xs
 
-      in-heads : All (λ x. nameClass x ≢ Wrong) hs
-      in-heads = all-app-l (λ x. nameClass x ≢ Wrong) hs (bs ++ ns) named
+      in-heads : All IsName hs
+      in-heads = all-app-l IsName hs (bs ++ ns) named
 
-      in-bodies : All (λ x. nameClass x ≢ Wrong) bs
-      in-bodies = all-app-l (λ x. nameClass x ≢ Wrong) bs ns (all-app-r (λ x. nameClass x ≢ Wrong) hs (bs ++ ns) named)
+      in-bodies : All IsName bs
+      in-bodies = all-app-l IsName bs ns (all-app-r IsName hs (bs ++ ns) named)
 
-      in-nots : All (λ x. nameClass x ≢ Wrong) ns
-      in-nots = all-app-r (λ x. nameClass x ≢ Wrong) bs ns (all-app-r (λ x. nameClass x ≢ Wrong) hs (bs ++ ns) named)
+      in-nots : All IsName ns
+      in-nots = all-app-r IsName bs ns (all-app-r IsName hs (bs ++ ns) named)
 
-  form-answers : (f : Form) → Named f → Answers st f (stepForm st f)
+  form-answers : (f : Form) → All IsName (namesOf f) → Answers st f (stepForm st f)
   form-answers (declares w xs) named = declare-answers w xs named
   form-answers (rules hs bs ns) named = rule-answers hs bs ns named
   form-answers broken named = inl (BrokenForm, refl, record { says = tt; none-lower = λ q l. none-at-all st broken q (omega arith) })
 
   pub line-answers : (l : List ℕ) → Answers st (formOf l) (stepForm st (formOf l))
-  line-answers l = form-answers (formOf l) (line-named l)
+  line-answers l = form-answers (formOf l) (line-names l)
 
 -- one lowest fault
 

@@ -2,21 +2,21 @@
 use Prim.Native.Nat.{ℕ, suc, _+_, _-_, _≤_, _<_}
 use native.Mathlib.Omega.{arith}
 use native.Mathlib.Decide.{decLt}
-use mathlib.Core.Path.{_≡_, refl, sym, ap, ap₂, _∙_, subst}
-use mathlib.Core.Logic.{_⊎_, inl, inr, _↔_, _≢_}
-use mathlib.Core.Bool.{Bool, true, false, cond, _&&_, _||_}
+use mathlib.Core.Path.{_≡_, refl, ap, ap₂, _∙_, subst}
+use mathlib.Core.Logic.{_⊎_, inl, inr, _↔_}
+use mathlib.Core.Bool.{true, false, cond, _&&_, _||_}
 use mathlib.Core.List.{List, [], _∷_}
 use lib.Dec.{T, leb, eqb, leb→le, le→leb, eqb→eq}
 use lib.ListN.{length, getD, drop}
 use borrow.Author.Tests.{le-leb, ne-eqb}
 use Rattle.kinds.specs.Limits.{nameLimit}
-use Rattle.rules.specs.Lists.{All, every}
-use Rattle.rules.proofs.Booleans.{T-and, T-and-l, T-and-r, T-or, T-or-out, eq→eqb, is-true, is-false}
+use Rattle.rules.specs.Lists.{every}
+use Rattle.rules.proofs.Booleans.{eq→eqb, is-true, is-false}
 use Rattle.rules.proofs.Lists.{every-all}
 use Rattle.names.specs.declared.forms.NameClass.{NameClass}
 use Rattle.names.specs.declared.forms.NameClass.the-variants.{House, Generated, TooLong, Wrong}
 use Rattle.names.specs.Names.{letter?, digit?, nameByte?, house?, classNumber?, sized, dotted, generated, nameClass}
-use Rattle.faults.specs.NameForms.{Letter, Digit, NameByte, HouseBytes, HouseName, LongHouseName, Marked, ClassNumber, GeneratedName, TooLongName}
+use Rattle.faults.specs.NameForms.{NameByte, HouseBytes, HouseName, Marked, ClassNumber, GeneratedName, TooLongName}
 use Rattle.faults.proofs.Connectives.{or-law, and-law, on-cond}
 
 pub eq-law : (m n : ℕ) → T (eqb m n) ↔ (m ≡ n)

@@ -4,7 +4,7 @@ use native.Mathlib.Omega.{arith}
 use native.Mathlib.Decide.{decLt}
 use mathlib.Core.Path.{_≡_, refl, sym, ap, ap₂, subst}
 use mathlib.Core.Logic.{_⊎_, inl, inr, _↔_, _≢_}
-use mathlib.Core.Bool.{Bool, true, false, not, _&&_, _||_}
+use mathlib.Core.Bool.{Bool, not, _&&_, _||_}
 use mathlib.Core.List.{List, [], _∷_, _++_, append-nil}
 use lib.Dec.{T, leb, leb→le, le→leb}
 use lib.ListN.{length, length-append, length-map}
@@ -15,7 +15,7 @@ use Rattle.kinds.specs.declared.limits.Kind.{Kind}
 use Rattle.kinds.specs.declared.limits.Kind.the-variants.{Plain, Preference}
 use Rattle.rules.specs.Lists.{All, Any, Distinct, some, sum}
 use Rattle.rules.specs.Rules.{Rule, occurrences}
-use Rattle.rules.proofs.Booleans.{decide, T-not-in, T-not-out, T-or, T-or-out}
+use Rattle.rules.proofs.Booleans.{decide, T-or, T-or-out}
 use Rattle.rules.proofs.Lists.{all-any, any-imp, any-with, any-app, app-any, some-any, sum-app}
 use Rattle.names.specs.declared.forms.NameClass.{NameClass}
 use Rattle.names.specs.declared.forms.NameClass.the-variants.{House, Generated, TooLong, Wrong}
@@ -28,6 +28,8 @@ use Rattle.lines.specs.Forms.{Word, atoms, min, vary, fix, Form, declares, rule
 use Rattle.lines.specs.Faults.{State, countsOf, expects, ruling?, classesAfter, twice, refusedName, undeclared, numberOf, anyOf, declared, numbered, with-rule, filled}
 use Rattle.faults.proofs.Connectives.{not-law, or-law, not-and}
 use Rattle.faults.proofs.NameClasses.{long-iff, generated-iff}
+use Rattle.faults.proofs.LineForms.{not-wrong}
+use Rattle.faults.specs.LineForms.{IsName}
 use Rattle.faults.specs.Sentences.{Among, Twice, Comes, atoms-line, min-line, vary-line, fix-line, NotAllowed, atomsWith, rulesWith, occurrencesWith, classesWith, PassesLimit, atoms-pass, rules-pass, occurrences-pass, classes-pass}
 
 -- 2
@@ -113,15 +115,18 @@ module _ (kind : Kind) (x : List ℕ) where
       back (inl (inr h)) = inl (inr (h .0, generated-iff x .1 (h .1)))
       back (inr e) = inr e
 
-pub names-law : (kind : Kind) (xs : List (List ℕ)) → All (λ x. nameClass x ≢ Wrong) xs → T (some (refusedName kind) xs) ↔ Any (NotAllowed kind) xs
-names-law kind xs named = let law = some-any (refusedName kind) (λ x. NotAllowed kind x ⊎ (nameClass x ≡ Wrong)) (allowed-law kind) xs in (
-  λ t. any-imp (λ x. (nameClass x ≢ Wrong) × (NotAllowed kind x ⊎ (nameClass x ≡ Wrong))) (NotAllowed kind) right xs (any-with (λ x. NotAllowed kind x ⊎ (nameClass x ≡ Wrong)) (λ x. nameClass x ≢ Wrong) xs named (law .0 t)),
-  λ h. law .1 (any-imp (NotAllowed kind) (λ x. NotAllowed kind x ⊎ (nameClass x ≡ Wrong)) (λ x k. inl k) xs h),
+pub names-law : (kind : Kind) (xs : List (List ℕ)) → All IsName xs → T (some (refusedName kind) xs) ↔ Any (NotAllowed kind) xs
+names-law kind xs named = let law = some-any (refusedName kind) Refused (allowed-law kind) xs in (
+  λ t. any-imp (λ x. IsName x × Refused x) (NotAllowed kind) right xs (any-with Refused IsName xs named (law .0 t)),
+  λ h. law .1 (any-imp (NotAllowed kind) Refused (λ x k. inl k) xs h),
 )
   where
-    right : (x : List ℕ) → (nameClass x ≢ Wrong) × (NotAllowed kind x ⊎ (nameClass x ≡ Wrong)) → NotAllowed kind x
+    Refused : List ℕ → Type 0
+    Refused x = NotAllowed kind x ⊎ (nameClass x ≡ Wrong)
+
+    right : (x : List ℕ) → IsName x × Refused x → NotAllowed kind x
     right x (n, inl h) = h
-    right x (n, inr e) = absurd (n e)
+    right x (n, inr e) = absurd (not-wrong x n e)
 
 -- in any of a rule's three lists
 pub any-law : (P : List ℕ → Type 0) (p : List ℕ → Bool) (hs bs ns : List (List ℕ)) → T (some p hs) ↔ Any P hs → T (some p bs) ↔ Any P bs → T (some p ns) ↔ Any P ns → T (anyOf (some p) hs bs ns) ↔ Any P (hs ++ (bs ++ ns))
