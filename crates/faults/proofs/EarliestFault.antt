@@ -186,7 +186,7 @@ module _ (text : List ℕ) where
           back : length text ≤ textLimit → Refuses text r k → whole ≡ refused r k
           back l (inl h) = absurd (let m = h .0 in omega arith)
           back l (inr h) = whole-refused r k .1 (h .1)
-      step false f g = (λ e. let s = same-refusal e in inl (long (decLt textLimit (length text)), sym (s .0), omega (arith, s .1)), back)
+      step false f g = (λ e. let s = same-refusal e in inl (omega (arith, long (decLt textLimit (length text))), sym (s .0), omega (arith, s .1)), back)
         where
           long : Dec (textLimit < length text) → textLimit < length text
           long (yes l) = l

@@ -5,3 +5,4 @@ pub mod LineForms
 pub mod Tests
 pub mod LowestFault
 pub mod EarliestFault
+pub mod LineOrder

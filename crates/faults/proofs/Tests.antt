@@ -15,7 +15,7 @@ use Rattle.kinds.specs.declared.limits.Kind.{Kind}
 use Rattle.kinds.specs.declared.limits.Kind.the-variants.{Plain, Preference}
 use Rattle.rules.specs.Lists.{All, Any, Distinct, some, sum}
 use Rattle.rules.specs.Rules.{Rule, occurrences}
-use Rattle.rules.proofs.Booleans.{decide, T-or, T-or-out}
+use Rattle.rules.proofs.Booleans.{stable, decide, T-or, T-or-out}
 use Rattle.rules.proofs.Lists.{all-any, any-imp, any-with, any-app, app-any, some-any, sum-app}
 use Rattle.names.specs.declared.forms.NameClass.{NameClass}
 use Rattle.names.specs.declared.forms.NameClass.the-variants.{House, Generated, TooLong, Wrong}
@@ -67,6 +67,13 @@ ruling-law stage = (there stage, λ e. subst (λ s. T (ruling? s)) (sym e) tt)
     there Declaring t = absurd t
     there Fixing t = absurd t
     there Ruling t = refl
+
+-- the order is decided
+pub comes-stable : (kind : Kind) (stage : Stage) (w : Word) → ((Comes kind stage w → ⊥) → ⊥) → Comes kind stage w
+comes-stable kind stage w h = let law = comes-law kind stage w in law .0 (stable (expects kind stage w) (λ n. h (λ c. n (law .1 c))))
+
+pub ruling-stable : (stage : Stage) → ((stage ≢ Ruling) → ⊥) → stage ≡ Ruling
+ruling-stable stage h = let law = ruling-law stage in law .0 (stable (ruling? stage) (λ n. h (λ c. n (law .1 c))))
 
 -- 3
 

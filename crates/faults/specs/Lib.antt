@@ -3,3 +3,4 @@ pub mod NameForms
 pub mod LineForms
 pub mod Sentences
 pub mod EarliestFault
+pub mod LineOrder
