@@ -1,19 +1,15 @@
 -- The stage says which lines have come.
 use Prim.Native.Nat.{ℕ}
 use mathlib.Core.Path.{_≡_, refl, sym, ap, _∙_, subst}
-use mathlib.Core.Logic.{_≢_}
 use mathlib.Core.Bool.{Bool, true, false, cond}
 use mathlib.Core.List.{List, [], _∷_, _++_, map, append-assoc, append-nil}
 use lib.Seq.{append-snoc}
 use Rattle.kinds.specs.declared.limits.Kind.{Kind}
 use Rattle.kinds.specs.declared.limits.Kind.the-variants.{Plain, Preference}
 use Rattle.kinds.specs.declared.refusals.Refusal.the-variants.{Form as BrokenForm}
-use Rattle.rules.specs.Lists.{All}
-use Rattle.rules.proofs.Booleans.{decide}
 use Rattle.rules.proofs.Lists.{all-app}
 use Rattle.lines.specs.declared.stage.Stage.{Stage}
-use Rattle.lines.specs.declared.stage.Stage.the-variants.{Declaring, Fixing, Ruling}
-use Rattle.lines.specs.Lines.{lines}
+use Rattle.lines.specs.declared.stage.Stage.the-variants.{Declaring, Ruling}
 use Rattle.lines.specs.Forms.{Word, atoms, min, vary, fix, Form, declares, rules, broken, begins, tagOf, formOf}
 use Rattle.lines.specs.Faults.{State, stageAfter}
 use Rattle.lines.specs.Said.{start}

@@ -20,7 +20,8 @@ use Rattle.lines.specs.Said.{start}
 use Rattle.faults.specs.LineForms.{IsName}
 use Rattle.faults.specs.Sentences.{namesOf, Among, NotAllowed, Says, Lowest, Faultless, added, Sound, classes-pass}
 use Rattle.faults.proofs.Connectives.{not-law}
-use Rattle.faults.proofs.Tests.{comes-law, ruling-law, names-law, any-law, twice-law, lists-law, undeclared-law, classes-counted, declared-limit, rule-limit, filled-law}
+use Rattle.faults.proofs.LimitTests.{classes-counted, declared-limit, rule-limit}
+use Rattle.faults.proofs.Tests.{comes-law, ruling-law, names-law, any-law, twice-law, lists-law, undeclared-law, filled-law}
 use Rattle.faults.proofs.LineForms.{line-names}
 
 -- refusals of one number are the same

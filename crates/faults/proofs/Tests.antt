@@ -1,22 +1,17 @@
 -- Each computed test of a line says its sentence of document 01.
-use Prim.Native.Nat.{ℕ, suc, _≤_, _<_}
+use Prim.Native.Nat.{ℕ}
 use native.Mathlib.Omega.{arith}
-use native.Mathlib.Decide.{decLt}
-use mathlib.Core.Path.{_≡_, refl, sym, ap, ap₂, subst}
+use mathlib.Core.Path.{_≡_, refl, sym, subst}
 use mathlib.Core.Logic.{_⊎_, inl, inr, _↔_, _≢_}
-use mathlib.Core.Bool.{Bool, not, _&&_, _||_}
+use mathlib.Core.Bool.{Bool, not, _||_}
 use mathlib.Core.List.{List, [], _∷_, _++_, append-nil}
-use lib.Dec.{T, leb, leb→le, le→leb}
-use lib.ListN.{length, length-append, length-map}
+use lib.Dec.{T}
 use lib.Seq.{append-snoc}
-use Rattle.kinds.specs.Limits.{atomLimit, ruleLimit, occurrenceLimit, classLimit, within}
-use Rattle.kinds.specs.declared.limits.Counts.{Counts}
 use Rattle.kinds.specs.declared.limits.Kind.{Kind}
 use Rattle.kinds.specs.declared.limits.Kind.the-variants.{Plain, Preference}
-use Rattle.rules.specs.Lists.{All, Any, Distinct, some, sum}
-use Rattle.rules.specs.Rules.{Rule, occurrences}
+use Rattle.rules.specs.Lists.{All, Any, Distinct, some}
 use Rattle.rules.proofs.Booleans.{stable, decide, T-or, T-or-out}
-use Rattle.rules.proofs.Lists.{all-any, any-imp, any-with, any-app, app-any, some-any, sum-app}
+use Rattle.rules.proofs.Lists.{all-any, any-imp, any-with, any-app, app-any, some-any}
 use Rattle.names.specs.declared.forms.NameClass.{NameClass}
 use Rattle.names.specs.declared.forms.NameClass.the-variants.{House, Generated, TooLong, Wrong}
 use Rattle.names.specs.Names.{nameClass, takes, allowed}
@@ -24,13 +19,13 @@ use Rattle.name_store.specs.NameStore.{sameBytes}
 use Rattle.name_store.proofs.NameStores.{same-law}
 use Rattle.lines.specs.declared.stage.Stage.{Stage}
 use Rattle.lines.specs.declared.stage.Stage.the-variants.{Declaring, Fixing, Ruling}
-use Rattle.lines.specs.Forms.{Word, atoms, min, vary, fix, Form, declares, rules}
-use Rattle.lines.specs.Faults.{State, countsOf, expects, ruling?, classesAfter, twice, refusedName, undeclared, numberOf, anyOf, declared, numbered, with-rule, filled}
-use Rattle.faults.proofs.Connectives.{not-law, or-law, not-and}
+use Rattle.lines.specs.Forms.{Word, atoms, min, vary, fix}
+use Rattle.lines.specs.Faults.{expects, ruling?, twice, refusedName, undeclared, anyOf, filled}
+use Rattle.faults.proofs.Connectives.{not-law, or-law}
 use Rattle.faults.proofs.NameClasses.{long-iff, generated-iff}
 use Rattle.faults.proofs.LineForms.{not-wrong}
 use Rattle.faults.specs.LineForms.{IsName}
-use Rattle.faults.specs.Sentences.{Among, Twice, Comes, atoms-line, min-line, vary-line, fix-line, NotAllowed, atomsWith, rulesWith, occurrencesWith, classesWith, PassesLimit, atoms-pass, rules-pass, occurrences-pass, classes-pass}
+use Rattle.faults.specs.Sentences.{Among, Twice, Comes, atoms-line, min-line, vary-line, fix-line, NotAllowed}
 
 -- 2
 
@@ -156,11 +151,6 @@ pub among-law : (names : List (List ℕ)) (x : List ℕ) → T (some (sameBytes 
 among-law names x = some-any (sameBytes x) (λ y. x ≡ y) (same-law x) names
 
 module _ {A : Type 0} where
-  twice-l : (xs ys : List A) → Twice xs → Twice (xs ++ ys)
-  twice-l [] ys h = absurd h
-  twice-l (x ∷ xs) ys (inl h) = inl (any-app (λ y. x ≡ y) xs ys (inl h))
-  twice-l (x ∷ xs) ys (inr h) = inr (twice-l xs ys h)
-
   -- an entry after a list that has it
   twice-again : (xs : List A) (x : A) (ys : List A) → Among xs x → Twice (xs ++ (x ∷ ys))
   twice-again [] x ys h = absurd h
@@ -235,97 +225,15 @@ lists-law hs bs ns = or-law (twice [] hs) (twice [] bs || twice [] ns) (one hs) 
 pub undeclared-law : (names : List (List ℕ)) (x : List ℕ) → T (undeclared names x) ↔ (Among names x → ⊥)
 undeclared-law names x = not-law (some (sameBytes x) names) (among-law names x)
 
--- 7
-
-passes-law : (n limit : ℕ) → T (not (leb n limit)) ↔ (limit < n)
-passes-law n limit = let law = not-law (leb n limit) (leb→le n limit, le→leb n limit) in (λ t. past (law .0 t) (decLt limit n), λ h. law .1 (λ k. omega arith))
-  where
-    past : (n ≤ limit → ⊥) → Dec (limit < n) → limit < n
-    past h (yes l) = l
-    past h (no l) = absurd (h (omega arith))
-
--- some of the three counts passes its limit
-abbrev CountPasses : Kind → Counts → Type 0
-CountPasses kind c = (atomLimit kind < c .atoms) ⊎ ((ruleLimit kind < c .rules) ⊎ (occurrenceLimit kind < c .occurrences))
-
-within-law : (kind : Kind) (c : Counts) → T (not (within kind c)) ↔ CountPasses kind c
-within-law kind c =
-    not-and (leb (c .atoms) (atomLimit kind)) (leb (c .rules) (ruleLimit kind) && leb (c .occurrences) (occurrenceLimit kind)) (passes-law (c .atoms) (atomLimit kind))
-    (not-and (leb (c .rules) (ruleLimit kind)) (leb (c .occurrences) (occurrenceLimit kind)) (passes-law (c .rules) (ruleLimit kind)) (passes-law (c .occurrences) (occurrenceLimit kind)))
-
--- the counts with the line's own
-abbrev countsWith : State → Form → Counts
-countsWith st f = record { atoms = atomsWith st f; rules = rulesWith st f; occurrences = occurrencesWith st f }
-
-limit-law : (st : State) (f : Form) → (CountPasses (st .kind) (countsWith st f) ⊎ (classLimit < classesWith st f)) ↔ PassesLimit st f
-limit-law st f = (there, back)
-  where
-    there : CountPasses (st .kind) (countsWith st f) ⊎ (classLimit < classesWith st f) → PassesLimit st f
-    there (inl (inl h)) = atoms-pass (omega arith)
-    there (inl (inr (inl h))) = rules-pass (omega arith)
-    there (inl (inr (inr h))) = occurrences-pass (omega arith)
-    there (inr h) = classes-pass (omega arith)
-
-    back : PassesLimit st f → CountPasses (st .kind) (countsWith st f) ⊎ (classLimit < classesWith st f)
-    back (atoms-pass h) = inl (inl (omega arith))
-    back (rules-pass h) = inl (inr (inl (omega arith)))
-    back (occurrences-pass h) = inl (inr (inr (omega arith)))
-    back (classes-pass h) = inr (omega arith)
-
-module _ (st : State) where
-  declared-counts : (w : Word) (xs : List (List ℕ)) → countsOf (declared st w xs) ≡ countsWith st (declares w xs)
-  declared-counts w xs = ap (λ n. record { atoms = n; rules = length (st .program-rules); occurrences = sum occurrences (st .program-rules) }) (length-append (st .names) xs)
-
-  pub classes-counted : (w : Word) (xs : List (List ℕ)) → classesAfter w (st .classes) ≡ classesWith st (declares w xs)
-  classes-counted atoms xs = refl
-  classes-counted min xs = refl
-  classes-counted vary xs = refl
-  classes-counted fix xs = refl
-
-  pub declared-limit : (w : Word) (xs : List (List ℕ)) → T (not (within (st .kind) (countsOf (declared st w xs)) && leb (classesAfter w (st .classes)) classLimit)) ↔ PassesLimit st (declares w xs)
-  declared-limit w xs =
-      let counts = subst (λ c. T (not (within (st .kind) c)) ↔ CountPasses (st .kind) (countsWith st (declares w xs))) (sym (declared-counts w xs)) (within-law (st .kind) (countsWith st (declares w xs))) in
-      let classes = subst (λ n. T (not (leb n classLimit)) ↔ (classLimit < classesWith st (declares w xs))) (sym (classes-counted w xs)) (passes-law (classesWith st (declares w xs)) classLimit) in
-      let law = not-and (within (st .kind) (countsOf (declared st w xs))) (leb (classesAfter w (st .classes)) classLimit) counts classes in
-      let limit = limit-law st (declares w xs) in
-      (λ t. limit .0 (law .0 t), λ h. law .1 (limit .1 h))
-
-  module _ (hs bs ns : List (List ℕ)) where
-    abbrev line-rule : Rule ℕ
-    line-rule = numbered (st .names) hs bs ns
-
-    rule-counts : countsOf (with-rule st line-rule) ≡ countsWith st (rules hs bs ns)
-    rule-counts = ap₂ (λ r o. record { atoms = length (st .names); rules = r; occurrences = o }) one-more places
-      where
-        one-more : length (st .program-rules ++ (line-rule ∷ [])) ≡ suc (length (st .program-rules))
-        one-more = omega (arith, length-append (st .program-rules) (line-rule ∷ []))
-
-        places : sum occurrences (st .program-rules ++ (line-rule ∷ [])) ≡ occurrencesWith st (rules hs bs ns)
-        places = omega (arith, sum-app occurrences (st .program-rules) (line-rule ∷ []), length-map hs (numberOf (st .names)), length-map bs (numberOf (st .names)), length-map ns (numberOf (st .names)))
-
-    pub rule-limit : st .classes ≤ classLimit → T (not (within (st .kind) (countsOf (with-rule st line-rule)))) ↔ PassesLimit st (rules hs bs ns)
-    rule-limit fits =
-        let law = subst (λ c. T (not (within (st .kind) c)) ↔ CountPasses (st .kind) (countsWith st (rules hs bs ns))) (sym rule-counts) (within-law (st .kind) (countsWith st (rules hs bs ns))) in
-        let limit = limit-law st (rules hs bs ns) in
-        (λ t. limit .0 (inl (law .0 t)), λ h. law .1 (no-class (limit .1 h)))
-      where
-        no-class : CountPasses (st .kind) (countsWith st (rules hs bs ns)) ⊎ (classLimit < st .classes) → CountPasses (st .kind) (countsWith st (rules hs bs ns))
-        no-class (inl h) = h
-        no-class (inr h) = absurd (omega arith)
-
 -- 8
 
 pub filled-law : (kind : Kind) (ns : List (List ℕ)) → T (filled kind ns) ↔ ((kind ≡ Preference) × (ns ≢ []))
 filled-law Plain ns = (λ t. absurd t, λ h. differ (h .0))
   where
     differ : Plain ≡ Preference → ⊥
-    differ e = subst (λ k. kindly k) e tt
-      where
-        kindly : Kind → Type 0
-        kindly Plain = Unit {0}
-        kindly Preference = ⊥
+    differ e = absurd (let z : _≡_ {A = ℕ} 0 1 = cc in omega arith)
 filled-law Preference [] = (λ t. absurd t, λ h. h .1 refl)
-filled-law Preference (x ∷ ns) = (λ t. (refl, λ e. cons e), λ h. tt)
+filled-law Preference (x ∷ ns) = (λ t. (refl, filled-list), λ h. tt)
   where
-    cons : x ∷ ns ≡ [] → ⊥
-    cons e = absurd (let z : _≡_ {A = ℕ} 0 1 = cc in omega arith)
+    filled-list : x ∷ ns ≡ [] → ⊥
+    filled-list e = absurd (let z : _≡_ {A = ℕ} 0 1 = cc in omega arith)
