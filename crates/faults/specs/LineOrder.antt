@@ -25,3 +25,7 @@ Came Preference Declaring fs = All IsMin fs
 Came Preference Fixing fs = (ms : List Form) × (xs : List (List ℕ)) × All IsMin ms × (fs ≡ ms ++ (declares vary xs ∷ []))
 Came Preference Ruling fs =
     (ms : List Form) × (xs : List (List ℕ)) × (ys : List (List ℕ)) × (rs : List Form) × All IsMin ms × All IsRule rs × (fs ≡ ms ++ (declares vary xs ∷ declares fix ys ∷ rs))
+
+-- the lines are no beginning of a file of that kind
+abbrev pub OutOfOrder : Kind → List Form → Type 0
+OutOfOrder kind fs = (stage : Stage) → Came kind stage fs → ⊥
