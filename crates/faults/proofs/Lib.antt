@@ -1,0 +1,10 @@
+-- The laws of the faults.
+pub mod Connectives
+pub mod TextLines
+pub mod NameClasses
+pub mod LineForms
+pub mod Tests
+pub mod LimitTests
+pub mod LowestFault
+pub mod EarliestFault
+pub mod LineOrder

@@ -1,0 +1,96 @@
+-- The counts tested say sentence 7.
+use Prim.Native.Nat.{ℕ, suc, _≤_, _<_}
+use native.Mathlib.Omega.{arith}
+use native.Mathlib.Decide.{decLt}
+use mathlib.Core.Path.{_≡_, refl, sym, ap, ap₂, subst}
+use mathlib.Core.Logic.{_⊎_, inl, inr, _↔_}
+use mathlib.Core.Bool.{not, _&&_}
+use mathlib.Core.List.{List, [], _∷_, _++_}
+use lib.Dec.{T, leb, leb→le, le→leb}
+use lib.ListN.{length, length-append, length-map}
+use Rattle.kinds.specs.Limits.{atomLimit, ruleLimit, occurrenceLimit, classLimit, within}
+use Rattle.kinds.specs.declared.limits.Counts.{Counts}
+use Rattle.kinds.specs.declared.limits.Kind.{Kind}
+use Rattle.rules.specs.Lists.{sum}
+use Rattle.rules.specs.Rules.{Rule, occurrences}
+use Rattle.rules.proofs.Lists.{sum-app}
+use Rattle.lines.specs.Forms.{Word, atoms, min, vary, fix, Form, declares, rules}
+use Rattle.lines.specs.Faults.{State, countsOf, classesAfter, numberOf, declared, numbered, with-rule}
+use Rattle.faults.proofs.Connectives.{not-law, not-and}
+use Rattle.faults.specs.Sentences.{atomsWith, rulesWith, occurrencesWith, classesWith, PassesLimit, atoms-pass, rules-pass, occurrences-pass, classes-pass}
+
+passes-law : (n limit : ℕ) → T (not (leb n limit)) ↔ (limit < n)
+passes-law n limit = let law = not-law (leb n limit) (leb→le n limit, le→leb n limit) in (λ t. past (law .0 t) (decLt limit n), λ h. law .1 (λ k. omega arith))
+  where
+    past : (n ≤ limit → ⊥) → Dec (limit < n) → limit < n
+    past h (yes l) = l
+    past h (no l) = absurd (h (omega arith))
+
+-- some of the three counts passes its limit
+abbrev CountPasses : Kind → Counts → Type 0
+CountPasses kind c = (atomLimit kind < c .atoms) ⊎ ((ruleLimit kind < c .rules) ⊎ (occurrenceLimit kind < c .occurrences))
+
+within-law : (kind : Kind) (c : Counts) → T (not (within kind c)) ↔ CountPasses kind c
+within-law kind c =
+    not-and (leb (c .atoms) (atomLimit kind)) (leb (c .rules) (ruleLimit kind) && leb (c .occurrences) (occurrenceLimit kind)) (passes-law (c .atoms) (atomLimit kind))
+    (not-and (leb (c .rules) (ruleLimit kind)) (leb (c .occurrences) (occurrenceLimit kind)) (passes-law (c .rules) (ruleLimit kind)) (passes-law (c .occurrences) (occurrenceLimit kind)))
+
+-- the counts with the line's own
+abbrev countsWith : State → Form → Counts
+countsWith st f = record { atoms = atomsWith st f; rules = rulesWith st f; occurrences = occurrencesWith st f }
+
+limit-law : (st : State) (f : Form) → (CountPasses (st .kind) (countsWith st f) ⊎ (classLimit < classesWith st f)) ↔ PassesLimit st f
+limit-law st f = (there, back)
+  where
+    there : CountPasses (st .kind) (countsWith st f) ⊎ (classLimit < classesWith st f) → PassesLimit st f
+    there (inl (inl h)) = atoms-pass (omega arith)
+    there (inl (inr (inl h))) = rules-pass (omega arith)
+    there (inl (inr (inr h))) = occurrences-pass (omega arith)
+    there (inr h) = classes-pass (omega arith)
+
+    back : PassesLimit st f → CountPasses (st .kind) (countsWith st f) ⊎ (classLimit < classesWith st f)
+    back (atoms-pass h) = inl (inl (omega arith))
+    back (rules-pass h) = inl (inr (inl (omega arith)))
+    back (occurrences-pass h) = inl (inr (inr (omega arith)))
+    back (classes-pass h) = inr (omega arith)
+
+module _ (st : State) where
+  declared-counts : (w : Word) (xs : List (List ℕ)) → countsOf (declared st w xs) ≡ countsWith st (declares w xs)
+  declared-counts w xs = ap (λ n. record { atoms = n; rules = length (st .program-rules); occurrences = sum occurrences (st .program-rules) }) (length-append (st .names) xs)
+
+  pub classes-counted : (w : Word) (xs : List (List ℕ)) → classesAfter w (st .classes) ≡ classesWith st (declares w xs)
+  classes-counted atoms xs = refl
+  classes-counted min xs = refl
+  classes-counted vary xs = refl
+  classes-counted fix xs = refl
+
+  pub declared-limit : (w : Word) (xs : List (List ℕ)) → T (not (within (st .kind) (countsOf (declared st w xs)) && leb (classesAfter w (st .classes)) classLimit)) ↔ PassesLimit st (declares w xs)
+  declared-limit w xs =
+      let counts = subst (λ c. T (not (within (st .kind) c)) ↔ CountPasses (st .kind) (countsWith st (declares w xs))) (sym (declared-counts w xs)) (within-law (st .kind) (countsWith st (declares w xs))) in
+      let classes = subst (λ n. T (not (leb n classLimit)) ↔ (classLimit < classesWith st (declares w xs))) (sym (classes-counted w xs)) (passes-law (classesWith st (declares w xs)) classLimit) in
+      let law = not-and (within (st .kind) (countsOf (declared st w xs))) (leb (classesAfter w (st .classes)) classLimit) counts classes in
+      let limit = limit-law st (declares w xs) in
+      (λ t. limit .0 (law .0 t), λ h. law .1 (limit .1 h))
+
+  module _ (hs bs ns : List (List ℕ)) where
+    abbrev line-rule : Rule ℕ
+    line-rule = numbered (st .names) hs bs ns
+
+    rule-counts : countsOf (with-rule st line-rule) ≡ countsWith st (rules hs bs ns)
+    rule-counts = ap₂ (λ r o. record { atoms = length (st .names); rules = r; occurrences = o }) one-more places
+      where
+        one-more : length (st .program-rules ++ (line-rule ∷ [])) ≡ suc (length (st .program-rules))
+        one-more = omega (arith, length-append (st .program-rules) (line-rule ∷ []))
+
+        places : sum occurrences (st .program-rules ++ (line-rule ∷ [])) ≡ occurrencesWith st (rules hs bs ns)
+        places = omega (arith, sum-app occurrences (st .program-rules) (line-rule ∷ []), length-map hs (numberOf (st .names)), length-map bs (numberOf (st .names)), length-map ns (numberOf (st .names)))
+
+    pub rule-limit : st .classes ≤ classLimit → T (not (within (st .kind) (countsOf (with-rule st line-rule)))) ↔ PassesLimit st (rules hs bs ns)
+    rule-limit fits =
+        let law = subst (λ c. T (not (within (st .kind) c)) ↔ CountPasses (st .kind) (countsWith st (rules hs bs ns))) (sym rule-counts) (within-law (st .kind) (countsWith st (rules hs bs ns))) in
+        let limit = limit-law st (rules hs bs ns) in
+        (λ t. limit .0 (inl (law .0 t)), λ h. law .1 (no-class (limit .1 h)))
+      where
+        no-class : CountPasses (st .kind) (countsWith st (rules hs bs ns)) ⊎ (classLimit < st .classes) → CountPasses (st .kind) (countsWith st (rules hs bs ns))
+        no-class (inl h) = h
+        no-class (inr h) = absurd (omega arith)
