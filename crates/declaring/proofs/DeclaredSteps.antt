@@ -8,7 +8,7 @@ use lib.Dec.{T, leb}
 use lib.ListN.{length, drop, length-append, length-replicate}
 use lib.Seq.{sets, length-sets}
 use borrow.Author.Tests.{lt-leb, leb-true, not-false}
-use Rattle.kinds.specs.Limits.{atomLimit, classLimit, within}
+use Rattle.kinds.specs.Limits.{atomLimit, classLimit, longestName, storeWords, within}
 use Rattle.kinds.specs.declared.limits.Kind.{Kind}
 use Rattle.kinds.specs.declared.limits.Kind.the-variants.{Plain, Preference}
 use Rattle.kinds.specs.declared.refusals.Refusal.{Refusal}
@@ -42,7 +42,7 @@ pub taken-short : (kind : Kind) (xs : List (List ℕ)) → some (refusedName kin
 taken-short kind [] e = tt
 taken-short kind (x ∷ xs) e = go (allowed kind x) refl e (taken-short kind xs)
   where
-    go : (b : Bool) → allowed kind x ≡ b → (not b || some (refusedName kind) xs) ≡ false → (some (refusedName kind) xs ≡ false → Short xs) → (length x ≤ 18) × Short xs
+    go : (b : Bool) → allowed kind x ≡ b → (not b || some (refusedName kind) xs) ≡ false → (some (refusedName kind) xs ≡ false → Short xs) → (length x ≤ longestName) × Short xs
     go true p q r = (allowed-short kind x (subst T (sym p) tt), r q)
     go false p q r = absurd (let z : _≡_ {A = ℕ} 0 1 = cc in omega arith)
 
@@ -64,7 +64,7 @@ expected Preference Fixing vary e = absurd (let z : _≡_ {A = ℕ} 0 1 = cc in 
 expected Preference Fixing fix e = (refl, λ k c n. ap (λ m. n + m) (length-replicate c 18))
 expected Preference Ruling w e = absurd (let z : _≡_ {A = ℕ} 0 1 = cc in omega arith)
 
-class-room : (kind : Kind) (n : ℕ) → n ≤ atomLimit kind → 4 + wordCount kind n ≤ 36604
+class-room : (kind : Kind) (n : ℕ) → n ≤ atomLimit kind → 4 + wordCount kind n ≤ storeWords
 class-room Plain n h = omega arith
 class-room Preference n h = omega arith
 
@@ -138,7 +138,7 @@ module _ {kind : Kind} {st : State} {g : Gathered} {words bytes starts firsts li
           full-index = subst (λ ns. Indexed ns bytes′ starts′ firsts′ links′) (sym full-names) (some-in .index)
 
           pub rest-short : Short (items (drop at l))
-          rest-short = all-app-r (λ x. length x ≤ 18) (some-in .passed) (items (drop at l)) (subst Short (sym (some-in .all)) all-short)
+          rest-short = all-app-r (λ x. length x ≤ longestName) (some-in .passed) (items (drop at l)) (subst Short (sym (some-in .all)) all-short)
 
           parts : twice (st .names) xs ≡ (some (among held) (items (drop at l)) || twice [] (items (drop at l)))
           parts =

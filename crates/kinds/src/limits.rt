@@ -20,6 +20,10 @@ impl Plain {
     pub const RULES: usize = 4200;
 
     pub const OCCURRENCES: usize = 24000;
+
+    pub const WORDS: usize = 4 + 3 * Plain::RULES + Plain::OCCURRENCES;
+
+    pub const BYTES: usize = Plain::ATOMS * (1 + Kind::LONGEST_NAME);
 }
 
 impl Preference {
@@ -43,6 +47,8 @@ impl Kind {
     pub const TEXT: usize = 655360;
 
     pub const NAME: usize = 16;
+
+    pub const LONGEST_NAME: usize = Kind::NAME + 2;
 
     pub const STREAM: usize = 65536;
 

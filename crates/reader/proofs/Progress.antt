@@ -6,7 +6,7 @@ use mathlib.Core.Logic.{_≢_}
 use mathlib.Core.Bool.{Bool, true, false, cond}
 use mathlib.Core.List.{List, [], _∷_, _++_, map, append-assoc, append-nil}
 use lib.Dec.{T}
-use lib.ListN.{length, replicate, length-append, length-map}
+use lib.ListN.{length, replicate}
 use Rattle.kinds.specs.Limits.{atomLimit, classLimit}
 use Rattle.kinds.specs.declared.limits.Kind.{Kind}
 use Rattle.kinds.specs.declared.limits.Kind.the-variants.{Plain, Preference}
@@ -14,7 +14,7 @@ use Rattle.kinds.specs.declared.refusals.Refusal.the-variants.{Form as BrokenFo
 use Rattle.rules.specs.Lists.{All, flat, from}
 use Rattle.rules.specs.Rules.{Rule, occurrences}
 use Rattle.rules.specs.Preferred.{varying, fixed}
-use Rattle.rules.proofs.Lists.{all-app, all-imp, all-from, all-map, sum-app}
+use Rattle.rules.proofs.Lists.{all-app, all-imp, all-from, all-map}
 use Rattle.names.specs.Names.{allowed}
 use Rattle.name_store.specs.NameStore.{NamesForm}
 use Rattle.stores.specs.Program.{Program, Form, RoleForm, roleOf, ListForm, NotForm, RuleForm}
