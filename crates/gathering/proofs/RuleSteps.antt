@@ -47,7 +47,7 @@ sets-under d p (a ∷ u) v =
     ap (λ x. sets x (suc p) u) (set-sets d (p + suc (length u)) v p a (omega arith) ∙ ap (λ j. sets (set d p a) j v) k)
     ∙ sets-under (set d p a) (suc p) u v
 
-store-fits : (kind : Kind) (atoms rules places : ℕ) → atoms ≤ atomLimit kind → rules ≤ ruleLimit kind → places ≤ occurrenceLimit kind → 4 + wordCount kind atoms + 3 * rules + places ≤ storeWords
+pub store-fits : (kind : Kind) (atoms rules places : ℕ) → atoms ≤ atomLimit kind → rules ≤ ruleLimit kind → places ≤ occurrenceLimit kind → 4 + wordCount kind atoms + 3 * rules + places ≤ storeWords
 store-fits Plain atoms rules places a b c = omega arith
 store-fits Preference atoms rules places a b c = omega arith
 
