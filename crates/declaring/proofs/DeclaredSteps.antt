@@ -1,5 +1,5 @@
 -- The step that a declared line makes, one law for each answer.
-use Prim.Native.Nat.{ℕ, suc, _+_, _≤_, _<_}
+use Prim.Native.Nat.{ℕ, suc, _+_, _≤_, _<_, zero-le}
 use native.Mathlib.Omega.{arith}
 use mathlib.Core.Path.{_≡_, refl, sym, ap, ap₂, _∙_, subst}
 use mathlib.Core.Bool.{Bool, true, false, not, _&&_, _||_}
@@ -8,7 +8,7 @@ use lib.Dec.{T, leb}
 use lib.ListN.{length, drop, length-append, length-replicate}
 use lib.Seq.{sets, length-sets}
 use borrow.Author.Tests.{lt-leb, leb-true, not-false}
-use Rattle.kinds.specs.Limits.{atomLimit, classLimit, within}
+use Rattle.kinds.specs.Limits.{atomLimit, classLimit, longestName, within}
 use Rattle.kinds.specs.declared.limits.Kind.{Kind}
 use Rattle.kinds.specs.declared.limits.Kind.the-variants.{Plain, Preference}
 use Rattle.kinds.specs.declared.refusals.Refusal.{Refusal}
@@ -34,6 +34,7 @@ use Rattle.lines.specs.Shapes.{wordOf, Declared}
 use Rattle.numbering.specs.Entries.{Room, Stored, Short, AllEntered, SomeEntered, among}
 use Rattle.gathering.specs.Gathered.{storedWords, Filled, Held, HeldIndex, LineSays, LineIs, firstLine, countsIf, atomCounts, withNames, keptNames, KeptNames, pastRefusal}
 use Rattle.gathering.proofs.HeldState.{fill-more, atoms-is, rules-is, occurrences-is, held-is, names-are, held-small, atoms-small, within-limits}
+use Rattle.gathering.proofs.RuleSteps.{store-fits}
 use Rattle.numbering.proofs.NewNames.{decoded}
 use Rattle.numbering.proofs.Entering.{twice-split, twice-apart}
 
@@ -42,7 +43,7 @@ pub taken-short : (kind : Kind) (xs : List (List ℕ)) → some (refusedName kin
 taken-short kind [] e = tt
 taken-short kind (x ∷ xs) e = go (allowed kind x) refl e (taken-short kind xs)
   where
-    go : (b : Bool) → allowed kind x ≡ b → (not b || some (refusedName kind) xs) ≡ false → (some (refusedName kind) xs ≡ false → Short xs) → (length x ≤ 18) × Short xs
+    go : (b : Bool) → allowed kind x ≡ b → (not b || some (refusedName kind) xs) ≡ false → (some (refusedName kind) xs ≡ false → Short xs) → (length x ≤ longestName) × Short xs
     go true p q r = (allowed-short kind x (subst T (sym p) tt), r q)
     go false p q r = absurd (let z : _≡_ {A = ℕ} 0 1 = cc in omega arith)
 
@@ -63,10 +64,6 @@ expected Preference Fixing min e = absurd (let z : _≡_ {A = ℕ} 0 1 = cc in o
 expected Preference Fixing vary e = absurd (let z : _≡_ {A = ℕ} 0 1 = cc in omega arith)
 expected Preference Fixing fix e = (refl, λ k c n. ap (λ m. n + m) (length-replicate c 18))
 expected Preference Ruling w e = absurd (let z : _≡_ {A = ℕ} 0 1 = cc in omega arith)
-
-class-room : (kind : Kind) (n : ℕ) → n ≤ atomLimit kind → 4 + wordCount kind n ≤ 36604
-class-room Plain n h = omega arith
-class-room Preference n h = omega arith
 
 module _ {kind : Kind} {st : State} {g : Gathered} {words bytes starts firsts links : List ℕ} (h : Held kind st g words bytes) (x : HeldIndex g bytes starts firsts links)
     {l : List ℕ} {f : Form} {s : DeclaredShape} (p : Declared kind l f s) where
@@ -138,7 +135,7 @@ module _ {kind : Kind} {st : State} {g : Gathered} {words bytes starts firsts li
           full-index = subst (λ ns. Indexed ns bytes′ starts′ firsts′ links′) (sym full-names) (some-in .index)
 
           pub rest-short : Short (items (drop at l))
-          rest-short = all-app-r (λ x. length x ≤ 18) (some-in .passed) (items (drop at l)) (subst Short (sym (some-in .all)) all-short)
+          rest-short = all-app-r (λ x. length x ≤ longestName) (some-in .passed) (items (drop at l)) (subst Short (sym (some-in .all)) all-short)
 
           parts : twice (st .names) xs ≡ (some (among held) (items (drop at l)) || twice [] (items (drop at l)))
           parts =
@@ -219,7 +216,7 @@ module _ {kind : Kind} {st : State} {g : Gathered} {words bytes starts firsts li
                 ap length stored-words,
                 h .class-words,
                 class-count,
-                class-room kind n (within-limits kind (atomCounts (g .counts) n) t .atoms),
+                store-fits kind n 0 0 (within-limits kind (atomCounts (g .counts) n) t .atoms) zero-le zero-le,
               )
 
           abbrev end : ℕ

@@ -1,13 +1,13 @@
 -- The scratch decodes to the state that it holds, and a list written behind what is filled.
 use Prim.Native.Nat.{ℕ, _+_, _≤_}
 use native.Mathlib.Omega.{arith}
-use mathlib.Core.Path.{_≡_, refl, sym, ap, ap₂, _∙_}
+use mathlib.Core.Path.{_≡_, sym, ap, ap₂, _∙_}
 use mathlib.Core.Bool.{true, _&&_}
 use mathlib.Core.List.{List, [], _∷_, _++_, append-assoc, append-nil}
 use lib.Dec.{leb}
 use lib.ListN.{length, take, drop, length-append}
 use lib.Seq.{take-at, drop-at, drop-drop, sets}
-use Rattle.kinds.specs.Limits.{atomLimit, ruleLimit, occurrenceLimit, within}
+use Rattle.kinds.specs.Limits.{atomLimit, ruleLimit, occurrenceLimit, storeWords, storeBytes, within}
 use Rattle.kinds.specs.declared.limits.Counts.{Counts}
 use Rattle.kinds.specs.declared.limits.Kind.{Kind}
 use Rattle.kinds.specs.declared.limits.Kind.the-variants.{Plain, Preference}
@@ -96,15 +96,15 @@ pub sum-last : (rs : List (Rule ℕ)) (r : Rule ℕ) → sum occurrences (rs ++ 
 sum-last [] r = omega arith
 sum-last (s ∷ rs) r = omega (arith, sum-last rs r)
 
-pub occurrences-small : (kind : Kind) → occurrenceLimit kind ≤ 24000
+pub occurrences-small : (kind : Kind) → occurrenceLimit kind ≤ occurrenceLimit Plain
 occurrences-small Plain = omega arith
 occurrences-small Preference = omega arith
 
-pub rules-small : (kind : Kind) → ruleLimit kind ≤ 4200
+pub rules-small : (kind : Kind) → ruleLimit kind ≤ ruleLimit Plain
 rules-small Plain = omega arith
 rules-small Preference = omega arith
 
-pub atoms-small : (kind : Kind) → atomLimit kind ≤ 1100
+pub atoms-small : (kind : Kind) → atomLimit kind ≤ atomLimit Plain
 atoms-small Plain = omega arith
 atoms-small Preference = omega arith
 
@@ -125,11 +125,11 @@ limits-within f = rw (le-leb _ _ (f .atoms), le-leb _ _ (f .rules), le-leb _ _ (
 
 -- the counts are small
 pub record Small (g : Gathered) : Type 0 where
-  pub words : g .words ≤ 36604
-  pub bytes : g .bytes ≤ 20900
-  pub atoms : g .counts .atoms ≤ 1100
-  pub rules : g .counts .rules ≤ 4200
-  pub occurrences : g .counts .occurrences ≤ 24000
+  pub words : g .words ≤ storeWords
+  pub bytes : g .bytes ≤ storeBytes
+  pub atoms : g .counts .atoms ≤ atomLimit Plain
+  pub rules : g .counts .rules ≤ ruleLimit Plain
+  pub occurrences : g .counts .occurrences ≤ occurrenceLimit Plain
 
 pub held-small : {kind : Kind} {st : State} {g : Gathered} {words bytes : List ℕ} → Held kind st g words bytes → Small g
 held-small {kind} {st} {g} {words} h =

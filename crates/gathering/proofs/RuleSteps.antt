@@ -9,7 +9,7 @@ use mathlib.Core.Logic.{_≢_}
 use lib.ListN.{length, drop, set, length-append, length-map}
 use lib.Seq.{sets, length-sets, set-comm}
 use borrow.Author.Tests.{lt-ltb, not-false}
-use Rattle.kinds.specs.Limits.{atomLimit, ruleLimit, occurrenceLimit, within}
+use Rattle.kinds.specs.Limits.{atomLimit, ruleLimit, occurrenceLimit, storeWords, within}
 use Rattle.kinds.specs.declared.limits.Kind.{Kind}
 use Rattle.kinds.specs.declared.limits.Kind.the-variants.{Plain, Preference}
 use Rattle.kinds.specs.declared.refusals.Refusal.the-variants.{Form as BrokenForm, Name, Undeclared, TwiceInList, Limit, FilledNot}
@@ -47,7 +47,7 @@ sets-under d p (a ∷ u) v =
     ap (λ x. sets x (suc p) u) (set-sets d (p + suc (length u)) v p a (omega arith) ∙ ap (λ j. sets (set d p a) j v) k)
     ∙ sets-under (set d p a) (suc p) u v
 
-store-fits : (kind : Kind) (atoms rules places : ℕ) → atoms ≤ atomLimit kind → rules ≤ ruleLimit kind → places ≤ occurrenceLimit kind → 4 + wordCount kind atoms + 3 * rules + places ≤ 36604
+pub store-fits : (kind : Kind) (atoms rules places : ℕ) → atoms ≤ atomLimit kind → rules ≤ ruleLimit kind → places ≤ occurrenceLimit kind → 4 + wordCount kind atoms + 3 * rules + places ≤ storeWords
 store-fits Plain atoms rules places a b c = omega arith
 store-fits Preference atoms rules places a b c = omega arith
 

@@ -6,7 +6,7 @@ use mathlib.Core.List.{List, [], _∷_, _++_}
 use lib.Dec.{leb, ltb}
 use lib.ListN.{length, take, drop}
 use lib.Seq.{sets}
-use Rattle.kinds.specs.Limits.{classLimit, within}
+use Rattle.kinds.specs.Limits.{atomLimit, classLimit, longestEntry, storeWords, storeBytes, within}
 use Rattle.kinds.specs.declared.limits.Counts.{Counts}
 use Rattle.kinds.specs.declared.limits.Kind.{Kind}
 use Rattle.kinds.specs.declared.limits.Kind.the-variants.{Plain, Preference}
@@ -20,7 +20,6 @@ use Rattle.gathering.specs.declared.gathered.Gathered.{Gathered}
 use Rattle.gathering.specs.declared.gathered.Line.{Line}
 use Rattle.gathering.specs.declared.gathered.Line.the-variants as Line
 use Rattle.lines.specs.Forms.{Form, Word}
-use Rattle.numbering.specs.Scratch.{scratchWords, scratchBytes, scratchAtoms}
 use Rattle.lines.specs.Faults.{State, countsOf, next, fault, ruling?, stageAfter, classesAfter, classWords, stepForm}
 
 unfoldable pub stateOf : Kind → Gathered → List ℕ → List ℕ → State
@@ -55,23 +54,23 @@ pub record Held (kind : Kind) (st : State) (g : Gathered) (words bytes : List �
   pub stored : Filled words 4 (g .words) (storedWords st)
   pub names-stored : encodeNames (st .names) ++ drop (length (encodeNames (st .names))) bytes ≡ bytes
   pub bytes-is : g .bytes ≡ length (encodeNames (st .names))
-  pub short : g .bytes ≤ 19 * g .counts .atoms
+  pub short : g .bytes ≤ longestEntry * g .counts .atoms
   pub counts-fit : within kind (g .counts) ≡ true
   pub classes-fit : g .classes ≤ classLimit
   pub no-rules : ruling? (st .stage) ≡ false → st .program-rules ≡ []
-  pub words-room : length words ≡ scratchWords
-  pub bytes-room : length bytes ≡ scratchBytes
+  pub words-room : length words ≡ storeWords
+  pub bytes-room : length bytes ≡ storeBytes
 
 -- the names' index
 pub record HeldIndex (g : Gathered) (bytes starts firsts links : List ℕ) : Type 0 where
   pub index : Indexed (decodeNames (g .counts .atoms) bytes) bytes starts firsts links
-  pub starts-room : length starts ≡ scratchAtoms
-  pub links-room : length links ≡ scratchAtoms
+  pub starts-room : length starts ≡ atomLimit Plain
+  pub links-room : length links ≡ atomLimit Plain
 
 -- no atom has a mark of the next rule
 pub record HeldMarks (g : Gathered) (marks : List ℕ) : Type 0 where
   pub below : Below (3 * g .counts .rules + 1) marks
-  pub room : length marks ≡ scratchAtoms
+  pub room : length marks ≡ atomLimit Plain
 
 -- what a line's answer says of the step that its form makes
 abbrev pub LineSays : Kind → State → Form → List ℕ → List ℕ → List ℕ → List ℕ → List ℕ → Line → Type 0

@@ -5,6 +5,8 @@ use mathlib.Core.Path.{_≡_, refl, sym, ap, ap₂, _∙_, subst}
 use mathlib.Core.Bool.{Bool, true, false, _||_}
 use mathlib.Core.List.{List, [], _∷_, _++_, append-assoc, append-nil}
 use lib.ListN.{length, drop, length-append}
+use Rattle.kinds.specs.Limits.{atomLimit, longestName}
+use Rattle.kinds.specs.declared.limits.Kind.the-variants.{Plain}
 use Rattle.rules.specs.Lists.{some}
 use Rattle.rules.proofs.Booleans.{or-assoc, or-false}
 use Rattle.name_store.specs.NameStore.{nameBytes, encodeNames, decodeNames, sameBytes}
@@ -81,7 +83,7 @@ module _ {names : List (List ℕ)} {s : List ℕ} {from : ℕ} {bytes starts fir
     abbrev xs : List (List ℕ)
     xs = later s i e d
 
-    pub store-full : 1100 ≤ atom → SomeEntered names s from bytes starts firsts links i
+    pub store-full : atomLimit Plain ≤ atom → SomeEntered names s from bytes starts firsts links i
     store-full f =
         record {
           passed = h .passed;
@@ -100,10 +102,10 @@ module _ {names : List (List ℕ)} {s : List ℕ} {from : ℕ} {bytes starts fir
     shorts : Short (x ∷ xs)
     shorts = subst Short (item-is s i e d) (h .short)
 
-    pub entry-short : n ≤ 18
+    pub entry-short : n ≤ longestName
     entry-short = omega (arith, item-length s i e d, shorts .0)
 
-    module _ (f : atom < 1100) where
+    module _ (f : atom < atomLimit Plain) where
       abbrev held : List (List ℕ)
       held = names ++ h .passed
 

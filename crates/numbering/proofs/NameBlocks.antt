@@ -6,6 +6,7 @@ use mathlib.Core.Bool.{Bool, true, false, _||_}
 use mathlib.Core.List.{List, [], _++_, append-nil}
 use lib.ListN.{length, getD, drop, set, replicate, length-set, length-replicate, getD-replicate, drop-of-length-le}
 use borrow.Author.Fill.{fill-none, fill-more}
+use Rattle.kinds.specs.Limits.{longestName}
 use Rattle.rules.specs.Lists.{All, some}
 use Rattle.rules.proofs.Lists.{all-app-r}
 use Rattle.name_store.specs.NameStore.{encodeNames, decodeNames}
@@ -107,7 +108,7 @@ module _ {s : List ℕ} {from at : ℕ} {bytes starts firsts links : List ℕ} (
         next-block g m =
             record {
               inside = some-in .inside;
-              short = all-app-r (λ x. length x ≤ 18) (some-in .passed) (items (drop rest s)) (subst Short (sym (some-in .all)) (h .short));
+              short = all-app-r (λ x. length x ≤ longestName) (some-in .passed) (items (drop rest s)) (subst Short (sym (some-in .all)) (h .short));
               left = sym (rw (sym known, g) at parts) ∙ h .left;
               room = record { bytes-long = b ∙ h .room .bytes-long; starts-long = c ∙ h .room .starts-long; links-long = l ∙ h .room .links-long };
               firsts-room = omega (arith, m, h .firsts-room);

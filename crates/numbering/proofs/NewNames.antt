@@ -8,8 +8,8 @@ use mathlib.Core.List.{List, [], _∷_, _++_}
 use lib.Dec.{T}
 use lib.ListN.{length, getD, drop, set, length-drop}
 use lib.Seq.{sets, drop-append-seam}
-use Rattle.rules.specs.Lists.{All, some}
-use Rattle.name_store.specs.NameStore.{nameBytes, encodeNames, decodeNames, sameBytes}
+use Rattle.rules.specs.Lists.{All}
+use Rattle.name_store.specs.NameStore.{nameBytes, encodeNames, decodeNames}
 use Rattle.name_store.specs.NameIndex.{nameHash, Indexed}
 use Rattle.name_store.proofs.NameStores.{decode-front, not-seen}
 use Rattle.name_store.proofs.NameEntries.{entered}

@@ -4,6 +4,8 @@ use mathlib.Core.Path.{_≡_}
 use mathlib.Core.Bool.{Bool, true, false}
 use mathlib.Core.List.{List, [], _∷_, _++_}
 use lib.ListN.{length, drop}
+use Rattle.kinds.specs.Limits.{atomLimit, longestName, longestEntry, storeBytes}
+use Rattle.kinds.specs.declared.limits.Kind.the-variants.{Plain}
 use Rattle.rules.specs.Lists.{All, some}
 use Rattle.name_store.specs.NameStore.{encodeNames, sameBytes}
 use Rattle.name_store.specs.NameIndex.{Indexed}
@@ -11,7 +13,6 @@ use Rattle.numbering.specs.declared.entries.Entered.{Entered}
 use Rattle.numbering.specs.declared.entries.Entered.the-variants as Answer
 use Rattle.lines.specs.Items.{items}
 use Rattle.lines.specs.Faults.{twice}
-use Rattle.numbering.specs.Scratch.{scratchBytes, scratchAtoms}
 
 -- the name is among the names
 abbrev pub among : List (List ℕ) → List ℕ → Bool
@@ -21,8 +22,8 @@ among names x = some (sameBytes x) names
 pub record EntryRoom (names : List (List ℕ)) (x bytes starts links : List ℕ) (atom at : ℕ) : Type 0 where
   pub count : atom ≡ length names
   pub place : at ≡ length (encodeNames names)
-  pub short : length x ≤ 18
-  pub inside : at + 19 ≤ length bytes
+  pub short : length x ≤ longestName
+  pub inside : at + longestEntry ≤ length bytes
   pub bytes-small : length bytes < 65536
   pub starts-room : atom < length starts
   pub starts-small : length starts < 65536
@@ -38,21 +39,21 @@ pub record EntryIs (names : List (List ℕ)) (x bytes starts firsts links : List
 
 -- the lengths of the scratch store and its index
 pub record Room (bytes starts links : List ℕ) : Type 0 where
-  pub bytes-long : length bytes ≡ scratchBytes
-  pub starts-long : length starts ≡ scratchAtoms
-  pub links-long : length links ≡ scratchAtoms
+  pub bytes-long : length bytes ≡ storeBytes
+  pub starts-long : length starts ≡ atomLimit Plain
+  pub links-long : length links ≡ atomLimit Plain
 
 -- the store has so many names, and the bytes end there
 pub record Stored (names : List (List ℕ)) (bytes starts firsts links : List ℕ) (atoms used : ℕ) : Type 0 where
   pub index : Indexed names bytes starts firsts links
   pub count : atoms ≡ length names
   pub ends : used ≡ length (encodeNames names)
-  pub short : used ≤ 19 * atoms
-  pub few : atoms ≤ scratchAtoms
+  pub short : used ≤ longestEntry * atoms
+  pub few : atoms ≤ atomLimit Plain
 
 -- no name is longer than a name of any kind may be
 abbrev pub Short : List (List ℕ) → Type 0
-Short xs = All (λ x. length x ≤ 18) xs
+Short xs = All (λ x. length x ≤ longestName) xs
 
 -- every name of the list is entered
 pub record AllEntered (names xs : List (List ℕ)) (bytes starts firsts links : List ℕ) (atoms used : ℕ) : Type 0 where
@@ -66,7 +67,7 @@ pub record SomeEntered (names : List (List ℕ)) (s : List ℕ) (from : ℕ) (by
   pub all : passed ++ items (drop at s) ≡ items (drop from s)
   pub once : twice names passed ≡ false
   pub index : Indexed (names ++ passed) bytes starts firsts links
-  pub full : length (names ++ passed) ≡ scratchAtoms
+  pub full : length (names ++ passed) ≡ atomLimit Plain
   pub more : 1 ≤ length (items (drop at s))
   pub onward : from + length passed ≤ at
 

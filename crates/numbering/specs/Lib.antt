@@ -1,5 +1,4 @@
 -- Names in the scratch store, and their numbers.
-pub mod Scratch
 pub mod HashedItems
 pub mod Numbers
 pub mod Entries

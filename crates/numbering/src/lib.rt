@@ -2,4 +2,3 @@
 pub mod entries;
 pub mod hashed_items;
 pub mod numbers;
-pub mod scratch;

@@ -7,7 +7,7 @@ use mathlib.Core.List.{List, [], _++_, append-nil}
 use lib.ListN.{length, take, drop, replicate, take-append-drop}
 use lib.Seq.{length-take-le}
 use borrow.Author.Tests.{lt-leb, le-leb}
-use Rattle.kinds.specs.Limits.{textLimit, emptyCounts}
+use Rattle.kinds.specs.Limits.{atomLimit, textLimit, storeWords, storeBytes, emptyCounts}
 use Rattle.kinds.specs.declared.limits.Kind.{Kind}
 use Rattle.kinds.specs.declared.limits.Kind.the-variants.{Plain, Preference}
 use Rattle.kinds.specs.declared.refusals.Refusal.{Refusal}
@@ -24,7 +24,6 @@ use Rattle.lines.specs.Lines.{lines}
 use Rattle.lines.specs.Forms.{atoms, begins, tagOf}
 use Rattle.lines.specs.Said.{accepted, refused, start, readLines, said, programOf}
 use Rattle.delivery.specs.Answers.{readAnswer, readRules, readNames}
-use Rattle.numbering.specs.Scratch.{scratchWords, scratchBytes, scratchAtoms}
 use Rattle.gathering.specs.Gathered.{stateOf, Held, HeldIndex, HeldMarks}
 use Rattle.delivery.specs.Delivered.{Delivered}
 use Rattle.reader.specs.Gathering.{startCounts, GatherSays, GatherIs}
@@ -37,7 +36,7 @@ no-words Preference = refl
 
 -- empty scratch stores hold the state before the first line
 pub start-held : (text : List ℕ) {kind : Kind} → kind ≡ cond (begins (tagOf atoms) text) Plain Preference
-    → (words bytes : List ℕ) → length words ≡ scratchWords → length bytes ≡ scratchBytes → Held kind (start text) startCounts words bytes
+    → (words bytes : List ℕ) → length words ≡ storeWords → length bytes ≡ storeBytes → Held kind (start text) startCounts words bytes
 unfolding start encodeNames
 start-held text {kind} e words bytes a b =
     record {
@@ -61,11 +60,11 @@ start-held text {kind} e words bytes a b =
     first w = ap (λ x. x ++ drop 4 w) (append-nil (take 4 w)) ∙ take-append-drop 4 w
 
 pub start-index : (bytes starts links : List ℕ) {firsts : List ℕ} {n : ℕ} → firsts ≡ replicate n 0 → buckets ≤ n
-    → length starts ≡ scratchAtoms → length links ≡ scratchAtoms → HeldIndex startCounts bytes starts firsts links
+    → length starts ≡ atomLimit Plain → length links ≡ atomLimit Plain → HeldIndex startCounts bytes starts firsts links
 unfolding decodeNames
 start-index bytes starts links e l c d = record { index = empty-index bytes starts links e l; starts-room = c; links-room = d }
 
-pub start-marks : {marks : List ℕ} → Below 1 marks → length marks ≡ scratchAtoms → HeldMarks startCounts marks
+pub start-marks : {marks : List ℕ} → Below 1 marks → length marks ≡ atomLimit Plain → HeldMarks startCounts marks
 start-marks m i = record { below = record { mark = λ x. omega (arith, m .mark x) }; room = i }
 
 module _ (text rules names : List ℕ) where

@@ -1,4 +1,4 @@
--- The texts of the stores of the form: document 01's writer gives each of them, and no other.
+-- The texts that are written from two stores of the form (document 01, the rule store and the name store).
 use Prim.Native.Nat.{ℕ}
 use mathlib.Core.Path.{_≡_}
 use mathlib.Core.List.{List}

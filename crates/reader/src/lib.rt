@@ -6,7 +6,6 @@ use kinds::limits::Kind;
 use kinds::limits::Plain;
 use kinds::refusals::Refusal;
 use name_store::index::BUCKETS;
-use numbering::scratch::Scratch;
 use reading::Gather;
 ghost use mathlib.Core.Path.{_≡_};
 ghost use lib.ListN.{length};
@@ -25,8 +24,8 @@ pub fn read(text: &[u8], rules: &mut [u16], names: &mut [u8]) -> Read
         };
     }
     let kind = reading::kind_of(text);
-    let mut words = [0u16; Scratch::WORDS];
-    let mut bytes = [0u8; Scratch::BYTES];
+    let mut words = [0u16; Plain::WORDS];
+    let mut bytes = [0u8; Plain::BYTES];
     let mut starts = [0u16; Plain::ATOMS];
     let mut firsts = [0u16; BUCKETS];
     let mut links = [0u16; Plain::ATOMS];

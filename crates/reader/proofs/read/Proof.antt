@@ -1,6 +1,8 @@
 use Prim.Native.Nat.{ℕ, _≤_}
 use mathlib.Core.Path.{refl}
 use lib.ListN.{replicate, length-replicate}
+use Rattle.kinds.specs.Limits.{atomLimit, storeWords, storeBytes}
+use Rattle.kinds.specs.declared.limits.Kind.the-variants.{Plain}
 use Rattle.name_store.specs.NameIndex.{buckets}
 use Rattle.stores.proofs.StoreHeader.{unmarked}
 use Rattle.reader.proofs.WholeText.{start-held, start-index, start-marks, too-long, lines-refused, lines-held, delivered}
@@ -36,7 +38,7 @@ slice-aggregate-read-lines-6 c = search needs
 read-lines-requires : tie.Need-read-lines-requires
 read-lines-requires c κs =
     let room : buckets ≤ 4096 = omega arith in
-    (c .before .before .before .before .before .before .before .if1 .left, (start-held (c .before .before .before .before .before .before .before .before .before .before .before .args .text .now) (c .before .before .before .before .before .before .kind-of .ensures) (replicate 36604 0) (replicate 20900 0) (length-replicate {A = ℕ} 36604 0) (length-replicate {A = ℕ} 20900 0), (start-index (replicate 20900 0) (replicate 1100 0) (replicate 1100 0) refl room (length-replicate {A = ℕ} 1100 0) (length-replicate {A = ℕ} 1100 0), start-marks (unmarked 1100) (length-replicate {A = ℕ} 1100 0))))
+    (c .before .before .before .before .before .before .before .if1 .left, (start-held (c .before .before .before .before .before .before .before .before .before .before .before .args .text .now) (c .before .before .before .before .before .before .kind-of .ensures) (replicate storeWords 0) (replicate storeBytes 0) (length-replicate {A = ℕ} storeWords 0) (length-replicate {A = ℕ} storeBytes 0), (start-index (replicate storeBytes 0) (replicate (atomLimit Plain) 0) (replicate (atomLimit Plain) 0) refl room (length-replicate {A = ℕ} (atomLimit Plain) 0) (length-replicate {A = ℕ} (atomLimit Plain) 0), start-marks (unmarked (atomLimit Plain)) (length-replicate {A = ℕ} (atomLimit Plain) 0))))
 
 enum-known-gathered : tie.Need-enum-known-gathered
 enum-known-gathered c = search needs
