@@ -14,7 +14,6 @@ use Rattle.kinds.specs.declared.refusals.Refusal.the-variants.{Form as BrokenFo
 use Rattle.rules.specs.Lists.{All, flat, from}
 use Rattle.rules.specs.Rules.{Rule, occurrences}
 use Rattle.rules.proofs.Lists.{all-app, all-imp, all-from, all-map, sum-app}
-use Rattle.rules.specs.Preferred.{varying, fixed}
 use Rattle.names.specs.Names.{allowed}
 use Rattle.name_store.specs.NameStore.{NamesForm}
 use Rattle.stores.specs.Program.{Program, Form, RoleForm, roleOf, ListForm, NotForm, RuleForm}
