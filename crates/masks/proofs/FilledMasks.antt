@@ -15,7 +15,7 @@ use Rattle.rules.specs.Preferred.{fixed, ofClass}
 use Rattle.rules.proofs.Lists.{all-imp, length-from}
 use Rattle.rules.proofs.Preferred.{all-of-class}
 use Rattle.stores.specs.Program.{Program, ClassesForm, RuleForm, NotForm}
-use Rattle.walks.specs.Walk.{capped, preferredNeeds, preferredVerdict, candidates, firstState, cappedNext, nextVerdict}
+use Rattle.walks.specs.Walk.{capped, preferredNeeds, preferredVerdict, firstState, cappedNext, nextVerdict}
 use Rattle.walks.proofs.Order.{candidates-from}
 use Rattle.walks.specs.declared.answers.Verdict.{Verdict}
 use Rattle.walks.specs.declared.answers.NextState.{NextState}

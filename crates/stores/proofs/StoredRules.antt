@@ -13,7 +13,7 @@ use Rattle.rules.specs.Rules.{Rule, occurrences}
 use Rattle.rules.proofs.Lists.{all-imp}
 use Rattle.stores.specs.Program.{Program, RuleForm}
 use Rattle.stores.specs.RuleStore.{ruleWords, encode, StoreOf, wordCount, places, ruleAt}
-use Rattle.stores.specs.StoredRules.{StoredRule, StoredRules}
+use Rattle.stores.specs.StoredRules.{StoredRules}
 use Rattle.stores.proofs.RuleTests.{rule-front, past-front}
 use Rattle.stores.proofs.RuleStores.{words-count}
 use Rattle.stores.proofs.RulePlace.{limit-small}

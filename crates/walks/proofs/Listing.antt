@@ -1,19 +1,18 @@
 -- Going on from each answer lists the preferred sets: all of them, or those before a step that is spent.
 use Prim.Native.Nat.{ℕ, zero, suc, _+_, _-_, _^_, _≤_, _<_}
-use mathlib.Core.Path.{_≡_, refl, sym, ap, ap₂, _∙_, subst}
+use mathlib.Core.Path.{_≡_, refl, sym, ap, _∙_, subst}
 use mathlib.Core.Logic.{_⊎_, inl, inr, _≢_}
 use mathlib.Core.Bool.{Bool, true, false}
 use mathlib.Core.List.{List, [], _∷_}
 use native.Mathlib.Omega.{arith}
 use lib.Dec.{T}
-use lib.ListN.{length, getD, take}
-use Rattle.rules.specs.Lists.{All, Any, Distinct, filter, keep, from}
+use lib.ListN.{length, take}
+use Rattle.rules.specs.Lists.{All, Distinct, filter, keep, from}
 use Rattle.rules.specs.Rules.{Rule}
 use Rattle.rules.specs.Preferred.{Preferred, preferred?}
 use Rattle.rules.proofs.Lists.{all-imp, all-any, all-filter, any-filter, any-imp}
 use Rattle.rules.proofs.Preferred.{preferred-law}
 use Rattle.walks.specs.Walk.{walkOrder, nextVerdict}
-use Rattle.walks.specs.Meanings.{Least}
 use Rattle.walks.specs.Listings.{preferredSets, Subsequence, ListsPreferred, goOn, listed, ListingStep, Whole, stepAfter, CutShort}
 use Rattle.walks.specs.declared.answers.NextState.{NextState}
 use Rattle.walks.specs.declared.answers.NextState.the-variants.{State, Nothing, Spent as NextSpent, Refused as NextRefused}

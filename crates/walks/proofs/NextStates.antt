@@ -1,7 +1,7 @@
 -- What the next state means (document 01, "Next state").
 use Prim.Native.Nat.{ℕ, zero, suc, _+_, _-_, _^_, _≤_, _<_}
 use mathlib.Core.Path.{_≡_, refl, sym, ap, _∙_, subst}
-use mathlib.Core.Logic.{_↔_, _⊎_, inl, inr}
+use mathlib.Core.Logic.{_↔_, inl, inr}
 use mathlib.Core.Bool.{Bool, cond}
 use mathlib.Core.List.{List, [], _∷_}
 use native.Mathlib.Omega.{arith}
@@ -11,7 +11,7 @@ use Rattle.kinds.specs.declared.refusals.Refusal.{Refusal}
 use Rattle.rules.specs.Lists.{All, from, sum}
 use Rattle.rules.specs.Rules.{Rule}
 use Rattle.rules.specs.Preferred.{Preferred}
-use Rattle.rules.proofs.Lists.{all-from, from-all, length-from}
+use Rattle.rules.proofs.Lists.{from-all, length-from}
 use Rattle.walks.specs.Walk.{candidates, preferredNeeds, after, firstState, cappedNext, nextVerdict}
 use Rattle.walks.specs.Meanings.{First, Least, CandidateUnits, TotalUnits, FoundState, NoState, NextUnits, NextMeans}
 use Rattle.walks.specs.declared.answers.Verdict.{Verdict}

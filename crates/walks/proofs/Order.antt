@@ -1,13 +1,13 @@
 -- The laws of the order of the walks: each set of n atoms once.
-use Prim.Native.Nat.{ℕ, zero, suc, _+_, _-_, _^_, _≤_, _<_}
+use Prim.Native.Nat.{ℕ, zero, suc, _+_, _-_, _^_, _<_}
 use mathlib.Core.Path.{_≡_, refl, sym, ap, ap₂, _∙_}
 use mathlib.Core.Logic.{_↔_, _≢_}
 use mathlib.Core.Bool.{Bool, true, false, not, _&&_}
-use mathlib.Core.List.{List, [], _∷_, _++_, append-nil}
+use mathlib.Core.List.{List, _++_, append-nil}
 use native.Mathlib.Omega.{arith}
 use lib.Dec.{T, eqb, eqb→eq}
 use lib.ListN.{length, drop}
-use Rattle.rules.specs.Lists.{All, Any, Distinct, filter, keep, from}
+use Rattle.rules.specs.Lists.{All, Distinct, filter, from}
 use Rattle.rules.specs.Sets.{ProperSubset, Agree}
 use Rattle.rules.specs.Stable.{subset?}
 use Rattle.rules.specs.Preferred.{fixed, OfClass, ofClass, agree?}
@@ -17,7 +17,7 @@ use Rattle.rules.proofs.Stable.{subset-law, proper-lt}
 use Rattle.rules.proofs.Preferred.{agree-law}
 use Rattle.walks.specs.Walk.{walkOrder, preferredWalk, proper?, stableWalk, candidates}
 use Rattle.walks.specs.Meanings.{EachSetOnce}
-use Rattle.walks.proofs.Filters.{upTo, filter-app, filter-same, none-left}
+use Rattle.walks.proofs.Filters.{filter-app, filter-same, none-left}
 
 from-distinct : (s c : ℕ) → Distinct (from s c)
 from-distinct s zero = tt

@@ -7,7 +7,7 @@ use mathlib.Core.List.{List, [], _∷_}
 use native.Mathlib.Omega.{arith}
 use native.Mathlib.Decide.{decLe}
 use lib.Dec.{T, leb}
-use lib.ListN.{length, getD, take}
+use lib.ListN.{length}
 use borrow.Author.Tests.{le-leb, lt-leb}
 use Rattle.kinds.specs.declared.refusals.Refusal.{Refusal}
 use Rattle.rules.specs.Lists.{All}

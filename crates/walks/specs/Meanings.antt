@@ -11,9 +11,7 @@ use Rattle.rules.specs.Rules.{Rule, Model, FirstBroken, reduct}
 use Rattle.rules.specs.Stable.{Stable}
 use Rattle.rules.specs.Preferred.{Beats, Preferred}
 use Rattle.walks.specs.Walk.{preferredWalk, stableWalk, candidates, preferredVerdict, stableVerdict, nextVerdict}
-use Rattle.walks.specs.declared.answers.Verdict.{Verdict}
 use Rattle.walks.specs.declared.answers.Verdict.the-variants.{Yes, Broken, Beaten, Spent, Refused}
-use Rattle.walks.specs.declared.answers.NextState.{NextState}
 use Rattle.walks.specs.declared.answers.NextState.the-variants.{State, Nothing, Spent as NextSpent, Refused as NextRefused}
 
 -- each set of n atoms once, and nothing else

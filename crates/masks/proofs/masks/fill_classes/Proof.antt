@@ -1,6 +1,5 @@
 use mathlib.Core.Path.{sym, ap, _∙_}
 use Prim.Native.Nat.{_-_}
-use native.Mathlib.Omega.{arith}
 use lib.ListN.{length}
 use Rattle.masks.proofs.ClassFill.{Noting, notes-begin, notes-length, notes-go-on, notes-end}
 use borrow.Author.Needs.{needs}

@@ -1,4 +1,3 @@
-use mathlib.Core.Path.{_≡_}
 use native.Mathlib.Omega.{arith}
 use Rattle.masks.proofs.CheckedStore.{PreferenceHeader, has-header, preference-atoms, preference-room, preference-rules, class-words-few, preference-stored, free-fits, masks-filled}
 use borrow.Author.Needs.{needs}

@@ -1,5 +1,5 @@
 use mathlib.Core.Path.{_≡_, ap, _∙_}
-use Prim.Native.Nat.{ℕ, _+_, _-_, _^_, _≤_}
+use Prim.Native.Nat.{ℕ, _-_, _^_, _≤_}
 use lib.ListN.{length, drop}
 use lib.Bits.{bitOr}
 use Rattle.masks.specs.Masks.{maskOf}
