@@ -172,6 +172,12 @@ pub record PlainHeader (ws : List ℕ) (r : ℕ) : Type 0 where
   pub is-plain : decode ws .kind ≡ Plain
   pub rules-read : r ≡ getD ws 3 0
 
+-- the masks of its rules, of the reduct by m, stand at the front
+pub record PlainReady (ws : List ℕ) (r m : ℕ) (cs wants : List ℕ) : Type 0 where
+  pub count : r ≡ length (decode ws .rules)
+  pub care-front : take r cs ≡ map (careOf m) (decode ws .rules)
+  pub want-front : take r wants ≡ map (wantOf m) (decode ws .rules)
+
 module _ (ws : List ℕ) (r : ℕ) (h : PlainHeader ws r) where
   uncounted : wordCount (decode ws .kind) (decode ws .atoms) ≡ 0
   uncounted = ap (λ (x : Kind). wordCount x (decode ws .atoms)) (h .is-plain)
@@ -201,43 +207,39 @@ module _ (ws : List ℕ) (r : ℕ) (h : PlainHeader ws r) where
   unfolding decode
   plain-rules-are = ap (rulesFrom r) (part-rest 4 ws) ∙ ap₂ (λ (x y : ℕ). rulesFrom x (drop (4 + y) ws)) (h .rules-read) (sym uncounted)
 
-  pub record PlainReady (m : ℕ) (cs wants : List ℕ) : Type 0 where
-    pub care-front : take r cs ≡ map (careOf m) (decode ws .rules)
-    pub want-front : take r wants ≡ map (wantOf m) (decode ws .rules)
-
   plain-front : (g : Rule ℕ → ℕ) (d l : List ℕ) → l ≡ over (map g (rulesFrom r plainPart)) d → take r l ≡ map g (decode ws .rules)
   plain-front g d l e =
       ap (take r) (e ∙ ap (λ (x : List (Rule ℕ)). over (map g x) d) plain-rules-are)
       ∙ front-of (map g (decode ws .rules)) d r (length-map (decode ws .rules) g ∙ sym plain-count)
 
   pub plain-ready : (m : ℕ) (cs wants c₀ w₀ : List ℕ)
-      → (cs ≡ over (map (careOf m) (rulesFrom r plainPart)) c₀) × (wants ≡ over (map (wantOf m) (rulesFrom r plainPart)) w₀) → PlainReady m cs wants
-  plain-ready m cs wants c₀ w₀ q = record { care-front = plain-front (careOf m) c₀ cs (q .0); want-front = plain-front (wantOf m) w₀ wants (q .1) }
+      → (cs ≡ over (map (careOf m) (rulesFrom r plainPart)) c₀) × (wants ≡ over (map (wantOf m) (rulesFrom r plainPart)) w₀) → PlainReady ws r m cs wants
+  plain-ready m cs wants c₀ w₀ q = record { count = plain-count; care-front = plain-front (careOf m) c₀ cs (q .0); want-front = plain-front (wantOf m) w₀ wants (q .1) }
 
-  module _ (m : ℕ) (cs wants : List ℕ) (d : PlainReady m cs wants) where
-    pub plain-care-length : r ≡ length (take r cs)
-    plain-care-length = sym (ap length (d .care-front) ∙ length-map (decode ws .rules) (careOf m) ∙ sym plain-count)
+module _ {ws : List ℕ} {r m : ℕ} {cs wants : List ℕ} (d : PlainReady ws r m cs wants) where
+  pub plain-care-length : r ≡ length (take r cs)
+  plain-care-length = sym (ap length (d .care-front) ∙ length-map (decode ws .rules) (careOf m) ∙ sym (d .count))
 
-    pub plain-want-length : r ≡ length (take r wants)
-    plain-want-length = sym (ap length (d .want-front) ∙ length-map (decode ws .rules) (wantOf m) ∙ sym plain-count)
+  pub plain-want-length : r ≡ length (take r wants)
+  plain-want-length = sym (ap length (d .want-front) ∙ length-map (decode ws .rules) (wantOf m) ∙ sym (d .count))
 
-    first-is : firstM m (take r cs) (take r wants) ≡ firstBroken (decode ws .rules) (has m)
-    first-is = ap₂ (firstM m) (d .care-front) (d .want-front) ∙ first-mask m m (decode ws .rules) (same-nots m (decode ws .rules))
+  first-is : firstM m (take r cs) (take r wants) ≡ firstBroken (decode ws .rules) (has m)
+  first-is = ap₂ (firstM m) (d .care-front) (d .want-front) ∙ first-mask m m (decode ws .rules) (same-nots m (decode ws .rules))
 
-    model-is : modelM (take r cs) (take r wants) m ≡ model? (decode ws .rules) (has m)
-    model-is = ap₂ (λ (x y : List ℕ). modelM x y m) (d .care-front) (d .want-front) ∙ model-mask m m (decode ws .rules) (same-nots m (decode ws .rules))
+  model-is : modelM (take r cs) (take r wants) m ≡ model? (decode ws .rules) (has m)
+  model-is = ap₂ (λ (x y : List ℕ). modelM x y m) (d .care-front) (d .want-front) ∙ model-mask m m (decode ws .rules) (same-nots m (decode ws .rules))
 
-    pub stable-broken-ready : (b i : ℕ) → i ≡ firstM m (take r cs) (take r wants) → (i ≡ r → ⊥) → Broken i ≡ stableVerdict (decode ws .atoms) (decode ws .rules) m b
-    unfolding stableVerdict stableNeeds capped modelM
-    stable-broken-ready b i e ne =
-        let z : model? (decode ws .rules) (has m) ≡ false = sym model-is ∙ ne-eqb (firstM m (take r cs) (take r wants)) (length (take r cs)) (λ q. ne (e ∙ q ∙ sym plain-care-length)) in
-        rw (e ∙ first-is, z)
+  pub stable-broken-ready : (b i : ℕ) → i ≡ firstM m (take r cs) (take r wants) → (i ≡ r → ⊥) → Broken i ≡ stableVerdict (decode ws .atoms) (decode ws .rules) m b
+  unfolding stableVerdict stableNeeds capped modelM
+  stable-broken-ready b i e ne =
+      let z : model? (decode ws .rules) (has m) ≡ false = sym model-is ∙ ne-eqb (firstM m (take r cs) (take r wants)) (length (take r cs)) (λ q. ne (e ∙ q ∙ sym plain-care-length)) in
+      rw (e ∙ first-is, z)
 
-    pub stable-ready : (b i : ℕ) (v : Verdict) (gc gw : List ℕ) → m < 2 ^ decode ws .atoms → i ≡ firstM m (take r cs) (take r wants) → i ≡ r
-        → gc ≡ gatherCare (take r cs) (take r wants) → gw ≡ gatherWant (take r cs) (take r wants) → v ≡ capped b (stableWalkM gc gw m) → v ≡ stableVerdict (decode ws .atoms) (decode ws .rules) m b
-    unfolding stableVerdict stableNeeds modelM
-    stable-ready b i v gc gw inside e q x y h =
-        let z : model? (decode ws .rules) (has m) ≡ true = sym model-is ∙ eq-eqb (firstM m (take r cs) (take r wants)) (length (take r cs)) (sym e ∙ q ∙ plain-care-length) in
-        h ∙ ap (capped b) (ap₂ (λ (c w : List ℕ). stableWalkM c w m) x y ∙ gather-walk (take r cs) (take r wants) m (sym plain-want-length ∙ plain-care-length)
-        ∙ ap₂ (λ (c w : List ℕ). stableWalkM c w m) (d .care-front) (d .want-front) ∙ stable-walk-mask (decode ws .atoms) (decode ws .rules) m inside)
-        ∙ ap (λ (p : Bool). capped b (cond p (search (λ s. model? (reduct (decode ws .rules) (has m)) (has s)) (stableWalk (decode ws .atoms) m) 0) (Broken (firstBroken (decode ws .rules) (has m))))) (sym z)
+  pub stable-ready : (b i : ℕ) (v : Verdict) (gc gw : List ℕ) → m < 2 ^ decode ws .atoms → i ≡ firstM m (take r cs) (take r wants) → i ≡ r
+      → gc ≡ gatherCare (take r cs) (take r wants) → gw ≡ gatherWant (take r cs) (take r wants) → v ≡ capped b (stableWalkM gc gw m) → v ≡ stableVerdict (decode ws .atoms) (decode ws .rules) m b
+  unfolding stableVerdict stableNeeds modelM
+  stable-ready b i v gc gw inside e q x y h =
+      let z : model? (decode ws .rules) (has m) ≡ true = sym model-is ∙ eq-eqb (firstM m (take r cs) (take r wants)) (length (take r cs)) (sym e ∙ q ∙ plain-care-length) in
+      h ∙ ap (capped b) (ap₂ (λ (c w : List ℕ). stableWalkM c w m) x y ∙ gather-walk (take r cs) (take r wants) m (sym plain-want-length ∙ plain-care-length)
+      ∙ ap₂ (λ (c w : List ℕ). stableWalkM c w m) (d .care-front) (d .want-front) ∙ stable-walk-mask (decode ws .atoms) (decode ws .rules) m inside)
+      ∙ ap (λ (p : Bool). capped b (cond p (search (λ s. model? (reduct (decode ws .rules) (has m)) (has s)) (stableWalk (decode ws .atoms) m) 0) (Broken (firstBroken (decode ws .rules) (has m))))) (sym z)

@@ -26,9 +26,6 @@ shifted n h = ap (λ (x : ℕ). x % 2 ^ 64) (one-mul (2 ^ n)) ∙ mod-eq-of-lt (
 pub shl-pos : (n : ℕ) → n ≤ 60 → 1 ≤ (1 * 2 ^ n) % 2 ^ 64
 shl-pos n h = rw (shifted n h) (pow-pos n)
 
-pub shl-last : (n : ℕ) → n ≤ 60 → (1 * 2 ^ n) % 2 ^ 64 - 1 + 1 ≡ 2 ^ n
-shl-last n h = omega (arith, shifted n h, pow-pos n)
-
 -- the mask of a list, one atom further
 
 pub or-assoc : (a b c : ℕ) → bitOr (bitOr a b) c ≡ bitOr a (bitOr b c)

@@ -91,17 +91,11 @@ module _ (n f : ℕ) (few : n ≤ 60) (room : f < 2 ^ n) where
     pub next-place : (y + 1 ≡ 2 ^ n → ⊥) → rank 64 (freeOf n f) (bitOr (y + 1) f - f) ≡ rank 64 (freeOf n f) (y - f) + 1
     next-place ne = ap (rank 64 (freeOf n f)) (sym same) ∙ step .counts
       where
-        y′ : ℕ
-        y′ = bitOr (y + 1) f
-
         small : bitOr (y + 1) f < 2 ^ n
         small = or-lt n (y + 1) f (omega arith) room
 
         step : NextSub (freeOf n f) (y - f) (nx 64 (freeOf n f) (y - f))
         step = next-sub (freeOf n f) (y - f) free-small (rest-free n f y room inside-n full) (λ e. let a = above-f y full in ne (omega arith))
-
-        r : ℕ
-        r = nx 64 (freeOf n f) (y - f)
 
         apart : bitAnd (nx 64 (freeOf n f) (y - f)) f ≡ 0
         apart = eqb→eq (bitAnd (nx 64 (freeOf n f) (y - f)) f) 0 (disjoint (nx 64 (freeOf n f) (y - f)) f .1 (λ i t k.

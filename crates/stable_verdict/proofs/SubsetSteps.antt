@@ -12,10 +12,6 @@ use lib.Seq.{getD-set-same, getD-set-other}
 use Rattle.masks.specs.Subsets.{rank, NextSub, stepOf, StepTable}
 use Rattle.masks.proofs.Subsets.{Lowest, lowest, zeros-lt, step-pos, next-sub, rank-lt, rank-top}
 
--- the lowest atom of a set
-abbrev pub lowAtom : ℕ → ℕ
-lowAtom x = 2 ^ trailingZeros 64 x
-
 module _ (m : ℕ) where
   -- the steps of j atoms stand, `below` has these atoms and `left` the others
   pub record Filled (steps : List ℕ) (left below j : ℕ) : Type 0 where
@@ -55,12 +51,6 @@ module _ (m : ℕ) where
       pub zeros-small : trailingZeros 64 left < 60
       zeros-small = zeros-lt 64 60 left (omega arith) small
 
-      pub atom-within : lowAtom left ≤ left
-      atom-within = low .within
-
-      pub left-falls : left - lowAtom left < left
-      left-falls = omega (arith, pow-pos (trailingZeros 64 left), low .within)
-
       more : j < ones m
       more = omega (arith, low .fewer, st .count)
 
@@ -70,35 +60,43 @@ module _ (m : ℕ) where
       pub steps-room : j < length steps
       steps-room = omega (arith, place-small, st .room)
 
-      here : stepOf 64 m j ≡ lowAtom left - below
-      here =
-          let e : j ≡ j + 0 = omega arith in
-          ap (stepOf 64 m) e ∙ st .rest 0 ∙ ap (λ (x : ℕ). x - below) (low .first)
+      -- the lowest atom that is left
+      module _ (atom : ℕ) (atom-is : atom ≡ 2 ^ trailingZeros 64 left) where
+        pub atom-within : atom ≤ left
+        atom-within = omega (arith, atom-is, low .within)
 
-      pub atom-above : below ≤ lowAtom left
-      atom-above = let f = st .fits in omega (arith, here, step-pos 64 m j (omega arith) more)
+        pub left-falls : left - atom < left
+        left-falls = omega (arith, atom-is, pow-pos (trailingZeros 64 left))
 
-      pub below-fits : below + lowAtom left < 2 ^ 64
-      below-fits = let f = st .fits in let t = st .total in omega (arith, atom-within)
+        here : stepOf 64 m j ≡ atom - below
+        here =
+            let e : j ≡ j + 0 = omega arith in
+            ap (stepOf 64 m) e ∙ st .rest 0 ∙ ap (λ (x : ℕ). x - below) (low .first ∙ sym atom-is)
 
-      pub steps-go-on : Filled (set steps j (lowAtom left - below)) (left - lowAtom left) (below + lowAtom left) (j + 1)
-      steps-go-on = record {
-        fits = st .fits;
-        total = let t = st .total in omega (arith, atom-within);
-        count = omega (arith, low .fewer, st .count);
-        room = length-set steps j (lowAtom left - below) ∙ st .room;
-        rest = λ i.
-            let e : j + 1 + i ≡ j + suc i = omega arith in
-            let q : stepOf 64 left (suc i) ≡ stepOf 64 (left - lowAtom left) i - lowAtom left = low .later i in
-            ap (stepOf 64 m) e ∙ st .rest (suc i) ∙ ap (λ (x : ℕ). x - below) q ∙ (omega arith);
-        done = λ i l. at i l (ℕ-discrete i j);
-      }
-        where
-          at : (i : ℕ) → i < j + 1 → Dec (i ≡ j) → getD (set steps j (lowAtom left - below)) i 0 ≡ stepOf 64 m i
-          at i l (yes e) =
-              ap (λ (x : ℕ). getD (set steps j (lowAtom left - below)) x 0) e
-              ∙ getD-set-same steps j (lowAtom left - below) 0 steps-room ∙ sym here ∙ ap (stepOf 64 m) (sym e)
-          at i l (no ne) = getD-set-other steps j i (lowAtom left - below) 0 ne ∙ st .done i (omega arith)
+        pub atom-above : below ≤ atom
+        atom-above = let f = st .fits in omega (arith, here, step-pos 64 m j (omega arith) more)
+
+        pub below-fits : below + atom < 2 ^ 64
+        below-fits = let f = st .fits in let t = st .total in omega (arith, atom-within)
+
+        pub steps-go-on : Filled (set steps j (atom - below)) (left - atom) (below + atom) (j + 1)
+        steps-go-on = record {
+          fits = st .fits;
+          total = let t = st .total in omega (arith, atom-within);
+          count = let e : ones (left - atom) ≡ ones (left - 2 ^ trailingZeros 64 left) = ap (λ (x : ℕ). ones (left - x)) atom-is in omega (arith, low .fewer, st .count);
+          room = length-set steps j (atom - below) ∙ st .room;
+          rest = λ i.
+              let e : j + 1 + i ≡ j + suc i = omega arith in
+              let q : stepOf 64 left (suc i) ≡ stepOf 64 (left - atom) i - atom = low .later i ∙ ap (λ (x : ℕ). stepOf 64 (left - x) i - x) (sym atom-is) in
+              ap (stepOf 64 m) e ∙ st .rest (suc i) ∙ ap (λ (x : ℕ). x - below) q ∙ (omega arith);
+          done = λ i l. at i l (ℕ-discrete i j);
+        }
+          where
+            at : (i : ℕ) → i < j + 1 → Dec (i ≡ j) → getD (set steps j (atom - below)) i 0 ≡ stepOf 64 m i
+            at i l (yes e) =
+                ap (λ (x : ℕ). getD (set steps j (atom - below)) x 0) e
+                ∙ getD-set-same steps j (atom - below) 0 steps-room ∙ sym here ∙ ap (stepOf 64 m) (sym e)
+            at i l (no ne) = getD-set-other steps j i (atom - below) 0 ne ∙ st .done i (omega arith)
 
 -- the step read after a proper subset s of m, by the place of the next one
 pub record StepRead (m s place : ℕ) (steps : List ℕ) : Type 0 where

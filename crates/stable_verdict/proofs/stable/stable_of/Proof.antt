@@ -1,31 +1,41 @@
 use mathlib.Core.Path.{sym, _∙_}
 use Prim.Native.Nat.{_≤_}
 use native.Mathlib.Omega.{arith}
-use borrow.Author.Needs.{needs}
 use lib.ListN.{length}
 use lib.Seq.{length-take-le}
 use Rattle.stable_verdict.proofs.ProperSubsets.{below-60}
-use Rattle.masks.proofs.CheckedStore.{PlainHeader, PlainReady, taken-fits, has-header, plain-rows, plain-rules, plain-ready, plain-care-length, plain-want-length, stable-broken-ready, stable-ready}
+use Rattle.masks.proofs.CheckedStore.{PlainHeader, PlainReady, has-header, plain-stored, plain-rules, plain-ready, plain-care-length, plain-want-length, stable-broken-ready, stable-ready}
+use Rattle.masks.proofs.FilledMasks.{taken-fits}
+use borrow.Author.Needs.{needs}
 use Rattle.stable_verdict.proofs.stable.stable_of.Statement.{statement}
 use Rattle.stable_verdict.proofs.stable.stable_of.Tie as tie
 
 header : (c : tie.After-wide) → PlainHeader (c .before .before .before .args .words .now) (c .wide .result)
 header c = record { store = c .before .before .before .pre .0; few = c .before .before .before .pre .1 .0; is-plain = c .before .before .before .pre .1 .1 .0; rules-read = c .wide .ensures }
 
-masks : (c : tie.After-fill-rules) → PlainReady (c .before .before .before .before .before .before .args .words .now) (c .before .before .before .wide .result) (header (c .before .before .before)) (c .before .before .before .before .before .before .args .set) (c .fill-rules .last .1 .1 .1 .1 .0) (c .fill-rules .last .1 .1 .1 .1 .1 .0)
-masks c = plain-ready _ _ (header (c .before .before .before)) _ _ _ _ _ (c .fill-rules .ensures)
+masks : (c : tie.After-fill-rules) → PlainReady (c .before .before .before .before .before .before .before .args .words .now) (c .before .before .before .before .wide .result) (c .before .before .before .before .before .before .before .args .set) (c .fill-rules .last .1 .1 .1 .0) (c .fill-rules .last .1 .1 .1 .1 .0)
+masks c = plain-ready _ _ (header (c .before .before .before .before)) _ _ _ _ _ (c .fill-rules .ensures)
 
 care-fits : (c : tie.After-gather) → c .gather .result ≤ length (c .gather .last .0)
-care-fits c = omega (arith, c .gather .ensures .1 .1, taken-fits _ _ (plain-care-length _ _ (header (c .before .before .before .before .before .before .before .before .before .before .before .before)) _ _ _ (masks (c .before .before .before .before .before .before .before .before .before))), c .gather .kept .0)
+care-fits c = omega (arith, c .gather .ensures .1 .1, taken-fits _ _ (plain-care-length (masks (c .before .before .before .before .before .before .before .before .before))), c .gather .kept .0)
 
 want-fits : (c : tie.After-gather) → c .gather .result ≤ length (c .gather .last .1 .0)
-want-fits c = omega (arith, c .gather .ensures .1 .1, taken-fits _ _ (plain-want-length _ _ (header (c .before .before .before .before .before .before .before .before .before .before .before .before)) _ _ _ (masks (c .before .before .before .before .before .before .before .before .before))), c .gather .kept .1 .0)
+want-fits c = omega (arith, c .gather .ensures .1 .1, taken-fits _ _ (plain-want-length (masks (c .before .before .before .before .before .before .before .before .before))), c .gather .kept .1 .0)
 
 shared-slice-read-wide : tie.Need-shared-slice-read-wide
 shared-slice-read-wide c = omega (arith, has-header _ _ (c .before .before .pre .0))
 
 wide-requires : tie.Need-wide-requires
 wide-requires c κs = search needs
+
+sub-fill-rules : tie.Need-sub-fill-rules
+sub-fill-rules c = has-header _ _ (c .before .before .before .pre .0)
+
+part-fill-rules-start : tie.Need-part-fill-rules-start
+part-fill-rules-start c = has-header _ _ (c .before .before .before .pre .0)
+
+part-fill-rules-end : tie.Need-part-fill-rules-end
+part-fill-rules-end c = search needs
 
 slice-aggregate-fill-rules : tie.Need-slice-aggregate-fill-rules
 slice-aggregate-fill-rules c = search needs
@@ -34,25 +44,25 @@ slice-aggregate-fill-rules-2 : tie.Need-slice-aggregate-fill-rules-2
 slice-aggregate-fill-rules-2 c = search needs
 
 fill-rules-requires : tie.Need-fill-rules-requires
-fill-rules-requires c κs = (plain-rows _ _ (header (c .before .before)), (plain-rules _ _ (header (c .before .before)), plain-rules _ _ (header (c .before .before))))
+fill-rules-requires c κs = (plain-stored _ _ (header (c .before .before .before)), (plain-rules _ _ (header (c .before .before .before)), plain-rules _ _ (header (c .before .before .before))))
 
 array-share-prefix-care : tie.Need-array-share-prefix-care
-array-share-prefix-care c = taken-fits _ _ (plain-care-length _ _ (header (c .before .before .before .before .before)) _ _ _ (masks (c .before .before)))
+array-share-prefix-care c = taken-fits _ _ (plain-care-length (masks (c .before .before)))
 
 slice-aggregate-first-broken : tie.Need-slice-aggregate-first-broken
-slice-aggregate-first-broken c = plain-care-length _ _ (header (c .before .before .before .before .before .before)) _ _ _ (masks (c .before .before .before))
+slice-aggregate-first-broken c = plain-care-length (masks (c .before .before .before))
 
 array-share-prefix-want : tie.Need-array-share-prefix-want
-array-share-prefix-want c = taken-fits _ _ (plain-want-length _ _ (header (c .before .before .before .before .before .before)) _ _ _ (masks (c .before .before .before)))
+array-share-prefix-want c = taken-fits _ _ (plain-want-length (masks (c .before .before .before)))
 
 slice-aggregate-first-broken-2 : tie.Need-slice-aggregate-first-broken-2
-slice-aggregate-first-broken-2 c = plain-want-length _ _ (header (c .before .before .before .before .before .before .before)) _ _ _ (masks (c .before .before .before .before))
+slice-aggregate-first-broken-2 c = plain-want-length (masks (c .before .before .before .before))
 
 first-broken-requires : tie.Need-first-broken-requires
-first-broken-requires c κs = sym (plain-want-length _ _ (header (c .before .before .before .before .before .before .before)) _ _ _ (masks (c .before .before .before .before))) ∙ plain-care-length _ _ (header (c .before .before .before .before .before .before .before)) _ _ _ (masks (c .before .before .before .before))
+first-broken-requires c κs = sym (plain-want-length (masks (c .before .before .before .before))) ∙ plain-care-length (masks (c .before .before .before .before))
 
 returns : tie.Need-returns
-returns c = stable-broken-ready _ _ (header (c .before .before .before .before .before .before .before .before .before)) _ _ _ (masks (c .before .before .before .before .before .before)) _ _ (c .before .first-broken .ensures) (c .if1 .taken)
+returns c = stable-broken-ready (masks (c .before .before .before .before .before .before)) _ _ (c .before .first-broken .ensures) (c .if1 .taken)
 
 slice-aggregate-gather : tie.Need-slice-aggregate-gather
 slice-aggregate-gather c = search needs
@@ -61,7 +71,7 @@ slice-aggregate-gather-2 : tie.Need-slice-aggregate-gather-2
 slice-aggregate-gather-2 c = search needs
 
 gather-requires : tie.Need-gather-requires
-gather-requires c κs = (taken-fits _ _ (plain-care-length _ _ (header (c .before .before .before .before .before .before .before .before .before .before .before)) _ _ _ (masks (c .before .before .before .before .before .before .before .before))), taken-fits _ _ (plain-want-length _ _ (header (c .before .before .before .before .before .before .before .before .before .before .before)) _ _ _ (masks (c .before .before .before .before .before .before .before .before))))
+gather-requires c κs = (taken-fits _ _ (plain-care-length (masks (c .before .before .before .before .before .before .before .before))), taken-fits _ _ (plain-want-length (masks (c .before .before .before .before .before .before .before .before))))
 
 array-share-prefix-care-2 : tie.Need-array-share-prefix-care-2
 array-share-prefix-care-2 c = care-fits (c .before .before)
@@ -76,10 +86,10 @@ slice-aggregate-stable-walk-2 : tie.Need-slice-aggregate-stable-walk-2
 slice-aggregate-stable-walk-2 c = sym (length-take-le _ (c .before .before .before .before .gather .last .1 .0) (want-fits (c .before .before .before .before)))
 
 stable-walk-requires : tie.Need-stable-walk-requires
-stable-walk-requires c κs = (length-take-le _ (c .before .before .before .before .gather .last .1 .0) (want-fits (c .before .before .before .before)) ∙ sym (length-take-le _ (c .before .before .before .before .gather .last .0) (care-fits (c .before .before .before .before))), below-60 _ _ (c .before .before .before .before .before .before .before .before .before .before .before .before .before .before .before .before .before .before .before .pre .1 .0) (c .before .before .before .before .before .before .before .before .before .before .before .before .before .before .before .before .before .before .before .pre .1 .1 .1))
+stable-walk-requires c κs = (length-take-le _ (c .before .before .before .before .gather .last .1 .0) (want-fits (c .before .before .before .before)) ∙ sym (length-take-le _ (c .before .before .before .before .gather .last .0) (care-fits (c .before .before .before .before))), below-60 _ _ (c .before .before .before .before .before .before .before .before .before .before .before .before .before .before .before .before .before .before .before .before .pre .1 .0) (c .before .before .before .before .before .before .before .before .before .before .before .before .before .before .before .before .before .before .before .before .pre .1 .1 .1))
 
 returns-2 : tie.Need-returns-2
-returns-2 c = stable-ready _ _ (header (c .before .before .before .before .before .before .before .before .before .before .before .before .before .before .before .before .before)) _ _ _ (masks (c .before .before .before .before .before .before .before .before .before .before .before .before .before .before)) _ _ _ _ _ (c .before .before .before .before .before .before .before .before .before .first-broken .ensures) (c .before .before .before .before .before .before .before .before .if1 .left) (c .before .before .before .before .before .gather .ensures .0) (c .before .before .before .before .before .gather .ensures .1 .0) (c .stable-walk .ensures)
+returns-2 c = stable-ready (masks (c .before .before .before .before .before .before .before .before .before .before .before .before .before .before)) _ _ _ _ _ (c .before .before .before .before .before .before .before .before .before .before .before .before .before .before .before .before .before .before .before .before .before .pre .1 .1 .1) (c .before .before .before .before .before .before .before .before .before .first-broken .ensures) (c .before .before .before .before .before .before .before .before .if1 .left) (c .before .before .before .before .before .gather .ensures .0) (c .before .before .before .before .before .gather .ensures .1 .0) (c .stable-walk .ensures)
 
 pub stable-of-spec : {M : Type 1} → statement M
 stable-of-spec =
@@ -87,6 +97,9 @@ stable-of-spec =
     (tie.spec
     shared-slice-read-wide
     wide-requires
+    sub-fill-rules
+    part-fill-rules-start
+    part-fill-rules-end
     slice-aggregate-fill-rules
     slice-aggregate-fill-rules-2
     fill-rules-requires
