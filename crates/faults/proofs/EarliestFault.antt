@@ -10,13 +10,13 @@ use lib.Dec.{T, leb, leb→le, le→leb}
 use lib.ListN.{length}
 use Rattle.kinds.specs.Limits.{textLimit}
 use Rattle.kinds.specs.declared.refusals.Refusal.{Refusal}
-use Rattle.kinds.specs.declared.refusals.Refusal.the-variants.{TextTooLong, Form as BrokenForm}
+use Rattle.kinds.specs.declared.refusals.Refusal.the-variants.{TextTooLong, BrokenForm}
 use Rattle.rules.proofs.Booleans.{decide, is-true, is-false}
 use Rattle.stores.specs.Program.{Program}
 use Rattle.lines.specs.declared.stage.Stage.the-variants.{Ruling}
 use Rattle.lines.specs.Lines.{lines}
 use Rattle.lines.specs.Forms.{formOf}
-use Rattle.lines.specs.Faults.{State, next, fault, ruling?, stepForm}
+use Rattle.lines.specs.Faults.{SoFar, next, fault, ruling?, stepForm}
 use Rattle.lines.specs.Said.{Said, accepted, refused, start, programOf, onStep, readLines, said}
 use Rattle.faults.specs.Sentences.{Lowest, Faultless, added, Sound}
 use Rattle.faults.specs.EarliestFault.{Passed, RefusedAt, AcceptedAs, Refuses, Accepts}
@@ -25,25 +25,25 @@ use Rattle.faults.proofs.LowestFault.{Answers, line-answers, fault-iff,
 
 -- one line of those that are read
 
-fault-read : (k : ℕ) (st : State) (l : List ℕ) (ls : List (List ℕ)) (r : Refusal) → stepForm st (formOf l) ≡ fault r → readLines k st (l ∷ ls) ≡ refused r k
+fault-read : (k : ℕ) (st : SoFar) (l : List ℕ) (ls : List (List ℕ)) (r : Refusal) → stepForm st (formOf l) ≡ fault r → readLines k st (l ∷ ls) ≡ refused r k
 unfolding readLines
 fault-read k st l ls r e = ap (λ s. onStep s k (λ after. readLines (suc k) after ls)) e
 
-next-read : (k : ℕ) (st : State) (l : List ℕ) (ls : List (List ℕ)) (after : State) → stepForm st (formOf l) ≡ next after → readLines k st (l ∷ ls) ≡ readLines (suc k) after ls
+next-read : (k : ℕ) (st : SoFar) (l : List ℕ) (ls : List (List ℕ)) (after : SoFar) → stepForm st (formOf l) ≡ next after → readLines k st (l ∷ ls) ≡ readLines (suc k) after ls
 unfolding readLines
 next-read k st l ls after e = ap (λ s. onStep s k (λ after. readLines (suc k) after ls)) e
 
-end-complete : (k : ℕ) (st : State) → st .stage ≡ Ruling → readLines k st [] ≡ accepted (programOf st) (st .names)
+end-complete : (k : ℕ) (st : SoFar) → st .stage ≡ Ruling → readLines k st [] ≡ accepted (programOf st) (st .names)
 unfolding readLines
 end-complete k st e = ap (λ b. cond b (accepted (programOf st) (st .names)) (refused BrokenForm k)) (is-true (ruling? (st .stage)) (ruling-law (st .stage) .1 e))
 
-end-incomplete : (k : ℕ) (st : State) → st .stage ≢ Ruling → readLines k st [] ≡ refused BrokenForm k
+end-incomplete : (k : ℕ) (st : SoFar) → st .stage ≢ Ruling → readLines k st [] ≡ refused BrokenForm k
 unfolding readLines
 end-incomplete k st n = ap (λ b. cond b (accepted (programOf st) (st .names)) (refused BrokenForm k)) (is-false (ruling? (st .stage)) (λ t. n (ruling-law (st .stage) .0 t)))
 
 -- lines without fault are passed over
 
-passed-read : (k : ℕ) (st : State) → Sound st → (before ls : List (List ℕ)) (after : State) → Passed st before after → (readLines k st (before ++ ls) ≡ readLines (k + length before) after ls) × Sound after
+passed-read : (k : ℕ) (st : SoFar) → Sound st → (before ls : List (List ℕ)) (after : SoFar) → Passed st before after → (readLines k st (before ++ ls) ≡ readLines (k + length before) after ls) × Sound after
 passed-read k st sound [] ls after p = (ap₂ (λ n s. readLines n s ls) (let e : k ≡ k + 0 = omega arith in e) p, subst Sound p sound)
 passed-read k st sound (l ∷ before) ls after p =
     let st′ = added st (formOf l) in
@@ -53,26 +53,26 @@ passed-read k st sound (l ∷ before) ls after p =
 
 -- what becomes of lines, by the sentences
 
-pub record Faulty (k : ℕ) (st : State) (ls : List (List ℕ)) (s : Said) : Type 0 where
+pub record Faulty (k : ℕ) (st : SoFar) (ls : List (List ℕ)) (s : Said) : Type 0 where
   pub before : List (List ℕ)
   pub line : List ℕ
   pub rest : List (List ℕ)
-  pub state : State
+  pub state : SoFar
   pub refusal : Refusal
   pub are-lines : ls ≡ before ++ (line ∷ rest)
   pub passed : Passed st before state
   pub lowest : Lowest state (formOf line) refusal
   pub answer : s ≡ refused refusal (k + length before)
 
-pub record Ended (k : ℕ) (st : State) (ls : List (List ℕ)) (s : Said) : Type 0 where
-  pub state : State
+pub record Ended (k : ℕ) (st : SoFar) (ls : List (List ℕ)) (s : Said) : Type 0 where
+  pub state : SoFar
   pub passed : Passed st ls state
   pub answer : s ≡ readLines (k + length ls) state []
 
-abbrev Outcome : ℕ → State → List (List ℕ) → Said → Type 0
+abbrev Outcome : ℕ → SoFar → List (List ℕ) → Said → Type 0
 Outcome k st ls s = Faulty k st ls s ⊎ Ended k st ls s
 
-outcome : (k : ℕ) (st : State) → Sound st → (ls : List (List ℕ)) → Outcome k st ls (readLines k st ls)
+outcome : (k : ℕ) (st : SoFar) → Sound st → (ls : List (List ℕ)) → Outcome k st ls (readLines k st ls)
 outcome k st sound [] = let e : k ≡ k + 0 = omega arith in inr (record { state = st; passed = refl; answer = ap (λ n. readLines n st []) e })
 outcome k st sound (l ∷ ls) = step (line-answers st sound l) (λ (h : Faultless st (formOf l)). outcome (suc k) (added st (formOf l)) (added-sound st sound (formOf l) h) ls)
   where
@@ -128,7 +128,7 @@ module _ (text : List ℕ) where
   abbrev whole : Said
   whole = readLines 1 (start text) (lines text)
 
-  lines-passed : (state : State) → Passed (start text) (lines text) state → whole ≡ readLines (suc (length (lines text))) state []
+  lines-passed : (state : SoFar) → Passed (start text) (lines text) state → whole ≡ readLines (suc (length (lines text))) state []
   lines-passed state p =
       let n : 1 + length (lines text) ≡ suc (length (lines text)) = omega arith in
       ap (readLines 1 (start text)) (sym (append-nil (lines text))) ∙ passed-read 1 (start text) (start-sound text) (lines text) [] state p .0 ∙ ap (λ m. readLines m state []) n

@@ -14,8 +14,8 @@ use Rattle.kinds.specs.declared.limits.Kind.{Kind}
 use Rattle.rules.specs.Lists.{sum}
 use Rattle.rules.specs.Rules.{Rule, occurrences}
 use Rattle.rules.proofs.Lists.{sum-app}
-use Rattle.lines.specs.Forms.{Word, atoms, min, vary, fix, Form, declares, rules}
-use Rattle.lines.specs.Faults.{State, countsOf, classesAfter, numberOf, declared, numbered, with-rule}
+use Rattle.lines.specs.Forms.{Word, atoms, min, vary, fix, LineForm, declares, rules}
+use Rattle.lines.specs.Faults.{SoFar, countsOf, classesAfter, nameNumber, declared, numbered, with-rule}
 use Rattle.faults.proofs.Connectives.{not-law, not-and}
 use Rattle.faults.specs.Sentences.{atomsWith, rulesWith, occurrencesWith, classesWith, PassesLimit, atoms-pass, rules-pass, occurrences-pass, classes-pass}
 
@@ -36,10 +36,10 @@ within-law kind c =
     (not-and (leb (c .rules) (ruleLimit kind)) (leb (c .occurrences) (occurrenceLimit kind)) (passes-law (c .rules) (ruleLimit kind)) (passes-law (c .occurrences) (occurrenceLimit kind)))
 
 -- the counts with the line's own
-abbrev countsWith : State → Form → Counts
+abbrev countsWith : SoFar → LineForm → Counts
 countsWith st f = record { atoms = atomsWith st f; rules = rulesWith st f; occurrences = occurrencesWith st f }
 
-limit-law : (st : State) (f : Form) → (CountPasses (st .kind) (countsWith st f) ⊎ (classLimit < classesWith st f)) ↔ PassesLimit st f
+limit-law : (st : SoFar) (f : LineForm) → (CountPasses (st .kind) (countsWith st f) ⊎ (classLimit < classesWith st f)) ↔ PassesLimit st f
 limit-law st f = (there, back)
   where
     there : CountPasses (st .kind) (countsWith st f) ⊎ (classLimit < classesWith st f) → PassesLimit st f
@@ -54,7 +54,7 @@ limit-law st f = (there, back)
     back (occurrences-pass h) = inl (inr (inr (omega arith)))
     back (classes-pass h) = inr (omega arith)
 
-module _ (st : State) where
+module _ (st : SoFar) where
   declared-counts : (w : Word) (xs : List (List ℕ)) → countsOf (declared st w xs) ≡ countsWith st (declares w xs)
   declared-counts w xs = ap (λ n. record { atoms = n; rules = length (st .program-rules); occurrences = sum occurrences (st .program-rules) }) (length-append (st .names) xs)
 
@@ -83,7 +83,7 @@ module _ (st : State) where
         one-more = omega (arith, length-append (st .program-rules) (line-rule ∷ []))
 
         places : sum occurrences (st .program-rules ++ (line-rule ∷ [])) ≡ occurrencesWith st (rules hs bs ns)
-        places = omega (arith, sum-app occurrences (st .program-rules) (line-rule ∷ []), length-map hs (numberOf (st .names)), length-map bs (numberOf (st .names)), length-map ns (numberOf (st .names)))
+        places = omega (arith, sum-app occurrences (st .program-rules) (line-rule ∷ []), length-map hs (nameNumber (st .names)), length-map bs (nameNumber (st .names)), length-map ns (nameNumber (st .names)))
 
     pub rule-limit : st .classes ≤ classLimit → T (not (within (st .kind) (countsOf (with-rule st line-rule)))) ↔ PassesLimit st (rules hs bs ns)
     rule-limit fits =

@@ -18,7 +18,7 @@ use Rattle.names.specs.Names.{nameClass}
 use Rattle.name_store.specs.NameStore.{sameBytes}
 use Rattle.name_store.proofs.NameStores.{same-equal, same-self}
 use Rattle.lines.specs.Items.{delimiter?, run, itemsFrom, items, span}
-use Rattle.lines.specs.Forms.{Word, atoms, min, vary, fix, Form, declares, rules, broken, isName, begins, Cut, cut, none, cutNames, cutList, onCut, tagOf, headTag, bodyTag, notTag, listEnd, ruleEnd, closed, declaredForm, ruleForm, formOf}
+use Rattle.lines.specs.Forms.{Word, atoms, min, vary, fix, LineForm, declares, rules, broken, isName, begins, Split, split, none, splitNames, splitList, onSplit, tagOf, headTag, bodyTag, notTag, listEnd, ruleEnd, closed, declaredForm, ruleForm, formOf}
 use Rattle.faults.specs.NameForms.{NameByte, HouseBytes, Marked, ClassNumber}
 use Rattle.faults.specs.LineForms.{IsName, spaced, DeclaringLine, RuleLine, HasForm}
 use Rattle.faults.specs.Sentences.{namesOf}
@@ -162,58 +162,58 @@ items-text s =
 -- a tag and the names after it
 
 -- what a cut says of the bytes that were cut
-abbrev CutOf : List ℕ → List ℕ → Cut → Type 0
-CutOf tag s (cut xs rest) = (s ≡ tag ++ (spaced xs ++ rest)) × All IsName xs
+abbrev CutOf : List ℕ → List ℕ → Split → Type 0
+CutOf tag s (split xs rest) = (s ≡ tag ++ (spaced xs ++ rest)) × All IsName xs
 CutOf tag s none = Unit {0}
 
-cut-names : (s : List ℕ) → CutOf [] s (cutNames s)
-unfolding cutNames
+cut-names : (s : List ℕ) → CutOf [] s (splitNames s)
+unfolding splitNames
 cut-names s =
-    on-cond (CutOf [] s) (every (λ x. isName (nameClass x)) (items s)) (cut (items s) (drop (span (items s)) s)) none
+    on-cond (CutOf [] s) (every (λ x. isName (nameClass x)) (items s)) (split (items s) (drop (span (items s)) s)) none
     (λ t. (items-text s, every-name (items s) .0 t))
     (λ f. tt)
 
-cut-list : (tag s : List ℕ) → CutOf tag s (cutList tag s)
-unfolding cutList
+cut-list : (tag s : List ℕ) → CutOf tag s (splitList tag s)
+unfolding splitList
 cut-list tag s =
-    on-cond (CutOf tag s) (begins tag s) (cutNames (drop (length tag) s)) none
-    (λ t. after-tag (same-equal (take (length tag) s) tag t) (cutNames (drop (length tag) s)) (cut-names (drop (length tag) s)))
+    on-cond (CutOf tag s) (begins tag s) (splitNames (drop (length tag) s)) none
+    (λ t. after-tag (same-equal (take (length tag) s) tag t) (splitNames (drop (length tag) s)) (cut-names (drop (length tag) s)))
     (λ f. tt)
   where
-    after-tag : take (length tag) s ≡ tag → (c : Cut) → CutOf [] (drop (length tag) s) c → CutOf tag s c
-    after-tag e (cut xs rest) h = (sym (take-append-drop (length tag) s) ∙ ap₂ _++_ e (h .0), h .1)
+    after-tag : take (length tag) s ≡ tag → (c : Split) → CutOf [] (drop (length tag) s) c → CutOf tag s c
+    after-tag e (split xs rest) h = (sym (take-append-drop (length tag) s) ∙ ap₂ _++_ e (h .0), h .1)
     after-tag e none h = tt
 
-cut-of : (tag : List ℕ) (xs : List (List ℕ)) (r : List ℕ) → All IsName xs → cutList tag (tag ++ (spaced xs ++ (close-bracket ∷ r))) ≡ cut xs (close-bracket ∷ r)
-unfolding cutList cutNames
+cut-of : (tag : List ℕ) (xs : List (List ℕ)) (r : List ℕ) → All IsName xs → splitList tag (tag ++ (spaced xs ++ (close-bracket ∷ r))) ≡ split xs (close-bracket ∷ r)
+unfolding splitList splitNames
 cut-of tag xs r h =
     let rest = close-bracket ∷ r in
     let s = spaced xs ++ rest in
     let starts : begins tag (tag ++ s) ≡ true = ap (λ t. sameBytes t tag) (take-append-seam tag s) ∙ is-true (sameBytes tag tag) (same-self tag) in
     let named : every (λ x. isName (nameClass x)) xs ≡ true = is-true (every (λ x. isName (nameClass x)) xs) (every-name xs .1 h) in
-    ap (λ b. cond b (cutNames (drop (length tag) (tag ++ s))) none) starts
-    ∙ ap cutNames (drop-append-seam tag s)
-    ∙ ap (λ ys. cond (every (λ x. isName (nameClass x)) ys) (cut ys (drop (span ys) s)) none) (items-of xs r h)
-    ∙ ap (λ b. cond b (cut xs (drop (span xs) s)) none) named
-    ∙ ap (cut xs) (after-items xs rest)
+    ap (λ b. cond b (splitNames (drop (length tag) (tag ++ s))) none) starts
+    ∙ ap splitNames (drop-append-seam tag s)
+    ∙ ap (λ ys. cond (every (λ x. isName (nameClass x)) ys) (split ys (drop (span ys) s)) none) (items-of xs r h)
+    ∙ ap (λ b. cond b (split xs (drop (span xs) s)) none) named
+    ∙ ap (split xs) (after-items xs rest)
 
 -- the form found says what the line is
 
-abbrev Reads : List ℕ → Form → Type 0
+abbrev Reads : List ℕ → LineForm → Type 0
 Reads l (declares w xs) = DeclaringLine l w xs
 Reads l (rules hs bs ns) = RuleLine l hs bs ns
 Reads l broken = Unit {0}
 
-reads-closed : (l rest ending : List ℕ) (f : Form) → (rest ≡ ending → Reads l f) → Reads l (closed rest ending f)
+reads-closed : (l rest ending : List ℕ) (f : LineForm) → (rest ≡ ending → Reads l f) → Reads l (closed rest ending f)
 reads-closed l rest ending f h = on-cond (Reads l) (sameBytes rest ending) f broken (λ t. h (same-equal rest ending t)) (λ n. tt)
 
-reads-cut : (l tag s : List ℕ) (f : List (List ℕ) → List ℕ → Form)
+reads-cut : (l tag s : List ℕ) (f : List (List ℕ) → List ℕ → LineForm)
     → ((xs : List (List ℕ)) (rest : List ℕ) → s ≡ tag ++ (spaced xs ++ rest) → All IsName xs → Reads l (f xs rest))
-    → Reads l (onCut (cutList tag s) f)
-reads-cut l tag s f h = go (cutList tag s) (cut-list tag s)
+    → Reads l (onSplit (splitList tag s) f)
+reads-cut l tag s f h = go (splitList tag s) (cut-list tag s)
   where
-    go : (c : Cut) → CutOf tag s c → Reads l (onCut c f)
-    go (cut xs rest) k = h xs rest (k .0) (k .1)
+    go : (c : Split) → CutOf tag s c → Reads l (onSplit c f)
+    go (split xs rest) k = h xs rest (k .0) (k .1)
     go none k = tt
 
 reads-declared : (w : Word) (l : List ℕ) → Reads l (declaredForm w l)
@@ -225,8 +225,8 @@ reads-declared w l =
 reads-rule : (l : List ℕ) → Reads l (ruleForm l)
 unfolding ruleForm
 reads-rule l =
-    reads-cut l headTag l (λ hs r. onCut (cutList bodyTag r) (λ bs s. onCut (cutList notTag s) (λ ns rest. closed rest ruleEnd (rules hs bs ns)))) (λ hs r e₁ h₁.
-    reads-cut l bodyTag r (λ bs s. onCut (cutList notTag s) (λ ns rest. closed rest ruleEnd (rules hs bs ns))) (λ bs s e₂ h₂.
+    reads-cut l headTag l (λ hs r. onSplit (splitList bodyTag r) (λ bs s. onSplit (splitList notTag s) (λ ns rest. closed rest ruleEnd (rules hs bs ns)))) (λ hs r e₁ h₁.
+    reads-cut l bodyTag r (λ bs s. onSplit (splitList notTag s) (λ ns rest. closed rest ruleEnd (rules hs bs ns))) (λ bs s e₂ h₂.
     reads-cut l notTag s (λ ns rest. closed rest ruleEnd (rules hs bs ns)) (λ ns rest e₃ h₃.
     reads-closed l rest ruleEnd (rules hs bs ns) (λ k.
     (e₁ ∙ ap (λ t. headTag ++ (spaced hs ++ t)) (e₂ ∙ ap (λ t. bodyTag ++ (spaced bs ++ t)) (e₃ ∙ ap (λ t. notTag ++ (spaced ns ++ t)) k)), h₁, h₂, h₃)))))
@@ -235,7 +235,7 @@ reads-line : (l : List ℕ) → Reads l (formOf l)
 unfolding formOf
 reads-line l = choice atoms _ (choice min _ (choice vary _ (choice fix (ruleForm l) (reads-rule l))))
   where
-    choice : (w : Word) (g : Form) → Reads l g → Reads l (cond (begins (tagOf w) l) (declaredForm w l) g)
+    choice : (w : Word) (g : LineForm) → Reads l g → Reads l (cond (begins (tagOf w) l) (declaredForm w l) g)
     choice w g h = on-cond (Reads l) (begins (tagOf w) l) (declaredForm w l) g (λ t. reads-declared w l) (λ n. h)
 
 -- and a line of a form is found to have it
@@ -243,8 +243,8 @@ reads-line l = choice atoms _ (choice min _ (choice vary _ (choice fix (ruleForm
 declared-form : (w : Word) (xs : List (List ℕ)) → All IsName xs → declaredForm w (tagOf w ++ (spaced xs ++ listEnd)) ≡ declares w xs
 unfolding declaredForm sameBytes
 declared-form w xs h =
-    let f : List (List ℕ) → List ℕ → Form = λ ys rest. closed rest listEnd (declares w ys) in
-    ap (λ c. onCut c f) (cut-of (tagOf w) xs (line-end ∷ []) h)
+    let f : List (List ℕ) → List ℕ → LineForm = λ ys rest. closed rest listEnd (declares w ys) in
+    ap (λ c. onSplit c f) (cut-of (tagOf w) xs (line-end ∷ []) h)
 
 list-form : (w : Word) (xs : List (List ℕ)) → All IsName xs → formOf (tagOf w ++ (spaced xs ++ listEnd)) ≡ declares w xs
 unfolding formOf sameBytes
@@ -257,18 +257,18 @@ rule-form : (hs bs ns : List (List ℕ)) → All IsName hs → All IsName bs →
     → formOf (headTag ++ (spaced hs ++ (bodyTag ++ (spaced bs ++ (notTag ++ (spaced ns ++ ruleEnd)))))) ≡ rules hs bs ns
 unfolding formOf ruleForm sameBytes
 rule-form hs bs ns h₁ h₂ h₃ =
-    let f₃ : List (List ℕ) → List (List ℕ) → List (List ℕ) → List ℕ → Form = λ xs ys zs rest. closed rest ruleEnd (rules xs ys zs) in
-    let f₂ : List (List ℕ) → List (List ℕ) → List ℕ → Form = λ xs ys s. onCut (cutList notTag s) (f₃ xs ys) in
-    let f₁ : List (List ℕ) → List ℕ → Form = λ xs r. onCut (cutList bodyTag r) (f₂ xs) in
+    let f₃ : List (List ℕ) → List (List ℕ) → List (List ℕ) → List ℕ → LineForm = λ xs ys zs rest. closed rest ruleEnd (rules xs ys zs) in
+    let f₂ : List (List ℕ) → List (List ℕ) → List ℕ → LineForm = λ xs ys s. onSplit (splitList notTag s) (f₃ xs ys) in
+    let f₁ : List (List ℕ) → List ℕ → LineForm = λ xs r. onSplit (splitList bodyTag r) (f₂ xs) in
     let third = space ∷ open-bracket ∷ (notWord ++ (spaced ns ++ ruleEnd)) in
     let second = space ∷ open-bracket ∷ (bodyWord ++ (spaced bs ++ (close-bracket ∷ third))) in
-    ap (λ c. onCut c f₁) (cut-of headTag hs second h₁)
-    ∙ ap (λ c. onCut c (f₂ hs)) (cut-of bodyTag bs third h₂)
-    ∙ ap (λ c. onCut c (f₃ hs bs)) (cut-of notTag ns (close-bracket ∷ line-end ∷ []) h₃)
+    ap (λ c. onSplit c f₁) (cut-of headTag hs second h₁)
+    ∙ ap (λ c. onSplit c (f₂ hs)) (cut-of bodyTag bs third h₂)
+    ∙ ap (λ c. onSplit c (f₃ hs bs)) (cut-of notTag ns (close-bracket ∷ line-end ∷ []) h₃)
 
 -- the two together
 
-whole? : Form → Type 0
+whole? : LineForm → Type 0
 whole? (declares w xs) = Unit {0}
 whole? (rules hs bs ns) = Unit {0}
 whole? broken = ⊥
@@ -280,7 +280,7 @@ module _ (l : List ℕ) where
   rules-found : (hs bs ns : List (List ℕ)) → RuleLine l hs bs ns → formOf l ≡ rules hs bs ns
   rules-found hs bs ns h = ap formOf (h .0) ∙ rule-form hs bs ns (h .1) (h .2) (h .3)
 
-  pub form-iff : (f : Form) → formOf l ≡ f ↔ HasForm l f
+  pub form-iff : (f : LineForm) → formOf l ≡ f ↔ HasForm l f
   unfolding whole?
   form-iff (declares w xs) = (λ e. subst (Reads l) e (reads-line l), declares-found w xs)
   form-iff (rules hs bs ns) = (λ e. subst (Reads l) e (reads-line l), rules-found hs bs ns)
@@ -289,7 +289,7 @@ module _ (l : List ℕ) where
     λ h. back h (formOf l) refl (reads-line l),
   )
     where
-      back : HasForm l broken → (f : Form) → formOf l ≡ f → Reads l (formOf l) → formOf l ≡ broken
+      back : HasForm l broken → (f : LineForm) → formOf l ≡ f → Reads l (formOf l) → formOf l ≡ broken
       back h (declares w xs) e r = absurd (h .0 w xs (subst (Reads l) e r))
       back h (rules hs bs ns) e r = absurd (h .1 hs bs ns (subst (Reads l) e r))
       back h broken e r = e
@@ -297,7 +297,7 @@ module _ (l : List ℕ) where
   pub line-names : All IsName (namesOf (formOf l))
   line-names = go (formOf l) (reads-line l)
     where
-      go : (f : Form) → Reads l f → All IsName (namesOf f)
+      go : (f : LineForm) → Reads l f → All IsName (namesOf f)
       go (declares w xs) h = h .1
       go (rules hs bs ns) h = all-app IsName hs (bs ++ ns) (h .1) (all-app IsName bs ns (h .2) (h .3))
       go broken h = tt

@@ -9,26 +9,26 @@ use lib.ListN.{length, getD, drop}
 use lib.Seq.{append-snoc}
 use Rattle.kinds.specs.declared.limits.Kind.{Kind}
 use Rattle.kinds.specs.declared.limits.Kind.the-variants.{Plain, Preference}
-use Rattle.kinds.specs.declared.refusals.Refusal.the-variants.{Form as BrokenForm}
+use Rattle.kinds.specs.declared.refusals.Refusal.the-variants.{BrokenForm}
 use Rattle.rules.specs.Lists.{All}
 use Rattle.rules.proofs.Lists.{all-app, all-app-r}
 use Rattle.lines.specs.declared.stage.Stage.{Stage}
 use Rattle.lines.specs.declared.stage.Stage.the-variants.{Declaring, Fixing, Ruling}
-use Rattle.lines.specs.Forms.{Word, atoms, min, vary, fix, Form, declares, rules, broken, begins, tagOf, formOf}
-use Rattle.lines.specs.Faults.{State, stageAfter}
+use Rattle.lines.specs.Forms.{Word, atoms, min, vary, fix, LineForm, declares, rules, broken, begins, tagOf, formOf}
+use Rattle.lines.specs.Faults.{SoFar, stageAfter}
 use Rattle.lines.specs.Said.{start}
 use Rattle.faults.specs.Sentences.{Comes, atoms-line, min-line, vary-line, fix-line, BreaksForm, Faultless, added}
 use Rattle.faults.specs.EarliestFault.{Passed}
 use Rattle.faults.specs.LineOrder.{IsMin, IsRule, Came, OutOfOrder}
 use Rattle.faults.proofs.Tests.{comes-stable, ruling-stable}
 
-after-declaring : {kind : Kind} {stage : Stage} {w : Word} (xs : List (List ℕ)) (fs : List Form) → Comes kind stage w → Came kind stage fs → Came kind (stageAfter w) (fs ++ (declares w xs ∷ []))
+after-declaring : {kind : Kind} {stage : Stage} {w : Word} (xs : List (List ℕ)) (fs : List LineForm) → Comes kind stage w → Came kind stage fs → Came kind (stageAfter w) (fs ++ (declares w xs ∷ []))
 after-declaring xs fs atoms-line c = (xs, [], tt, ap (λ l. l ++ (declares atoms xs ∷ [])) c)
 after-declaring xs fs min-line c = all-app IsMin fs (declares min xs ∷ []) c ((xs, refl), tt)
 after-declaring xs fs vary-line c = (fs, xs, c, refl)
 after-declaring xs fs fix-line (ms, ys, h, e) = (ms, ys, xs, [], h, tt, ap (λ l. l ++ (declares fix xs ∷ [])) e ∙ append-snoc ms (declares vary ys) (declares fix xs ∷ []))
 
-after-rule : (kind : Kind) (stage : Stage) (f : Form) (fs : List Form) → IsRule f → stage ≡ Ruling → Came kind stage fs → Came kind stage (fs ++ (f ∷ []))
+after-rule : (kind : Kind) (stage : Stage) (f : LineForm) (fs : List LineForm) → IsRule f → stage ≡ Ruling → Came kind stage fs → Came kind stage (fs ++ (f ∷ []))
 after-rule kind stage f fs r e c = subst (λ s. Came kind s (fs ++ (f ∷ []))) (sym e) (go kind (subst (λ s. Came kind s fs) e c))
   where
     go : (k : Kind) → Came k Ruling fs → Came k Ruling (fs ++ (f ∷ []))
@@ -36,13 +36,13 @@ after-rule kind stage f fs r e c = subst (λ s. Came kind s (fs ++ (f ∷ []))) 
     go Preference (ms, xs, ys, rs, m, h, q) =
         (ms, xs, ys, rs ++ (f ∷ []), m, all-app IsRule rs (f ∷ []) h (r, tt), ap (λ l. l ++ (f ∷ [])) q ∙ append-assoc ms (declares vary xs ∷ declares fix ys ∷ rs) (f ∷ []))
 
-after-line : (st : State) (f : Form) (fs : List Form) → Faultless st f → Came (st .kind) (st .stage) fs → Came (added st f .kind) (added st f .stage) (fs ++ (f ∷ []))
+after-line : (st : SoFar) (f : LineForm) (fs : List LineForm) → Faultless st f → Came (st .kind) (st .stage) fs → Came (added st f .kind) (added st f .stage) (fs ++ (f ∷ []))
 after-line st (declares w xs) fs none c = after-declaring xs fs (comes-stable (st .kind) (st .stage) w (none BrokenForm)) c
 after-line st (rules hs bs ns) fs none c = after-rule (st .kind) (st .stage) (rules hs bs ns) fs (hs, bs, ns, refl) (ruling-stable (st .stage) (none BrokenForm)) c
 after-line st broken fs none c = absurd (none BrokenForm tt)
 
 -- which form may come at a stage
-abbrev Fits : Kind → Stage → Form → Type 0
+abbrev Fits : Kind → Stage → LineForm → Type 0
 Fits kind stage (declares w xs) = Comes kind stage w
 Fits kind stage (rules hs bs ns) = stage ≡ Ruling
 Fits kind stage broken = ⊥
@@ -84,14 +84,14 @@ vary-not-min : {xs : List (List ℕ)} → IsMin (declares vary xs) → ⊥
 vary-not-min (ys, e) = absurd (let z : _≡_ {A = ℕ} 0 1 = cc in omega arith)
 
 -- what stands after the `vary` line
-after-vary : (ms ns : List Form) (xs ys : List (List ℕ)) (r s : List Form) → All IsMin ms → All IsMin ns → ms ++ (declares vary xs ∷ r) ≡ ns ++ (declares vary ys ∷ s) → r ≡ s
+after-vary : (ms ns : List LineForm) (xs ys : List (List ℕ)) (r s : List LineForm) → All IsMin ms → All IsMin ns → ms ++ (declares vary xs ∷ r) ≡ ns ++ (declares vary ys ∷ s) → r ≡ s
 after-vary ms ns xs ys r s h k e = first-without IsMin ms ns (declares vary xs) (declares vary ys) r s h k vary-not-min vary-not-min e
 
-rule-fits : (kind : Kind) (f : Form) → IsRule f → Fits kind Ruling f
+rule-fits : (kind : Kind) (f : LineForm) → IsRule f → Fits kind Ruling f
 rule-fits kind f (hs, bs, ns, e) = subst (Fits kind Ruling) (sym e) refl
 
 -- a line after which the lines are still in order fits
-next-fits : (kind : Kind) (stage then : Stage) (f : Form) (fs : List Form) → Came kind stage fs → Came kind then (fs ++ (f ∷ [])) → Fits kind stage f
+next-fits : (kind : Kind) (stage then : Stage) (f : LineForm) (fs : List LineForm) → Came kind stage fs → Came kind then (fs ++ (f ∷ [])) → Fits kind stage f
 next-fits Plain Declaring Declaring f fs c n = absurd (no-append fs f [] n)
 next-fits Plain Declaring Fixing f fs c n = absurd n
 next-fits Plain Declaring Ruling f fs c (xs, rs, h, q) = subst (Fits Plain Declaring) (sym (cons-same (sym (ap (λ l. l ++ (f ∷ [])) c) ∙ q) .0)) atoms-line
@@ -126,7 +126,7 @@ next-fits Preference Ruling then f fs (ms, xs, ys, rs, h, r, e) n = go then n
         rule-fits Preference f (all-app-r IsRule rs (f ∷ []) (subst (All IsRule) (sym tail) t) .0)
 
 -- a line breaks the form or the order exactly when the lines with it are no beginning of a file
-order-of : (st : State) (f : Form) (fs : List Form) → Came (st .kind) (st .stage) fs → BreaksForm st f ↔ OutOfOrder (st .kind) (fs ++ (f ∷ []))
+order-of : (st : SoFar) (f : LineForm) (fs : List LineForm) → Came (st .kind) (st .stage) fs → BreaksForm st f ↔ OutOfOrder (st .kind) (fs ++ (f ∷ []))
 order-of st (declares w xs) fs c = (λ b s n. b (next-fits (st .kind) (st .stage) s (declares w xs) fs c n), λ o k. o (stageAfter w) (after-declaring xs fs k c))
 order-of st (rules hs bs ns) fs c = (
   λ b s n. b (next-fits (st .kind) (st .stage) s (rules hs bs ns) fs c n),
@@ -134,8 +134,8 @@ order-of st (rules hs bs ns) fs c = (
 )
 order-of st broken fs c = (λ b s n. next-fits (st .kind) (st .stage) s broken fs c n, λ o. tt)
 
-after-lines : (st : State) (ls : List (List ℕ)) (after : State) (fs : List Form) → Passed st ls after → Came (st .kind) (st .stage) fs → Came (after .kind) (after .stage) (fs ++ map formOf ls)
-after-lines st [] after fs p c = subst (λ (s : State). Came (s .kind) (s .stage) (fs ++ [])) p (subst (Came (st .kind) (st .stage)) (sym (append-nil fs)) c)
+after-lines : (st : SoFar) (ls : List (List ℕ)) (after : SoFar) (fs : List LineForm) → Passed st ls after → Came (st .kind) (st .stage) fs → Came (after .kind) (after .stage) (fs ++ map formOf ls)
+after-lines st [] after fs p c = subst (λ (s : SoFar). Came (s .kind) (s .stage) (fs ++ [])) p (subst (Came (st .kind) (st .stage)) (sym (append-nil fs)) c)
 after-lines st (l ∷ ls) after fs p c =
     subst (Came (after .kind) (after .stage)) (append-snoc fs (formOf l) (map formOf ls))
     (after-lines (added st (formOf l)) ls after (fs ++ (formOf l ∷ [])) (p .1) (after-line st (formOf l) fs (p .0) c))
@@ -148,8 +148,8 @@ started text = go (begins (tagOf atoms) text)
     go true = refl
     go false = tt
 
-pub came : (text : List ℕ) (ls : List (List ℕ)) (st : State) → Passed (start text) ls st → Came (st .kind) (st .stage) (map formOf ls)
+pub came : (text : List ℕ) (ls : List (List ℕ)) (st : SoFar) → Passed (start text) ls st → Came (st .kind) (st .stage) (map formOf ls)
 came text ls st p = after-lines (start text) ls st [] p (started text)
 
-pub order-iff : (text : List ℕ) (ls : List (List ℕ)) (st : State) → Passed (start text) ls st → (l : List ℕ) → BreaksForm st (formOf l) ↔ OutOfOrder (st .kind) (map formOf ls ++ (formOf l ∷ []))
+pub order-iff : (text : List ℕ) (ls : List (List ℕ)) (st : SoFar) → Passed (start text) ls st → (l : List ℕ) → BreaksForm st (formOf l) ↔ OutOfOrder (st .kind) (map formOf ls ++ (formOf l ∷ []))
 order-iff text ls st p l = order-of st (formOf l) (map formOf ls) (came text ls st p)

@@ -8,14 +8,15 @@ use mathlib.Core.Bool.{Bool, true, false, not, _&&_}
 use mathlib.Core.List.{List, [], _∷_, _++_}
 use lib.Dec.{T, leb}
 use lib.ListN.{getD}
+use Rattle.name_store.specs.NameStore.{among}
 use Rattle.kinds.specs.Limits.{classLimit, within}
-use Rattle.kinds.specs.Refusals.{numberOf}
+use Rattle.kinds.specs.Refusals.{refusalNumber}
 use Rattle.kinds.specs.declared.refusals.Refusal.{Refusal}
-use Rattle.kinds.specs.declared.refusals.Refusal.the-variants.{TextTooLong, Form as BrokenForm, Name, DeclaredTwice, Undeclared, TwiceInList, Limit, FilledNot, Output, RuleStore, TooManyAtoms, SetNumber, Budget, NameStore}
+use Rattle.kinds.specs.declared.refusals.Refusal.the-variants.{TextTooLong, BrokenForm, Name, DeclaredTwice, Undeclared, TwiceInList, Limit, FilledNot, Output, RuleStore, TooManyAtoms, SetNumber, Budget, NameStore}
 use Rattle.rules.specs.Lists.{All, Any, some}
 use Rattle.rules.proofs.Lists.{all-app-l, all-app-r, some-any}
-use Rattle.lines.specs.Forms.{Word, Form, declares, rules, broken, formOf}
-use Rattle.lines.specs.Faults.{State, Step, next, fault, first, countsOf, expects, ruling?, classesAfter, twice, refusedName, undeclared, anyOf, declared, numbered, with-rule, filled, declare, addRule, stepForm}
+use Rattle.lines.specs.Forms.{Word, LineForm, declares, rules, broken, formOf}
+use Rattle.lines.specs.Faults.{SoFar, Step, next, fault, first, countsOf, expects, ruling?, classesAfter, twice, refusedName, anyOf, declared, numbered, with-rule, filled, declare, addRule, stepForm}
 use Rattle.lines.specs.Said.{start}
 use Rattle.faults.specs.LineForms.{IsName}
 use Rattle.faults.specs.Sentences.{namesOf, Among, NotAllowed, Says, Lowest, Faultless, added, Sound, classes-pass}
@@ -29,7 +30,7 @@ use Rattle.faults.proofs.LineForms.{line-names}
 abbrev by-number : List Refusal
 by-number = TextTooLong ∷ TextTooLong ∷ BrokenForm ∷ Name ∷ DeclaredTwice ∷ Undeclared ∷ TwiceInList ∷ Limit ∷ FilledNot ∷ Output ∷ RuleStore ∷ TooManyAtoms ∷ SetNumber ∷ Budget ∷ NameStore ∷ []
 
-of-number : (r : Refusal) → getD by-number (numberOf r) TextTooLong ≡ r
+of-number : (r : Refusal) → getD by-number (refusalNumber r) TextTooLong ≡ r
 of-number TextTooLong = refl
 of-number BrokenForm = refl
 of-number Name = refl
@@ -45,17 +46,17 @@ of-number SetNumber = refl
 of-number Budget = refl
 of-number NameStore = refl
 
-one-number : (q r : Refusal) → numberOf q ≡ numberOf r → q ≡ r
+one-number : (q r : Refusal) → refusalNumber q ≡ refusalNumber r → q ≡ r
 one-number q r e = sym (of-number q) ∙ ap (λ n. getD by-number n TextTooLong) e ∙ of-number r
 
 -- what a line's step answers: its lowest fault, or the state after it where it has none
-module _ (st : State) (f : Form) where
+module _ (st : SoFar) (f : LineForm) where
   abbrev pub Answers : Step → Type 0
   Answers s = ((r : Refusal) × (s ≡ fault r) × Lowest st f r) ⊎ ((s ≡ next (added st f)) × Faultless st f)
 
   -- no sentence of a number below n holds
   abbrev NoneBelow : ℕ → Type 0
-  NoneBelow n = (q : Refusal) → numberOf q < n → Says q st f → ⊥
+  NoneBelow n = (q : Refusal) → refusalNumber q < n → Says q st f → ⊥
 
   none-at-all : NoneBelow 2
   none-at-all TextTooLong l h = h
@@ -73,10 +74,10 @@ module _ (st : State) (f : Form) where
   none-at-all Budget l h = h
   none-at-all NameStore l h = h
 
-  none-up : (r : Refusal) → NoneBelow (numberOf r) → (Says r st f → ⊥) → NoneBelow (suc (numberOf r))
-  none-up r below n q l h = step (decLt (numberOf q) (numberOf r))
+  none-up : (r : Refusal) → NoneBelow (refusalNumber r) → (Says r st f → ⊥) → NoneBelow (suc (refusalNumber r))
+  none-up r below n q l h = step (decLt (refusalNumber q) (refusalNumber r))
     where
-      step : Dec (numberOf q < numberOf r) → ⊥
+      step : Dec (refusalNumber q < refusalNumber r) → ⊥
       step (yes k) = below q k h
       step (no k) = n (subst (λ p. Says p st f) (one-number q r (omega arith)) h)
 
@@ -98,14 +99,14 @@ module _ (st : State) (f : Form) where
   none-left below NameStore h = h
 
   -- a test before the others
-  tested : (b : Bool) (r : Refusal) (s : Step) → T b ↔ Says r st f → NoneBelow (numberOf r) → (NoneBelow (suc (numberOf r)) → Answers s) → Answers (first b r s)
+  tested : (b : Bool) (r : Refusal) (s : Step) → T b ↔ Says r st f → NoneBelow (refusalNumber r) → (NoneBelow (suc (refusalNumber r)) → Answers s) → Answers (first b r s)
   tested true r s law below rest = inl (r, refl, record { says = law .0 tt; none-lower = λ q l. below q (omega arith) })
   tested false r s law below rest = rest (none-up r below (law .1))
 
   passes : NoneBelow 9 → Answers (next (added st f))
   passes below = inr (refl, none-left below)
 
-module _ (st : State) (sound : Sound st) where
+module _ (st : SoFar) (sound : Sound st) where
   declare-answers : (w : Word) (xs : List (List ℕ)) → All IsName xs → Answers st (declares w xs) (declare st w xs)
   unfolding declare
   declare-answers w xs named =
@@ -115,7 +116,7 @@ module _ (st : State) (sound : Sound st) where
       (λ b4. tested st f (not (within (st .kind) (countsOf (declared st w xs)) && leb (classesAfter w (st .classes)) classLimit)) Limit _ (declared-limit st w xs) (none-up st f TwiceInList (none-up st f Undeclared b4 (λ h. h)) (λ h. h))
       (λ b7. passes st f (none-up st f FilledNot b7 (λ h. h))))))
     where
-      f : Form
+      f : LineForm
       f = declares w xs
 
   rule-answers : (hs bs ns : List (List ℕ)) → All IsName (hs ++ (bs ++ ns)) → Answers st (rules hs bs ns) (addRule st hs bs ns)
@@ -123,20 +124,20 @@ module _ (st : State) (sound : Sound st) where
   rule-answers hs bs ns named =
       tested st f (not (ruling? (st .stage))) BrokenForm _ (not-law (ruling? (st .stage)) (ruling-law (st .stage))) (none-at-all st f)
       (λ b2. tested st f (anyOf (some (refusedName (st .kind))) hs bs ns) Name _ (any-law (NotAllowed (st .kind)) (refusedName (st .kind)) hs bs ns (names-law (st .kind) hs in-heads) (names-law (st .kind) bs in-bodies) (names-law (st .kind) ns in-nots)) b2
-      (λ b3. tested st f (anyOf (some (undeclared (st .names))) hs bs ns) Undeclared _ (any-law None (undeclared (st .names)) hs bs ns (none-declared hs) (none-declared bs) (none-declared ns)) (none-up st f DeclaredTwice b3 (λ h. h))
+      (λ b3. tested st f (anyOf (some (λ x. not (among (st .names) x))) hs bs ns) Undeclared _ (any-law None (λ x. not (among (st .names) x)) hs bs ns (none-declared hs) (none-declared bs) (none-declared ns)) (none-up st f DeclaredTwice b3 (λ h. h))
       (λ b5. tested st f (anyOf (twice []) hs bs ns) TwiceInList _ (lists-law hs bs ns) b5
       (λ b6. tested st f (not (within (st .kind) (countsOf (with-rule st (numbered (st .names) hs bs ns))))) Limit _ (rule-limit st hs bs ns (sound .classes-fit)) b6
       (λ b7. tested st f (filled (st .kind) ns) FilledNot _ (filled-law (st .kind) ns) b7
       (λ b8. passes st f b8))))))
     where
-      f : Form
+      f : LineForm
       f = rules hs bs ns
 
       None : List ℕ → Type 0
       None x = Among (st .names) x → ⊥
 
-      none-declared : (xs : List (List ℕ)) → T (some (undeclared (st .names)) xs) ↔ Any None xs
-      none-declared xs = some-any (undeclared (st .names)) None (undeclared-law (st .names)) xs
+      none-declared : (xs : List (List ℕ)) → T (some (λ x. not (among (st .names) x)) xs) ↔ Any None xs
+      none-declared xs = some-any (λ x. not (among (st .names) x)) None (undeclared-law (st .names)) xs
 
       in-heads : All IsName hs
       in-heads = all-app-l IsName hs (bs ++ ns) named
@@ -147,7 +148,7 @@ module _ (st : State) (sound : Sound st) where
       in-nots : All IsName ns
       in-nots = all-app-r IsName bs ns (all-app-r IsName hs (bs ++ ns) named)
 
-  form-answers : (f : Form) → All IsName (namesOf f) → Answers st f (stepForm st f)
+  form-answers : (f : LineForm) → All IsName (namesOf f) → Answers st f (stepForm st f)
   form-answers (declares w xs) named = declare-answers w xs named
   form-answers (rules hs bs ns) named = rule-answers hs bs ns named
   form-answers broken named = inl (BrokenForm, refl, record { says = tt; none-lower = λ q l. none-at-all st broken q (omega arith) })
@@ -157,10 +158,10 @@ module _ (st : State) (sound : Sound st) where
 
 -- one lowest fault
 
-one-lowest : (st : State) (f : Form) (q r : Refusal) → Lowest st f q → Lowest st f r → q ≡ r
-one-lowest st f q r a b = step (decLt (numberOf q) (numberOf r)) (decLt (numberOf r) (numberOf q))
+one-lowest : (st : SoFar) (f : LineForm) (q r : Refusal) → Lowest st f q → Lowest st f r → q ≡ r
+one-lowest st f q r a b = step (decLt (refusalNumber q) (refusalNumber r)) (decLt (refusalNumber r) (refusalNumber q))
   where
-    step : Dec (numberOf q < numberOf r) → Dec (numberOf r < numberOf q) → q ≡ r
+    step : Dec (refusalNumber q < refusalNumber r) → Dec (refusalNumber r < refusalNumber q) → q ≡ r
     step (yes k) m = absurd (b .none-lower q (omega arith) (a .says))
     step (no k) (yes m) = absurd (a .none-lower r (omega arith) (b .says))
     step (no k) (no m) = one-number q r (omega arith)
@@ -169,7 +170,7 @@ fault-of : Step → Refusal
 fault-of (next st) = Output
 fault-of (fault r) = r
 
-state-of : State → Step → State
+state-of : SoFar → Step → SoFar
 state-of d (next st) = st
 state-of d (fault r) = d
 
@@ -177,8 +178,8 @@ next? : Step → Type 0
 next? (next st) = Unit {0}
 next? (fault r) = ⊥
 
-module _ (st : State) (sound : Sound st) (l : List ℕ) where
-  abbrev form : Form
+module _ (st : SoFar) (sound : Sound st) (l : List ℕ) where
+  abbrev form : LineForm
   form = formOf l
 
   abbrev step : Step
@@ -197,7 +198,7 @@ module _ (st : State) (sound : Sound st) (l : List ℕ) where
       back h (inr a) = absurd (a .1 r (h .says))
 
   -- a line passes exactly when it has no fault; what the lines say then has it added
-  pub next-iff : (after : State) → step ≡ next after ↔ (Faultless st form × (after ≡ added st form))
+  pub next-iff : (after : SoFar) → step ≡ next after ↔ (Faultless st form × (after ≡ added st form))
   unfolding state-of next?
   next-iff after = (λ e. there e (line-answers st sound l), λ h. back h (line-answers st sound l))
     where
@@ -215,7 +216,7 @@ pub start-sound : (text : List ℕ) → Sound (start text)
 unfolding start
 start-sound text = record { different = λ h. h; classes-fit = omega arith }
 
-pub added-sound : (st : State) → Sound st → (f : Form) → Faultless st f → Sound (added st f)
+pub added-sound : (st : SoFar) → Sound st → (f : LineForm) → Faultless st f → Sound (added st f)
 added-sound st sound (declares w xs) none = record { different = none DeclaredTwice; classes-fit = fit (decLt classLimit (classesAfter w (st .classes))) }
   where
     fit : Dec (classLimit < classesAfter w (st .classes)) → classesAfter w (st .classes) ≤ classLimit

@@ -15,7 +15,7 @@ use Rattle.rules.proofs.Booleans.{eq→eqb, is-true, is-false}
 use Rattle.rules.proofs.Lists.{every-all}
 use Rattle.names.specs.declared.forms.NameClass.{NameClass}
 use Rattle.names.specs.declared.forms.NameClass.the-variants.{House, Generated, TooLong, Wrong}
-use Rattle.names.specs.Names.{letter?, digit?, nameByte?, house?, classNumber?, sized, dotted, generated, nameClass}
+use Rattle.names.specs.Names.{letter?, digit?, nameByte?, house?, classNumber?, byLength, dotted, generated, nameClass}
 use Rattle.faults.specs.NameForms.{NameByte, HouseBytes, HouseName, Marked, ClassNumber, GeneratedName, TooLongName}
 use Rattle.faults.proofs.Connectives.{or-law, and-law, on-cond}
 
@@ -101,7 +101,7 @@ Classed x Generated = GeneratedName x
 Classed x TooLong = TooLongName x
 Classed x Wrong = Unit {0}
 
-on-size : (P : NameClass → Type 0) (y : List ℕ) (c : NameClass) → (length y ≤ nameLimit → P c) → (nameLimit < length y → P TooLong) → P (sized y c)
+on-size : (P : NameClass → Type 0) (y : List ℕ) (c : NameClass) → (length y ≤ nameLimit → P c) → (nameLimit < length y → P TooLong) → P (byLength y c)
 on-size P y c h k = on-cond P (leb (length y) nameLimit) c TooLong (λ t. h (leb→le (length y) nameLimit t)) (λ f. k (past f (decLt nameLimit (length y))))
   where
     past : (T (leb (length y) nameLimit) → ⊥) → Dec (nameLimit < length y) → nameLimit < length y
@@ -115,7 +115,7 @@ marked x y c e (inr (inr m)) = inr (inr (e ∙ ap (λ b. b ∷ 46 ∷ y) m))
 
 dotted-classed : (x y : List ℕ) (c : ℕ) → x ≡ c ∷ 46 ∷ y → Classed x (dotted c y)
 dotted-classed x y c e =
-    on-cond (Classed x) ((eqb c 78 || (eqb c 83 || eqb c 68)) && house? y) (sized y Generated) (cond (eqb c 69 && classNumber? y) Generated Wrong)
+    on-cond (Classed x) ((eqb c 78 || (eqb c 83 || eqb c 68)) && house? y) (byLength y Generated) (cond (eqb c 69 && classNumber? y) Generated Wrong)
     (λ t. let h = copy .0 t in on-size (Classed x) y Generated (λ l. inl (y, marked x y c e (h .0), (h .1, l))) (λ l. inr (y, marked x y c e (h .0), (h .1, l))))
     (λ f. on-cond (Classed x) (eqb c 69 && classNumber? y) Generated Wrong (λ t. let h = class .0 t in inr (inl (y, e ∙ ap (λ b. b ∷ 46 ∷ y) (h .0), h .1))) (λ g. tt))
   where
@@ -142,36 +142,36 @@ generated-classed x =
 class-says : (x : List ℕ) → Classed x (nameClass x)
 unfolding nameClass
 class-says x =
-    on-cond (Classed x) (house? x) (sized x House) (generated x)
+    on-cond (Classed x) (house? x) (byLength x House) (generated x)
     (λ t. let h = house-law x .0 t in on-size (Classed x) x House (λ l. (h, l)) (λ l. inl (h, l)))
     (λ f. generated-classed x)
 
 -- and back
 
-sized-short : (y : List ℕ) (c : NameClass) → length y ≤ nameLimit → sized y c ≡ c
+sized-short : (y : List ℕ) (c : NameClass) → length y ≤ nameLimit → byLength y c ≡ c
 sized-short y c l = ap (λ b. cond b c TooLong) (is-true (leb (length y) nameLimit) (le→leb (length y) nameLimit l))
 
-sized-long : (y : List ℕ) (c : NameClass) → nameLimit < length y → sized y c ≡ TooLong
+sized-long : (y : List ℕ) (c : NameClass) → nameLimit < length y → byLength y c ≡ TooLong
 sized-long y c l = ap (λ b. cond b c TooLong) (is-false (leb (length y) nameLimit) (λ t. omega (arith, leb→le (length y) nameLimit t)))
 
-house-class : (x : List ℕ) → HouseBytes x → nameClass x ≡ sized x House
+house-class : (x : List ℕ) → HouseBytes x → nameClass x ≡ byLength x House
 unfolding nameClass
-house-class x h = ap (λ b. cond b (sized x House) (generated x)) (is-true (house? x) (house-law x .1 h))
+house-class x h = ap (λ b. cond b (byLength x House) (generated x)) (is-true (house? x) (house-law x .1 h))
 
 dotted-class : (c : ℕ) (y : List ℕ) → letter? c ≡ false → nameClass (c ∷ 46 ∷ y) ≡ dotted c y
 unfolding nameClass house?
 dotted-class c y n =
-    ap (λ b. cond (b && every nameByte? (46 ∷ y)) (sized (c ∷ 46 ∷ y) House) (generated (c ∷ 46 ∷ y))) n
+    ap (λ b. cond (b && every nameByte? (46 ∷ y)) (byLength (c ∷ 46 ∷ y) House) (generated (c ∷ 46 ∷ y))) n
     ∙ ap (λ b. cond (b && eqb c 85) Generated (cond (leb 2 (suc (suc (length y))) && true) (dotted c y) Wrong)) (ne-eqb (suc (suc (length y))) 1 (λ e. omega arith))
     ∙ ap (λ b. cond (b && true) (dotted c y) Wrong) (le-leb 2 (suc (suc (length y))) (omega arith))
 
-marked-class : (x y : List ℕ) → Marked x y → HouseBytes y → nameClass x ≡ sized y Generated
+marked-class : (x y : List ℕ) → Marked x y → HouseBytes y → nameClass x ≡ byLength y Generated
 marked-class x y m h = go m
   where
-    is-house : cond (house? y) (sized y Generated) Wrong ≡ sized y Generated
-    is-house = ap (λ b. cond b (sized y Generated) Wrong) (is-true (house? y) (house-law y .1 h))
+    is-house : cond (house? y) (byLength y Generated) Wrong ≡ byLength y Generated
+    is-house = ap (λ b. cond b (byLength y Generated) Wrong) (is-true (house? y) (house-law y .1 h))
 
-    go : Marked x y → nameClass x ≡ sized y Generated
+    go : Marked x y → nameClass x ≡ byLength y Generated
     go (inl e) = ap nameClass e ∙ dotted-class 78 y refl ∙ is-house
     go (inr (inl e)) = ap nameClass e ∙ dotted-class 83 y refl ∙ is-house
     go (inr (inr e)) = ap nameClass e ∙ dotted-class 68 y refl ∙ is-house

@@ -15,12 +15,12 @@ use Rattle.rules.proofs.Lists.{all-any, any-imp, any-with, any-app, app-any, so
 use Rattle.names.specs.declared.forms.NameClass.{NameClass}
 use Rattle.names.specs.declared.forms.NameClass.the-variants.{House, Generated, TooLong, Wrong}
 use Rattle.names.specs.Names.{nameClass, takes, allowed}
-use Rattle.name_store.specs.NameStore.{sameBytes}
+use Rattle.name_store.specs.NameStore.{sameBytes, among}
 use Rattle.name_store.proofs.NameStores.{same-law}
 use Rattle.lines.specs.declared.stage.Stage.{Stage}
 use Rattle.lines.specs.declared.stage.Stage.the-variants.{Declaring, Fixing, Ruling}
 use Rattle.lines.specs.Forms.{Word, atoms, min, vary, fix}
-use Rattle.lines.specs.Faults.{expects, ruling?, twice, refusedName, undeclared, anyOf, filled}
+use Rattle.lines.specs.Faults.{expects, ruling?, twice, refusedName, anyOf, filled}
 use Rattle.faults.proofs.Connectives.{not-law, or-law}
 use Rattle.faults.proofs.NameClasses.{long-iff, generated-iff}
 use Rattle.faults.proofs.LineForms.{not-wrong}
@@ -222,8 +222,8 @@ lists-law hs bs ns = or-law (twice [] hs) (twice [] bs || twice [] ns) (one hs) 
 
 -- 5
 
-pub undeclared-law : (names : List (List ℕ)) (x : List ℕ) → T (undeclared names x) ↔ (Among names x → ⊥)
-undeclared-law names x = not-law (some (sameBytes x) names) (among-law names x)
+pub undeclared-law : (names : List (List ℕ)) (x : List ℕ) → T (not (among names x)) ↔ (Among names x → ⊥)
+undeclared-law names x = not-law (among names x) (among-law names x)
 
 -- 8
 

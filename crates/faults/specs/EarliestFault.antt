@@ -6,17 +6,17 @@ use mathlib.Core.List.{List, [], _∷_, _++_}
 use lib.ListN.{length}
 use Rattle.kinds.specs.Limits.{textLimit}
 use Rattle.kinds.specs.declared.refusals.Refusal.{Refusal}
-use Rattle.kinds.specs.declared.refusals.Refusal.the-variants.{TextTooLong, Form as BrokenForm}
+use Rattle.kinds.specs.declared.refusals.Refusal.the-variants.{TextTooLong, BrokenForm}
 use Rattle.stores.specs.Program.{Program}
 use Rattle.lines.specs.declared.stage.Stage.the-variants.{Ruling}
 use Rattle.lines.specs.Lines.{lines}
 use Rattle.lines.specs.Forms.{formOf}
-use Rattle.lines.specs.Faults.{State}
+use Rattle.lines.specs.Faults.{SoFar}
 use Rattle.lines.specs.Said.{start, programOf}
 use Rattle.faults.specs.Sentences.{Lowest, Faultless, added}
 
 -- none of the lines has a fault, and they lead from one state to the other
-abbrev pub Passed : State → List (List ℕ) → State → Type 0
+abbrev pub Passed : SoFar → List (List ℕ) → SoFar → Type 0
 Passed st [] after = st ≡ after
 Passed st (l ∷ ls) after = Faultless st (formOf l) × Passed (added st (formOf l)) ls after
 
@@ -25,7 +25,7 @@ pub record FaultyLine (text : List ℕ) (r : Refusal) (k : ℕ) : Type 0 where
   pub before : List (List ℕ)
   pub line : List ℕ
   pub rest : List (List ℕ)
-  pub state : State
+  pub state : SoFar
   pub are-lines : lines text ≡ before ++ (line ∷ rest)
   pub passed : Passed (start text) before state
   pub lowest : Lowest state (formOf line) r
@@ -33,7 +33,7 @@ pub record FaultyLine (text : List ℕ) (r : Refusal) (k : ℕ) : Type 0 where
 
 -- no line has a fault, and a needed line is absent
 pub record MissingLine (text : List ℕ) (r : Refusal) (k : ℕ) : Type 0 where
-  pub state : State
+  pub state : SoFar
   pub passed : Passed (start text) (lines text) state
   pub incomplete : state .stage ≢ Ruling
   pub refusal : r ≡ BrokenForm
@@ -44,7 +44,7 @@ RefusedAt text r k = FaultyLine text r k ⊎ MissingLine text r k
 
 -- no line has a fault, none is missing, and they say this program with these names
 pub record AcceptedAs (text : List ℕ) (p : Program) (names : List (List ℕ)) : Type 0 where
-  pub state : State
+  pub state : SoFar
   pub passed : Passed (start text) (lines text) state
   pub complete : state .stage ≡ Ruling
   pub program : p ≡ programOf state

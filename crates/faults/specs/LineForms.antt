@@ -5,7 +5,7 @@ use mathlib.Core.Logic.{_⊎_}
 use mathlib.Core.List.{List, _∷_, _++_}
 use Rattle.kinds.specs.Words.{space}
 use Rattle.rules.specs.Lists.{All, flat}
-use Rattle.lines.specs.Forms.{Word, Form, declares, rules, broken, tagOf, headTag, bodyTag, notTag, listEnd, ruleEnd}
+use Rattle.lines.specs.Forms.{Word, LineForm, declares, rules, broken, tagOf, headTag, bodyTag, notTag, listEnd, ruleEnd}
 use Rattle.faults.specs.NameForms.{HouseName, GeneratedName, TooLongName}
 
 -- a name, allowed in its file or not
@@ -26,7 +26,7 @@ RuleLine l hs bs ns =
     (l ≡ headTag ++ (spaced hs ++ (bodyTag ++ (spaced bs ++ (notTag ++ (spaced ns ++ ruleEnd)))))) × All IsName hs × All IsName bs × All IsName ns
 
 -- a line's form; broken where it has none of the others
-abbrev pub HasForm : List ℕ → Form → Type 0
+abbrev pub HasForm : List ℕ → LineForm → Type 0
 HasForm l (declares w xs) = DeclaringLine l w xs
 HasForm l (rules hs bs ns) = RuleLine l hs bs ns
 HasForm l broken = ((w : Word) (xs : List (List ℕ)) → DeclaringLine l w xs → ⊥) × ((hs bs ns : List (List ℕ)) → RuleLine l hs bs ns → ⊥)

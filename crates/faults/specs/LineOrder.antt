@@ -7,25 +7,25 @@ use Rattle.kinds.specs.declared.limits.Kind.the-variants.{Plain, Preference}
 use Rattle.rules.specs.Lists.{All}
 use Rattle.lines.specs.declared.stage.Stage.{Stage}
 use Rattle.lines.specs.declared.stage.Stage.the-variants.{Declaring, Fixing, Ruling}
-use Rattle.lines.specs.Forms.{atoms, min, vary, fix, Form, declares, rules}
+use Rattle.lines.specs.Forms.{atoms, min, vary, fix, LineForm, declares, rules}
 
-abbrev pub IsMin : Form → Type 0
+abbrev pub IsMin : LineForm → Type 0
 IsMin f = (xs : List (List ℕ)) × (f ≡ declares min xs)
 
-abbrev pub IsRule : Form → Type 0
+abbrev pub IsRule : LineForm → Type 0
 IsRule f = (hs : List (List ℕ)) × (bs : List (List ℕ)) × (ns : List (List ℕ)) × (f ≡ rules hs bs ns)
 
 -- "A plain program has one `(atoms ..)` line, then rules."
 -- "A preference file has 0 to 16 `min` lines .., one `vary` line, one `fix` line, then rules."
-abbrev pub Came : Kind → Stage → List Form → Type 0
+abbrev pub Came : Kind → Stage → List LineForm → Type 0
 Came Plain Declaring fs = fs ≡ []
 Came Plain Fixing fs = ⊥
-Came Plain Ruling fs = (xs : List (List ℕ)) × (rs : List Form) × All IsRule rs × (fs ≡ declares atoms xs ∷ rs)
+Came Plain Ruling fs = (xs : List (List ℕ)) × (rs : List LineForm) × All IsRule rs × (fs ≡ declares atoms xs ∷ rs)
 Came Preference Declaring fs = All IsMin fs
-Came Preference Fixing fs = (ms : List Form) × (xs : List (List ℕ)) × All IsMin ms × (fs ≡ ms ++ (declares vary xs ∷ []))
+Came Preference Fixing fs = (ms : List LineForm) × (xs : List (List ℕ)) × All IsMin ms × (fs ≡ ms ++ (declares vary xs ∷ []))
 Came Preference Ruling fs =
-    (ms : List Form) × (xs : List (List ℕ)) × (ys : List (List ℕ)) × (rs : List Form) × All IsMin ms × All IsRule rs × (fs ≡ ms ++ (declares vary xs ∷ declares fix ys ∷ rs))
+    (ms : List LineForm) × (xs : List (List ℕ)) × (ys : List (List ℕ)) × (rs : List LineForm) × All IsMin ms × All IsRule rs × (fs ≡ ms ++ (declares vary xs ∷ declares fix ys ∷ rs))
 
 -- the lines are no beginning of a file of that kind
-abbrev pub OutOfOrder : Kind → List Form → Type 0
+abbrev pub OutOfOrder : Kind → List LineForm → Type 0
 OutOfOrder kind fs = (stage : Stage) → Came kind stage fs → ⊥

@@ -2,21 +2,22 @@
 use Prim.Native.Nat.{ℕ, _+_, _≤_, _<_}
 use mathlib.Core.Path.{_≡_}
 use mathlib.Core.Logic.{_⊎_}
-use mathlib.Core.List.{List, [], _∷_}
+use mathlib.Core.List.{List, [], _∷_, _++_}
 use lib.ListN.{length}
 use Rattle.kinds.specs.Limits.{nameLimit}
+use Rattle.kinds.specs.Words.{bytes, byte}
 use Rattle.rules.specs.Lists.{All}
 
 -- a to z, and 0 to 9
 abbrev pub Letter : ℕ → Type 0
-Letter b = (97 ≤ b) × (b ≤ 122)
+Letter b = (byte "a" ≤ b) × (b ≤ byte "z")
 
 abbrev pub Digit : ℕ → Type 0
-Digit b = (48 ≤ b) × (b ≤ 57)
+Digit b = (byte "0" ≤ b) × (b ≤ byte "9")
 
 -- "letters a to z, digits or `_`"
 abbrev pub NameByte : ℕ → Type 0
-NameByte b = Letter b ⊎ (Digit b ⊎ (b ≡ 95))
+NameByte b = Letter b ⊎ (Digit b ⊎ (b ≡ byte "_"))
 
 -- "a letter a to z, then letters a to z, digits or `_`", of any length
 abbrev pub HouseBytes : List ℕ → Type 0
@@ -32,15 +33,15 @@ LongHouseName x = HouseBytes x × (nameLimit < length x)
 
 -- x is y after `N.`, `S.` or `D.`
 abbrev pub Marked : List ℕ → List ℕ → Type 0
-Marked x y = (x ≡ 78 ∷ 46 ∷ y) ⊎ ((x ≡ 83 ∷ 46 ∷ y) ⊎ (x ≡ 68 ∷ 46 ∷ y))
+Marked x y = (x ≡ bytes "N." ++ y) ⊎ ((x ≡ bytes "S." ++ y) ⊎ (x ≡ bytes "D." ++ y))
 
 -- "0 to 16 without leading zero": 0 to 9, or 10 to 16
 abbrev pub ClassNumber : List ℕ → Type 0
-ClassNumber y = ((d : ℕ) × (d ≤ 9) × (y ≡ (48 + d) ∷ [])) ⊎ ((d : ℕ) × (d ≤ 6) × (y ≡ 49 ∷ (48 + d) ∷ []))
+ClassNumber y = ((d : ℕ) × (d ≤ 9) × (y ≡ (byte "0" + d) ∷ [])) ⊎ ((d : ℕ) × (d ≤ 6) × (y ≡ byte "1" ∷ (byte "0" + d) ∷ []))
 
 -- "`N.`, `S.` or `D.` before a house name, `E.` before 0 to 16 without leading zero, and `U`"
 abbrev pub GeneratedName : List ℕ → Type 0
-GeneratedName x = ((y : List ℕ) × Marked x y × HouseName y) ⊎ (((y : List ℕ) × (x ≡ 69 ∷ 46 ∷ y) × ClassNumber y) ⊎ (x ≡ 85 ∷ []))
+GeneratedName x = ((y : List ℕ) × Marked x y × HouseName y) ⊎ (((y : List ℕ) × (x ≡ bytes "E." ++ y) × ClassNumber y) ⊎ (x ≡ bytes "U"))
 
 -- "house name too long (after `N.`, `S.` or `D.` too)"
 abbrev pub TooLongName : List ℕ → Type 0

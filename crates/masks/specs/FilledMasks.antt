@@ -8,7 +8,7 @@ use Rattle.kinds.specs.Limits.{walkAtoms, fixed}
 use Rattle.kinds.specs.declared.limits.Kind.the-variants.{Preference}
 use Rattle.rules.specs.Lists.{from}
 use Rattle.rules.specs.Preferred.{ofClass}
-use Rattle.stores.specs.Program.{Program, Form}
+use Rattle.stores.specs.Program.{Program, ProgramForm}
 use Rattle.walks.specs.Walk.{firstState, cappedNext}
 use Rattle.walks.specs.declared.answers.NextState.{NextState}
 use Rattle.masks.specs.Masks.{maskOf, careOf, wantOf, classMasks, preferredM}
@@ -16,7 +16,7 @@ use Rattle.masks.specs.declared.masks.Sizes.{Sizes}
 
 -- the masks of p stand at the front: two for each rule, one for each class; the sizes say how many
 pub record MasksOf (p : Program) (care want classes : List ℕ) (z : Sizes) : Type 0 where
-  pub form : Form p
+  pub form : ProgramForm p
   pub is-preference : p .kind ≡ Preference
   pub few : p .atoms ≤ walkAtoms
   pub atoms-are : z .atoms ≡ p .atoms

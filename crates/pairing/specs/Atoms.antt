@@ -58,13 +58,13 @@ module _ (p : Program) where
       ++ (U ∷ [])))))
 
   -- an atom's number in that order; no class word falls, so the unfixed and the minimised atoms are the first ones
-  abbrev pub place : Atom → ℕ
-  place (original a) = a
-  place (N a) = p .atoms + a
-  place (S a) = 2 * p .atoms + a
-  place (D a) = 2 * p .atoms + length unfixedAtoms + a
-  place (E j) = 2 * p .atoms + length unfixedAtoms + length minimisedAtoms + j
-  place U = 2 * p .atoms + length unfixedAtoms + length minimisedAtoms + suc (p .classes)
+  abbrev pub atomNumber : Atom → ℕ
+  atomNumber (original a) = a
+  atomNumber (N a) = p .atoms + a
+  atomNumber (S a) = 2 * p .atoms + a
+  atomNumber (D a) = 2 * p .atoms + length unfixedAtoms + a
+  atomNumber (E j) = 2 * p .atoms + length unfixedAtoms + length minimisedAtoms + j
+  atomNumber U = 2 * p .atoms + length unfixedAtoms + length minimisedAtoms + suc (p .classes)
 
 -- an atom's name, by the file's names: `N.`, `S.` or `D.` before a name of the file, `E.` before a number, `U`
 abbrev pub nameOf : List (List ℕ) → Atom → List ℕ

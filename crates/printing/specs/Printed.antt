@@ -4,7 +4,7 @@ use mathlib.Core.Bool.{cond}
 use mathlib.Core.List.{List, [], _∷_, _++_}
 use lib.Dec.{leb}
 use lib.ListN.{length}
-use Rattle.kinds.specs.Refusals.{numberOf}
+use Rattle.kinds.specs.Refusals.{refusalNumber}
 use Rattle.kinds.specs.declared.refusals.Refusal.{Refusal}
 use Rattle.rules.specs.Lists.{filter, from}
 use Rattle.rules.specs.Sets.{has}
@@ -16,7 +16,7 @@ closing = close-bracket ∷ line-end ∷ []
 
 -- `(refused NUMBER LINE)`
 unfoldable pub refusedText : Refusal → ℕ → List ℕ
-refusedText f line = (40 ∷ 114 ∷ 101 ∷ 102 ∷ 117 ∷ 115 ∷ 101 ∷ 100 ∷ space ∷ []) ++ (decimal (numberOf f) ++ (space ∷ (decimal line ++ closing)))
+refusedText f line = (40 ∷ 114 ∷ 101 ∷ 102 ∷ 117 ∷ 115 ∷ 101 ∷ 100 ∷ space ∷ []) ++ (decimal (refusalNumber f) ++ (space ∷ (decimal line ++ closing)))
 
 -- state
 abbrev pub stateWord : List ℕ

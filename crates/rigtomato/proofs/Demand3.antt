@@ -9,7 +9,7 @@ use Rattle.kinds.specs.declared.limits.Kind.{Kind}
 use Rattle.kinds.specs.declared.limits.Kind.the-variants.{Plain, Preference}
 use Rattle.rules.specs.Lists.{sum, over}
 use Rattle.rules.specs.Rules.{occurrences}
-use Rattle.stores.specs.Program.{Program, Form}
+use Rattle.stores.specs.Program.{Program, ProgramForm}
 use Rattle.stores.specs.RuleStore.{encode, decode, isOf}
 use Rattle.name_store.specs.NameStore.{encodeNames, names?, NamesForm}
 use Rattle.stores.proofs.RuleStores.{decode-encode}
@@ -32,7 +32,7 @@ use Rattle.rigtomato.specs.Demand3.{Handed, delivered, Demand3, Demand3H
 
 -- the translator on the stores of a program of the form
 
-module _ (p : Program) (form : Form p) (names : List (List ℕ)) (fit : NamesForm (p .kind) (p .atoms) names) where
+module _ (p : Program) (form : ProgramForm p) (names : List (List ℕ)) (fit : NamesForm (p .kind) (p .atoms) names) where
   -- any answer but a refusal is for a preference program, and gives its text
   pub record Translated (room size : ℕ) : Type 0 where
     pub kind : p .kind ≡ Preference
@@ -69,7 +69,7 @@ module _ (text rules names out : List ℕ) (h : Handed text rules names out) whe
   abbrev file-names : List (List ℕ)
   file-names = read-as .atom-names
 
-  form : Form p
+  form : ProgramForm p
   form = accepted-form text p file-names (read-as .lines) .0
 
   fit : NamesForm (p .kind) (p .atoms) file-names

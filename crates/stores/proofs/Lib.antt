@@ -6,6 +6,6 @@ pub mod StoredRules
 pub mod Marks
 pub mod RulePlace
 pub mod Parts
-pub mod Rising
+pub mod Climbing
 pub mod StoreHeader
 pub mod RuleStoreClauses

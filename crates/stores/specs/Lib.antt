@@ -1,4 +1,5 @@
 -- What a program is, its rule store, and when words are one.
 pub mod Program
 pub mod RuleStore
+pub mod Checking
 pub mod StoredRules
