@@ -1,11 +1,11 @@
 -- The index of a name store: an atom's name by its number, and its number by the name.
 use Prim.Native.Nat.{ℕ, zero, suc, _+_, _*_, _%_, _≤_, _<_}
 use mathlib.Core.Path.{_≡_}
-use mathlib.Core.Bool.{Bool, not, _&&_, cond}
+use mathlib.Core.Bool.{_&&_, cond}
 use mathlib.Core.List.{List, [], _∷_, _++_}
 use lib.Dec.{leb, eqb}
 use lib.ListN.{length, getD, take, drop}
-use Rattle.rules.specs.Lists.{Distinct, some}
+use Rattle.rules.specs.Lists.{Distinct}
 use Rattle.name_store.specs.NameStore.{encodeNames, sameBytes}
 use Rattle.name_store.specs.declared.index.Found.{Found}
 use Rattle.name_store.specs.declared.index.Found.the-variants.{At, Missing}

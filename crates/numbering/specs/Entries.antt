@@ -6,8 +6,8 @@ use mathlib.Core.List.{List, [], _∷_, _++_}
 use lib.ListN.{length, drop}
 use Rattle.kinds.specs.Limits.{atomLimit, longestName, longestEntry, storeBytes}
 use Rattle.kinds.specs.declared.limits.Kind.the-variants.{Plain}
-use Rattle.rules.specs.Lists.{All, some}
-use Rattle.name_store.specs.NameStore.{encodeNames, sameBytes, among}
+use Rattle.rules.specs.Lists.{All}
+use Rattle.name_store.specs.NameStore.{encodeNames, among}
 use Rattle.name_store.specs.NameIndex.{Indexed}
 use Rattle.numbering.specs.declared.entries.Entered.{Entered}
 use Rattle.numbering.specs.declared.entries.Entered.the-variants as Answer

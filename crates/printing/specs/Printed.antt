@@ -8,7 +8,7 @@ use Rattle.kinds.specs.Refusals.{refusalNumber}
 use Rattle.kinds.specs.declared.refusals.Refusal.{Refusal}
 use Rattle.rules.specs.Lists.{filter, from}
 use Rattle.rules.specs.Sets.{has}
-use Rattle.kinds.specs.Words.{space, close-bracket, line-end, decimal}
+use Rattle.kinds.specs.Words.{space, close-bracket, line-end, decimal, bytes}
 use Rattle.text.specs.Text.{listLine, named}
 
 abbrev pub closing : List ℕ
@@ -16,11 +16,10 @@ closing = close-bracket ∷ line-end ∷ []
 
 -- `(refused NUMBER LINE)`
 unfoldable pub refusedText : Refusal → ℕ → List ℕ
-refusedText f line = (40 ∷ 114 ∷ 101 ∷ 102 ∷ 117 ∷ 115 ∷ 101 ∷ 100 ∷ space ∷ []) ++ (decimal (refusalNumber f) ++ (space ∷ (decimal line ++ closing)))
+refusedText f line = bytes "(refused " ++ (decimal (refusalNumber f) ++ (space ∷ (decimal line ++ closing)))
 
--- state
 abbrev pub stateWord : List ℕ
-stateWord = 115 ∷ 116 ∷ 97 ∷ 116 ∷ 101 ∷ []
+stateWord = bytes "state"
 
 -- `(state a b)`: the state's atoms in declared order
 unfoldable pub stateLine : List (List ℕ) → ℕ → List ℕ
@@ -28,11 +27,11 @@ stateLine names s = listLine stateWord (named names (filter (has s) (from 0 (len
 
 -- `(total N)`
 unfoldable pub totalLine : ℕ → List ℕ
-totalLine c = (40 ∷ 116 ∷ 111 ∷ 116 ∷ 97 ∷ 108 ∷ space ∷ []) ++ (decimal c ++ closing)
+totalLine c = bytes "(total " ++ (decimal c ++ closing)
 
 -- `(spent)`
 abbrev pub spentLine : List ℕ
-spentLine = 40 ∷ 115 ∷ 112 ∷ 101 ∷ 110 ∷ 116 ∷ closing
+spentLine = bytes "(spent)\n"
 
 -- what is written of a text into a lent output: all of it where it has room, else nothing
 unfoldable pub shown : List ℕ → List ℕ → List ℕ

@@ -4,7 +4,7 @@ use native.Mathlib.Omega.{arith}
 use mathlib.Core.Path.{_≡_, refl, sym, ap, ap₂, _∙_, subst}
 use mathlib.Core.Logic.{_↔_, _⊎_, inl, inr}
 use mathlib.Core.Bool.{Bool, true, false, cond, _&&_}
-use mathlib.Core.List.{List, [], _++_}
+use mathlib.Core.List.{List, _++_}
 use lib.Dec.{T, leb, ltb, leb→le, ltb→lt}
 use lib.ListN.{length, drop}
 use borrow.Author.Tests.{leb-false, ltb-false}
@@ -14,13 +14,13 @@ use Rattle.kinds.specs.declared.limits.Kind.the-variants.{Plain, Preference}
 use Rattle.kinds.specs.declared.refusals.Refusal.{Refusal}
 use Rattle.kinds.specs.declared.refusals.Refusal.the-variants.{Output, RuleStore, TooManyAtoms, SetNumber, Budget, NameStore}
 use Rattle.rules.specs.Lists.{over}
-use Rattle.rules.proofs.Booleans.{T-and, T-and-l, T-and-r}
+use Rattle.rules.proofs.Booleans.{T-and-l, T-and-r}
 use Rattle.stores.specs.Program.{Program}
-use Rattle.stores.specs.RuleStore.{StoreOf, encode, decode, store?, ruleStore, isOf, wordCount}
+use Rattle.stores.specs.RuleStore.{encode, decode, store?, ruleStore, isOf, wordCount}
 use Rattle.stores.specs.declared.rule_store.RuleStore.{RuleStore as Store}
 use Rattle.stores.specs.declared.rule_store.RuleStore.the-variants.{Of, Refused as NotStore}
 use Rattle.stores.proofs.RuleStores.{store-law, kind-answered, of-kind, words-count}
-use Rattle.name_store.specs.NameStore.{NamesOf, encodeNames, names?}
+use Rattle.name_store.specs.NameStore.{encodeNames, names?}
 use Rattle.name_store.proofs.NameStores.{names-law}
 use Rattle.faults.specs.EarliestFault.{Refuses, Accepts}
 use Rattle.faults.proofs.EarliestFault.{said-refused, said-accepted}
@@ -31,11 +31,8 @@ use Rattle.delivery.specs.Answers.{answerOf, writtenIf, readAnswer, readRules, 
 use Rattle.writer.specs.declared.Written.{Written}
 use Rattle.writer.specs.declared.Written.the-variants.{Text, Refused as NotWritten}
 use Rattle.writer.specs.Answers.{fitted, writtenBytes, storesText, writeAnswer, writeOutput}
-use Rattle.rules.specs.Lists.{over}
 use Rattle.translation.specs.Answers.{storesTranslation, translateAnswer, translateOutput}
-use Rattle.walks.specs.declared.answers.Verdict.{Verdict}
 use Rattle.walks.specs.declared.answers.Verdict.the-variants.{Refused as NotJudged}
-use Rattle.walks.specs.declared.answers.NextState.{NextState}
 use Rattle.walks.specs.declared.answers.NextState.the-variants.{Refused as NotSearched}
 use Rattle.walks.specs.Walk.{preferredVerdict, stableVerdict, nextVerdict}
 use Rattle.walks.specs.Answers.{guarded, preferredAnswer, stableAnswer, nextAnswer}

@@ -1,5 +1,5 @@
 -- Demand 2, from the meanings of the walks' answers and the listing.
-use Prim.Native.Nat.{ℕ, _^_, _≤_, _<_}
+use Prim.Native.Nat.{ℕ, _^_, _≤_}
 use mathlib.Core.Path.{_≡_, refl, sym, ap, _∙_, subst}
 use mathlib.Core.Bool.{Bool, true}
 use mathlib.Core.List.{List}
@@ -11,7 +11,7 @@ use Rattle.kinds.specs.declared.limits.Kind.{Kind}
 use Rattle.kinds.specs.declared.limits.Kind.the-variants.{Plain, Preference}
 use Rattle.kinds.specs.declared.refusals.Refusal.{Refusal}
 use Rattle.stores.specs.Program.{Program}
-use Rattle.stores.specs.RuleStore.{StoreOf, decode, ruleStore, isOf, wordCount}
+use Rattle.stores.specs.RuleStore.{decode, ruleStore, isOf, wordCount}
 use Rattle.stores.specs.declared.rule_store.RuleStore.the-variants.{Of}
 use Rattle.stores.proofs.RuleStores.{only-decoded, kind-answered, words-count}
 use Rattle.faults.specs.EarliestFault.{Accepts}

@@ -7,15 +7,13 @@ use lib.Dec.{T, leb, leb→le}
 use lib.ListN.{length, take}
 use Rattle.kinds.specs.declared.limits.Kind.{Kind}
 use Rattle.kinds.specs.declared.limits.Kind.the-variants.{Plain, Preference}
-use Rattle.rules.specs.Lists.{sum, over}
-use Rattle.rules.specs.Rules.{occurrences}
+use Rattle.rules.specs.Lists.{over}
 use Rattle.stores.specs.Program.{Program, ProgramForm}
 use Rattle.stores.specs.RuleStore.{encode, decode, isOf}
 use Rattle.name_store.specs.NameStore.{encodeNames, names?, NamesForm}
 use Rattle.stores.proofs.RuleStores.{decode-encode}
 use Rattle.writer.specs.declared.Written.{Written}
 use Rattle.writer.specs.declared.Written.the-variants.{Text, Refused as NotWritten}
-use Rattle.text.specs.Text.{textOf}
 use Rattle.writer.specs.Answers.{fitted}
 use Rattle.lines.specs.Said.{accepted, said}
 use Rattle.reader.proofs.RoundTrip.{accepted-form, write-read}

@@ -1,8 +1,8 @@
 -- The bytes that each run of names adds to the translated name store.
 use Prim.Native.Nat.{ℕ, zero, suc, _+_, _-_, _≤_}
-use mathlib.Core.List.{List, [], _∷_, _++_}
+use mathlib.Core.List.{List, _++_}
 use lib.ListN.{length, getD, drop}
-use Rattle.kinds.specs.Words.{decimal}
+use Rattle.kinds.specs.Words.{bytes, byte, decimal}
 use Rattle.kinds.specs.Limits.{longestName}
 use Rattle.rules.specs.Lists.{from}
 use Rattle.name_store.specs.NameStore.{nameBytes, decodeNames}
@@ -25,13 +25,13 @@ dottedBytes letter name = nameBytes (dot letter name)
 
 -- E.j
 unfoldable pub endBytes : ℕ → List ℕ
-endBytes j = nameBytes (dot 69 (decimal j))
+endBytes j = nameBytes (dot (byte "E") (decimal j))
 
 -- N. of n names, S. of q, D. of m, E.0 to E.k, U
 abbrev pub generatedBytes : List ℕ → ℕ → ℕ → ℕ → ℕ → List ℕ
 generatedBytes bs n q m k =
-    each (dottedBytes 78) (decodeNames n bs)
-    ++ (each (dottedBytes 83) (decodeNames q bs)
-    ++ (each (dottedBytes 68) (decodeNames m bs)
+    each (dottedBytes (byte "N")) (decodeNames n bs)
+    ++ (each (dottedBytes (byte "S")) (decodeNames q bs)
+    ++ (each (dottedBytes (byte "D")) (decodeNames m bs)
     ++ (each endBytes (from 0 (k + 1 - 0))
-    ++ (1 ∷ 85 ∷ []))))
+    ++ nameBytes (bytes "U"))))
