@@ -6,7 +6,7 @@ use native.Mathlib.Omega.{arith}
 use mathlib.Core.Path.{_≡_, refl, sym, ap, ap₂, _∙_, subst}
 use mathlib.Core.Logic.{_≢_}
 use mathlib.Core.List.{List, [], _∷_, _++_, append-assoc, append-nil}
-use mathlib.Core.Bool.{true, false, cond}
+use mathlib.Core.Bool.{true, false, cond, not}
 use lib.Dec.{eqb}
 use lib.ListN.{replicate, length-replicate, getD-replicate, take-append-drop, length, getD, take, drop, set, length-append, length-set, List·getD-append}
 use lib.Seq.{length-take-le, getD-take, drop-append-seam, take-append-le, take-append-seam, getD-append-seam, getD-set-same, getD-set-other, drop-drop}
