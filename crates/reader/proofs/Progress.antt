@@ -6,14 +6,14 @@ use mathlib.Core.Logic.{_≢_}
 use mathlib.Core.Bool.{Bool, true, false, cond}
 use mathlib.Core.List.{List, [], _∷_, _++_, map, append-assoc, append-nil}
 use lib.Dec.{T}
-use lib.ListN.{length, replicate}
+use lib.ListN.{length, replicate, length-append, length-map}
 use Rattle.kinds.specs.Limits.{atomLimit, classLimit, varying, fixed}
 use Rattle.kinds.specs.declared.limits.Kind.{Kind}
 use Rattle.kinds.specs.declared.limits.Kind.the-variants.{Plain, Preference}
 use Rattle.kinds.specs.declared.refusals.Refusal.the-variants.{BrokenForm}
 use Rattle.rules.specs.Lists.{All, flat, from}
 use Rattle.rules.specs.Rules.{Rule, occurrences}
-use Rattle.rules.proofs.Lists.{all-app, all-imp, all-from, all-map}
+use Rattle.rules.proofs.Lists.{all-app, all-imp, all-from, all-map, sum-app}
 use Rattle.names.specs.Names.{allowed}
 use Rattle.name_store.specs.NameStore.{NamesForm}
 use Rattle.stores.specs.Program.{Program, ProgramForm, RoleForm, roleOf, ListForm, NotForm, RuleForm}
@@ -21,7 +21,8 @@ use Rattle.kinds.specs.Words.{atomsWord, minWord, varyWord, fixWord}
 use Rattle.text.specs.Text.{listLine, ruleLine, ruleText, declarations, textOf}
 use Rattle.lines.specs.declared.stage.Stage.{Stage}
 use Rattle.lines.specs.declared.stage.Stage.the-variants.{Declaring, Fixing, Ruling}
-use Rattle.lines.specs.Forms.{Word, atoms, min, vary, fix, declares, rules, broken, formOf, begins, tagOf, LineForm}
+use Rattle.lines.specs.Forms.{Word, atoms, min, vary, fix, declares, rules, broken, formOf, begins, tagOf}
+use Rattle.lines.specs.Forms.{LineForm}
 use Rattle.lines.specs.Faults.{SoFar, Step, next, fault, expects, ruling?, nameNumber, declared, numbered, with-rule, filled, stepForm}
 use Rattle.lines.specs.Said.{accepted, refused, start, onStep, readLines, programOf}
 use Rattle.reader.proofs.LineText.{joined}
@@ -74,7 +75,7 @@ StageForm Fixing Plain st = ⊥
 StageForm Fixing Preference st = All (λ w. w ≤ varying) (st .words) × (st .program-rules ≡ [])
 StageForm Ruling kind st = Unit {0}
 
-pub record SoFar (st : SoFar) (text : List ℕ) : Type 0 where
+pub record Reached (st : SoFar) (text : List ℕ) : Type 0 where
   pub form : ProgramForm (programOf st)
   pub names-form : NamesForm (st .kind) (length (st .names)) (st .names)
   pub stage-form : StageForm (st .stage) (st .kind) st
@@ -104,7 +105,7 @@ from-snoc s (suc c) t e = ap (λ l. s ∷ l) (from-snoc (suc s) c t (omega arith
 
 -- a line that declares atoms
 
-names-more : {st : SoFar} {text : List ℕ} {w : Word} {xs : List (List ℕ)} → SoFar st text → Declares st w xs → NamesForm (st .kind) (length (st .names ++ xs)) (st .names ++ xs)
+names-more : {st : SoFar} {text : List ℕ} {w : Word} {xs : List (List ℕ)} → Reached st text → Declares st w xs → NamesForm (st .kind) (length (st .names ++ xs)) (st .names ++ xs)
 names-more {st} {xs = xs} s d = record {
   count = refl;
   all-allowed = all-app (λ x. T (allowed (st .kind) x)) (st .names) xs (s .names-form .all-allowed) (d .all-allowed);
@@ -146,7 +147,7 @@ module _ (k : ℕ) (words : List ℕ) (names : List (List ℕ)) (same : length w
     }
 
 module _ {text : List ℕ} (k : ℕ) (words : List ℕ) (names : List (List ℕ)) (rs : List (Rule ℕ)) (xs : List (List ℕ)) where
-  atoms-step : SoFar (state Plain Declaring k words names rs) text → Declares (state Plain Declaring k words names rs) atoms xs → SoFar (declared (state Plain Declaring k words names rs) atoms xs) (text ++ listLine atomsWord xs)
+  atoms-step : Reached (state Plain Declaring k words names rs) text → Declares (state Plain Declaring k words names rs) atoms xs → Reached (declared (state Plain Declaring k words names rs) atoms xs) (text ++ listLine atomsWord xs)
   unfolding textOf
   atoms-step s d =
       let none = s .stage-form .1 in
@@ -166,7 +167,7 @@ module _ {text : List ℕ} (k : ℕ) (words : List ℕ) (names : List (List ℕ)
             ∙ ap (λ t. t ++ listLine atomsWord xs) (s .text-is);
       }
 
-  min-step : SoFar (state Preference Declaring k words names rs) text → Declares (state Preference Declaring k words names rs) min xs → SoFar (declared (state Preference Declaring k words names rs) min xs) (text ++ listLine minWord xs)
+  min-step : Reached (state Preference Declaring k words names rs) text → Declares (state Preference Declaring k words names rs) min xs → Reached (declared (state Preference Declaring k words names rs) min xs) (text ++ listLine minWord xs)
   min-step s d =
       let same : length words ≡ length names = s .form .classes-form .1 in
       let low = all-imp (λ w. w ≤ k) (λ w. w ≤ suc k) (λ w l. omega arith) words (s .stage-form .0) in
@@ -180,7 +181,7 @@ module _ {text : List ℕ} (k : ℕ) (words : List ℕ) (names : List (List ℕ)
             ∙ ap₂ _++_ (min-lines-kept k words names same (suc k) xs (omega arith) ∙ s .text-is) (line-new k words names same (suc k) xs minWord (all-imp (λ w. w ≤ k) (λ w. w < suc k) (λ w l. omega arith) words (s .stage-form .0)));
       }
 
-  vary-step : SoFar (state Preference Declaring k words names rs) text → Declares (state Preference Declaring k words names rs) vary xs → SoFar (declared (state Preference Declaring k words names rs) vary xs) (text ++ listLine varyWord xs)
+  vary-step : Reached (state Preference Declaring k words names rs) text → Declares (state Preference Declaring k words names rs) vary xs → Reached (declared (state Preference Declaring k words names rs) vary xs) (text ++ listLine varyWord xs)
   unfolding roleOf
   vary-step s d =
       let same : length words ≡ length names = s .form .classes-form .1 in
@@ -194,7 +195,7 @@ module _ {text : List ℕ} (k : ℕ) (words : List ℕ) (names : List (List ℕ)
         text-is = ap₂ _++_ (min-lines-kept k words names same varying xs (omega arith) ∙ s .text-is) (line-new k words names same varying xs varyWord strict);
       }
 
-  fix-step : SoFar (state Preference Fixing k words names rs) text → Declares (state Preference Fixing k words names rs) fix xs → SoFar (declared (state Preference Fixing k words names rs) fix xs) (text ++ listLine fixWord xs)
+  fix-step : Reached (state Preference Fixing k words names rs) text → Declares (state Preference Fixing k words names rs) fix xs → Reached (declared (state Preference Fixing k words names rs) fix xs) (text ++ listLine fixWord xs)
   unfolding roleOf textOf
   fix-step s d =
       let same : length words ≡ length names = s .form .classes-form .1 in
@@ -215,13 +216,13 @@ module _ {text : List ℕ} (k : ℕ) (words : List ℕ) (names : List (List ℕ)
             ∙ ap₂ _++_ (ap₂ _++_ (min-lines-kept k words names same fixed xs (omega arith)) (line-kept k words names same fixed xs varyWord varying (omega arith)) ∙ s .text-is) (line-new k words names same fixed xs fixWord strict);
       }
 
-declare-step : (st : SoFar) (w : Word) (xs : List (List ℕ)) {text : List ℕ} → SoFar st text → Declares st w xs → SoFar (declared st w xs) (text ++ listLine (wordOf w) xs)
+declare-step : (st : SoFar) (w : Word) (xs : List (List ℕ)) {text : List ℕ} → Reached st text → Declares st w xs → Reached (declared st w xs) (text ++ listLine (wordOf w) xs)
 declare-step st w xs {text} s d = go (turn (st .kind) (st .stage) w (d .expected)) s d
   where
     go : {kind : Kind} {stage : Stage} {v : Word} → Turn kind stage v
-        → SoFar (state kind stage (st .classes) (st .words) (st .names) (st .program-rules)) text
+        → Reached (state kind stage (st .classes) (st .words) (st .names) (st .program-rules)) text
         → Declares (state kind stage (st .classes) (st .words) (st .names) (st .program-rules)) v xs
-        → SoFar (declared (state kind stage (st .classes) (st .words) (st .names) (st .program-rules)) v xs) (text ++ listLine (wordOf v) xs)
+        → Reached (declared (state kind stage (st .classes) (st .words) (st .names) (st .program-rules)) v xs) (text ++ listLine (wordOf v) xs)
     go atoms-turn = atoms-step (st .classes) (st .words) (st .names) (st .program-rules) xs
     go min-turn = min-step (st .classes) (st .words) (st .names) (st .program-rules) xs
     go vary-turn = vary-step (st .classes) (st .words) (st .names) (st .program-rules) xs
@@ -258,7 +259,7 @@ module _ (kind : Kind) (k : ℕ) (words : List ℕ) (names : List (List ℕ)) (r
       let e₃ = names-of-numbers names ns (d .nots-listed .all-declared) in
       cc
 
-  ruling-step : {text : List ℕ} → SoFar before text → Adds before hs bs ns → SoFar (with-rule before new) (text ++ ruleLine hs bs ns)
+  ruling-step : {text : List ℕ} → Reached before text → Adds before hs bs ns → Reached (with-rule before new) (text ++ ruleLine hs bs ns)
   unfolding textOf
   ruling-step s d =
       let head-lines = declarations kind (programOf before) names in
@@ -286,25 +287,25 @@ module _ (kind : Kind) (k : ℕ) (words : List ℕ) (names : List (List ℕ)) (r
             ∙ ap₂ _++_ (s .text-is) (line-of-rule d);
       }
 
-rule-step : (st : SoFar) (hs bs ns : List (List ℕ)) {text : List ℕ} → SoFar st text → Adds st hs bs ns → SoFar (with-rule st (numbered (st .names) hs bs ns)) (text ++ ruleLine hs bs ns)
+rule-step : (st : SoFar) (hs bs ns : List (List ℕ)) {text : List ℕ} → Reached st text → Adds st hs bs ns → Reached (with-rule st (numbered (st .names) hs bs ns)) (text ++ ruleLine hs bs ns)
 rule-step st hs bs ns {text} s d = go (st .stage) (d .ruling) s d
   where
     go : (stage : Stage) → T (ruling? stage)
-        → SoFar (state (st .kind) stage (st .classes) (st .words) (st .names) (st .program-rules)) text
+        → Reached (state (st .kind) stage (st .classes) (st .words) (st .names) (st .program-rules)) text
         → Adds (state (st .kind) stage (st .classes) (st .words) (st .names) (st .program-rules)) hs bs ns
-        → SoFar (with-rule (state (st .kind) stage (st .classes) (st .words) (st .names) (st .program-rules)) (numbered (st .names) hs bs ns)) (text ++ ruleLine hs bs ns)
+        → Reached (with-rule (state (st .kind) stage (st .classes) (st .words) (st .names) (st .program-rules)) (numbered (st .names) hs bs ns)) (text ++ ruleLine hs bs ns)
     go Declaring h = absurd h
     go Fixing h = absurd h
     go Ruling h = ruling-step (st .kind) (st .classes) (st .words) (st .names) (st .program-rules) hs bs ns
 
 -- every line
 
-line-step : (st : SoFar) (l : List ℕ) {after : SoFar} {text : List ℕ} → SoFar st text → stepForm st (formOf l) ≡ next after → SoFar after (text ++ l)
+line-step : (st : SoFar) (l : List ℕ) {after : SoFar} {text : List ℕ} → Reached st text → stepForm st (formOf l) ≡ next after → Reached after (text ++ l)
 line-step st l {after} {text} s = go (formOf l) (form-line l)
   where
-    go : (f : LineForm) → LineOf f l → stepForm st f ≡ next after → SoFar after (text ++ l)
-    go (declares w xs) h e = let d = declare-said st w xs after e in subst₂ (λ a m. SoFar a (text ++ m)) (d .1) (sym (h .0)) (declare-step st w xs s (d .0))
-    go (rules hs bs ns) h e = let d = rule-said st hs bs ns after e in subst₂ (λ a m. SoFar a (text ++ m)) (d .1) (sym (h .0)) (rule-step st hs bs ns s (d .0))
+    go : (f : LineForm) → LineOf f l → stepForm st f ≡ next after → Reached after (text ++ l)
+    go (declares w xs) h e = let d = declare-said st w xs after e in subst₂ (λ a m. Reached a (text ++ m)) (d .1) (sym (h .0)) (declare-step st w xs s (d .0))
+    go (rules hs bs ns) h e = let d = rule-said st hs bs ns after e in subst₂ (λ a m. Reached a (text ++ m)) (d .1) (sym (h .0)) (rule-step st hs bs ns s (d .0))
     go broken h e = absurd (let z : _≡_ {A = ℕ} 0 1 = cc in omega arith)
 
 -- what all lines together say: stores of the form, whose text they are
@@ -313,7 +314,7 @@ pub record AllSaid (p : Program) (names : List (List ℕ)) (text : List ℕ) : T
   pub names-form : NamesForm (p .kind) (p .atoms) names
   pub text-is : textOf p names ≡ text
 
-all-said : {st : SoFar} {text : List ℕ} → SoFar st text → T (ruling? (st .stage)) → AllSaid (programOf st) (st .names) text
+all-said : {st : SoFar} {text : List ℕ} → Reached st text → T (ruling? (st .stage)) → AllSaid (programOf st) (st .names) text
 all-said {st} {text} s r = record { form = s .form; names-form = s .names-form; text-is = go (st .stage) r (s .text-is) }
   where
     go : (stage : Stage) → T (ruling? stage) → textAt stage (st .kind) st ≡ text → textOf (programOf st) (st .names) ≡ text
@@ -321,7 +322,7 @@ all-said {st} {text} s r = record { form = s .form; names-form = s .names-form; 
     go Fixing h e = absurd h
     go Ruling h e = e
 
-pub lines-said : (k : ℕ) (st : SoFar) (ls : List (List ℕ)) (text : List ℕ) {p : Program} {names : List (List ℕ)} → SoFar st text → readLines k st ls ≡ accepted p names → AllSaid p names (text ++ joined ls)
+pub lines-said : (k : ℕ) (st : SoFar) (ls : List (List ℕ)) (text : List ℕ) {p : Program} {names : List (List ℕ)} → Reached st text → readLines k st ls ≡ accepted p names → AllSaid p names (text ++ joined ls)
 unfolding readLines
 lines-said k st [] text {p} {names} s e = go (ruling? (st .stage)) (λ t. t) e
   where
@@ -334,18 +335,18 @@ lines-said k st [] text {p} {names} s e = go (ruling? (st .stage)) (λ t. t) e
 lines-said k st (l ∷ ls) text {p} {names} s e = go (stepForm st (formOf l)) (λ after. line-step st l s) (λ after t. lines-said (suc k) after ls t) e
   where
     go : (q : Step)
-        → ((after : SoFar) → q ≡ next after → SoFar after (text ++ l))
-        → ((after : SoFar) (t : List ℕ) → SoFar after t → readLines (suc k) after ls ≡ accepted p names → AllSaid p names (t ++ joined ls))
+        → ((after : SoFar) → q ≡ next after → Reached after (text ++ l))
+        → ((after : SoFar) (t : List ℕ) → Reached after t → readLines (suc k) after ls ≡ accepted p names → AllSaid p names (t ++ joined ls))
         → onStep q k (λ after. readLines (suc k) after ls) ≡ accepted p names
         → AllSaid p names (text ++ (l ++ joined ls))
     go (next after) f rec i = subst (AllSaid p names) (append-assoc text l (joined ls)) (rec after (text ++ l) (f after refl) i)
     go (fault r) f rec i = absurd (let z : _≡_ {A = ℕ} 0 1 = cc in omega arith)
 
-pub start-said : (text : List ℕ) → SoFar (start text) []
+pub start-said : (text : List ℕ) → Reached (start text) []
 unfolding start
 start-said text = go (begins (tagOf atoms) text)
   where
-    go : (b : Bool) → SoFar (state (cond b Plain Preference) Declaring 0 [] [] []) []
+    go : (b : Bool) → Reached (state (cond b Plain Preference) Declaring 0 [] [] []) []
     go true = record {
       form = record { atoms-fit = omega arith; rules-fit = omega arith; occurrences-fit = omega arith; classes-form = (refl, refl); rule-forms = tt };
       names-form = record { count = refl; all-allowed = tt; different = tt };
