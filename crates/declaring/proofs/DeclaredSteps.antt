@@ -12,12 +12,12 @@ use Rattle.kinds.specs.Limits.{atomLimit, classLimit, longestName, within}
 use Rattle.kinds.specs.declared.limits.Kind.{Kind}
 use Rattle.kinds.specs.declared.limits.Kind.the-variants.{Plain, Preference}
 use Rattle.kinds.specs.declared.refusals.Refusal.{Refusal}
-use Rattle.kinds.specs.declared.refusals.Refusal.the-variants.{Form as BrokenForm, Name, DeclaredTwice, Limit}
+use Rattle.kinds.specs.declared.refusals.Refusal.the-variants.{BrokenForm, Name, DeclaredTwice, Limit}
 use Rattle.rules.specs.Lists.{some, flat}
 use Rattle.rules.proofs.Lists.{all-app-r}
 use Rattle.rules.proofs.Booleans.{both-true}
 use Rattle.names.specs.Names.{allowed}
-use Rattle.name_store.specs.NameStore.{decodeNames}
+use Rattle.name_store.specs.NameStore.{decodeNames, among}
 use Rattle.name_store.specs.NameIndex.{Indexed}
 use Rattle.stores.specs.RuleStore.{ruleWords, wordCount}
 use Rattle.name_store.proofs.NameStores.{allowed-short}
@@ -28,10 +28,10 @@ use Rattle.gathering.specs.declared.gathered.Gathered.{Gathered}
 use Rattle.gathering.specs.declared.gathered.Line.{Line}
 use Rattle.gathering.specs.declared.gathered.Line.the-variants.{Next}
 use Rattle.lines.specs.Items.{items}
-use Rattle.lines.specs.Forms.{Form, Word, atoms, min, vary, fix}
-use Rattle.lines.specs.Faults.{State, countsOf, next, fault, expects, ruling?, classesAfter, classWords, twice, refusedName, first, declared, declare, stepForm}
+use Rattle.lines.specs.Forms.{LineForm, Word, atoms, min, vary, fix}
+use Rattle.lines.specs.Faults.{SoFar, countsOf, next, fault, expects, ruling?, classesAfter, classWords, twice, refusedName, first, declared, declare, stepForm}
 use Rattle.lines.specs.Shapes.{wordOf, Declared}
-use Rattle.numbering.specs.Entries.{Room, Stored, Short, AllEntered, SomeEntered, among}
+use Rattle.numbering.specs.Entries.{Room, Stored, Short, AllEntered, SomeEntered}
 use Rattle.gathering.specs.Gathered.{storedWords, Filled, Held, HeldIndex, LineSays, LineIs, firstLine, countsIf, atomCounts, withNames, keptNames, KeptNames, pastRefusal}
 use Rattle.gathering.proofs.HeldState.{fill-more, atoms-is, rules-is, occurrences-is, held-is, names-are, held-small, atoms-small, within-limits}
 use Rattle.gathering.proofs.RuleSteps.{store-fits}
@@ -65,8 +65,8 @@ expected Preference Fixing vary e = absurd (let z : _≡_ {A = ℕ} 0 1 = cc in 
 expected Preference Fixing fix e = (refl, λ k c n. ap (λ m. n + m) (length-replicate c 18))
 expected Preference Ruling w e = absurd (let z : _≡_ {A = ℕ} 0 1 = cc in omega arith)
 
-module _ {kind : Kind} {st : State} {g : Gathered} {words bytes starts firsts links : List ℕ} (h : Held kind st g words bytes) (x : HeldIndex g bytes starts firsts links)
-    {l : List ℕ} {f : Form} {s : DeclaredShape} (p : Declared kind l f s) where
+module _ {kind : Kind} {st : SoFar} {g : Gathered} {words bytes starts firsts links : List ℕ} (h : Held kind st g words bytes) (x : HeldIndex g bytes starts firsts links)
+    {l : List ℕ} {f : LineForm} {s : DeclaredShape} (p : Declared kind l f s) where
   abbrev w : Word
   w = wordOf (s .word)
 

@@ -18,14 +18,14 @@ ghost use mathlib.Core.List.{[]};
 ghost use lib.ListN.{length, drop, replicate};
 ghost use Rattle.kinds.specs.Limits.{classLimit, textLimit};
 ghost use Rattle.rules.specs.Lists.{some};
-ghost use Rattle.name_store.specs.NameStore.{decodeNames};
+ghost use Rattle.name_store.specs.NameStore.{decodeNames, among};
 ghost use Rattle.name_store.specs.NameIndex.{Indexed, buckets};
 ghost use Rattle.output.specs.Emitted.{Emitted};
 ghost use Rattle.lines.specs.Items.{items};
 ghost use Rattle.lines.specs.Forms.{formOf};
 ghost use Rattle.lines.specs.Faults.{expects, stageAfter, classesAfter, classWords, twice};
 ghost use Rattle.lines.specs.Shapes.{wordOf, Declared};
-ghost use Rattle.numbering.specs.Entries.{Room, Short, among};
+ghost use Rattle.numbering.specs.Entries.{Room, Short};
 ghost use Rattle.gathering.specs.Gathered.{stateOf, Held, HeldIndex, LineIs, pastRefusal, KeptNames};
 
 fn is_expected(kind: Kind, stage: Stage, word: Keyword) -> bool
@@ -203,7 +203,7 @@ pub fn declare_atoms(
     let word = shape.word;
     let expected = is_expected(kind, stage, word);
     if !expected {
-        return Line::Fault(Refusal::Form);
+        return Line::Fault(Refusal::BrokenForm);
     }
     if shape.refused {
         return Line::Fault(Refusal::Name);

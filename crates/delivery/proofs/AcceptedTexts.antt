@@ -9,7 +9,7 @@ use lib.ListN.{length, take, drop}
 use lib.Seq.{take-append-seam}
 use borrow.Author.Tests.{le-leb}
 use Rattle.rules.proofs.Booleans.{T-and-l, T-and-r}
-use Rattle.output.specs.Emitted.{over}
+use Rattle.rules.specs.Lists.{over}
 use Rattle.delivery.specs.declared.answers.Read.{Read}
 use Rattle.delivery.specs.declared.answers.Read.the-variants.{Accepted, Refused as NotRead}
 use Rattle.kinds.specs.declared.refusals.Refusal.the-variants.{Output}

@@ -12,10 +12,11 @@ use Rattle.kinds.specs.declared.limits.Kind.{Kind}
 use Rattle.kinds.specs.declared.refusals.Refusal.the-variants.{Output}
 use Rattle.name_store.specs.NameStore.{encodeNames}
 use Rattle.stores.specs.RuleStore.{kindWord, encode}
-use Rattle.output.specs.Emitted.{Emitted, InRange, over}
+use Rattle.rules.specs.Lists.{over}
+use Rattle.output.specs.Emitted.{Emitted, InRange}
 use Rattle.delivery.specs.declared.answers.Read.the-variants.{Accepted, Refused}
 use Rattle.gathering.specs.declared.gathered.Gathered.{Gathered}
-use Rattle.lines.specs.Faults.{State}
+use Rattle.lines.specs.Faults.{SoFar}
 use Rattle.lines.specs.Said.{programOf}
 use Rattle.gathering.specs.Gathered.{storedWords, Held}
 use Rattle.delivery.specs.Delivered.{headerWords, Delivered}
@@ -29,7 +30,7 @@ and-false : (a : Bool) → (a && false) ≡ false
 and-false true = refl
 and-false false = refl
 
-module _ {kind : Kind} {st : State} {g : Gathered} {words bytes : List ℕ} (h : Held kind st g words bytes) where
+module _ {kind : Kind} {st : SoFar} {g : Gathered} {words bytes : List ℕ} (h : Held kind st g words bytes) where
   pub header-small : (g .counts .atoms < 65536) × (g .classes < 65536) × (g .counts .rules < 65536)
   header-small = let s = held-small h in (omega (arith, s .atoms), omega (arith, h .classes-fit), omega (arith, s .rules))
 

@@ -8,7 +8,7 @@ use Rattle.kinds.specs.declared.refusals.Refusal.the-variants.{Output}
 use Rattle.stores.specs.Program.{Program}
 use Rattle.stores.specs.RuleStore.{encode}
 use Rattle.name_store.specs.NameStore.{encodeNames}
-use Rattle.output.specs.Emitted.{over}
+use Rattle.rules.specs.Lists.{over}
 use Rattle.delivery.specs.declared.answers.Read.{Read}
 use Rattle.delivery.specs.declared.answers.Read.the-variants.{Accepted, Refused}
 use Rattle.lines.specs.Said.{Said, accepted, refused, said}

@@ -6,7 +6,7 @@ use lib.ListN.{length}
 use Rattle.stores.specs.Program.{Program}
 use Rattle.stores.specs.RuleStore.{encode}
 use Rattle.name_store.specs.NameStore.{encodeNames}
-use Rattle.output.specs.Emitted.{over}
+use Rattle.rules.specs.Lists.{over}
 use Rattle.delivery.specs.declared.answers.Read.the-variants.{Accepted}
 use Rattle.lines.specs.Said.{accepted, said}
 use Rattle.delivery.specs.Answers.{readAnswer, readRules, readNames}

@@ -23,7 +23,7 @@ use Rattle.name_store.proofs.NameStores.{decode-front}
 use Rattle.name_store.proofs.NameEntries.{length-filled, filled}
 use Rattle.output.proofs.Emitting.{sets-seam}
 use Rattle.gathering.specs.declared.gathered.Gathered.{Gathered}
-use Rattle.lines.specs.Faults.{State}
+use Rattle.lines.specs.Faults.{SoFar}
 use Rattle.gathering.specs.Gathered.{stateOf, storedWords, Filled, Held, HeldIndex}
 
 -- what is filled
@@ -50,7 +50,7 @@ fill-more {d} {skipped} {used} {list} f w l =
     }
 
 -- the counts, one by one
-module _ {kind : Kind} {st : State} {g : Gathered} {words bytes : List ℕ} (h : Held kind st g words bytes) where
+module _ {kind : Kind} {st : SoFar} {g : Gathered} {words bytes : List ℕ} (h : Held kind st g words bytes) where
   pub atoms-is : g .counts .atoms ≡ length (st .names)
   atoms-is = ap (λ c. c .atoms) (h .counts-are)
 
@@ -131,7 +131,7 @@ pub record Small (g : Gathered) : Type 0 where
   pub rules : g .counts .rules ≤ ruleLimit Plain
   pub occurrences : g .counts .occurrences ≤ occurrenceLimit Plain
 
-pub held-small : {kind : Kind} {st : State} {g : Gathered} {words bytes : List ℕ} → Held kind st g words bytes → Small g
+pub held-small : {kind : Kind} {st : SoFar} {g : Gathered} {words bytes : List ℕ} → Held kind st g words bytes → Small g
 held-small {kind} {st} {g} {words} h =
     let f = h .stored in
     let l = within-limits kind (g .counts) (h .counts-fit) in
@@ -151,5 +151,5 @@ module _ {g : Gathered} {bytes starts firsts links : List ℕ} (x : HeldIndex g 
   pub known-index : Indexed (decodeNames (length (take (g .counts .atoms) starts)) bytes) bytes (take (g .counts .atoms) starts) firsts links
   known-index = filled (g .counts .atoms) (x .index)
 
-  pub known-names : {kind : Kind} {st : State} {words : List ℕ} → Held kind st g words bytes → decodeNames (length (take (g .counts .atoms) starts)) bytes ≡ st .names
+  pub known-names : {kind : Kind} {st : SoFar} {words : List ℕ} → Held kind st g words bytes → decodeNames (length (take (g .counts .atoms) starts)) bytes ≡ st .names
   known-names h = ap (λ n. decodeNames n bytes) known-starts ∙ sym (names-are h)

@@ -12,7 +12,7 @@ use borrow.Author.Tests.{lt-ltb, not-false}
 use Rattle.kinds.specs.Limits.{atomLimit, ruleLimit, occurrenceLimit, storeWords, within}
 use Rattle.kinds.specs.declared.limits.Kind.{Kind}
 use Rattle.kinds.specs.declared.limits.Kind.the-variants.{Plain, Preference}
-use Rattle.kinds.specs.declared.refusals.Refusal.the-variants.{Form as BrokenForm, Name, Undeclared, TwiceInList, Limit, FilledNot}
+use Rattle.kinds.specs.declared.refusals.Refusal.the-variants.{BrokenForm, Name, Undeclared, TwiceInList, Limit, FilledNot}
 use Rattle.rules.specs.Lists.{some, sum, flat}
 use Rattle.rules.specs.Rules.{Rule, occurrences}
 use Rattle.stores.specs.RuleStore.{ruleWords, wordCount}
@@ -23,11 +23,11 @@ use Rattle.gathering.specs.declared.gathered.Line.the-variants.{Next}
 use Rattle.numbering.specs.declared.numbers.Numbers.{Numbers}
 use Rattle.numbering.specs.declared.numbers.Numbers.the-variants as Answer
 use Rattle.lines.specs.Items.{items}
-use Rattle.lines.specs.Forms.{Form}
-use Rattle.lines.specs.Faults.{State, countsOf, next, fault, ruling?, refusedName, numberOf, anyOf, first, filled, numbered, with-rule, addRule, stepForm}
+use Rattle.lines.specs.Forms.{LineForm}
+use Rattle.lines.specs.Faults.{SoFar, countsOf, next, fault, ruling?, refusedName, nameNumber, anyOf, first, filled, numbered, with-rule, addRule, stepForm}
 use Rattle.lines.specs.Shapes.{Ruled}
 use Rattle.lines.specs.declared.forms.RuleShape.{RuleShape}
-use Rattle.numbering.specs.Entries.{among}
+use Rattle.name_store.specs.NameStore.{among}
 use Rattle.numbering.specs.Numbers.{ruleNumbers, RuleNumbered, RuleNumbersSay, RuleNumbersIs}
 use Rattle.gathering.specs.Gathered.{storedWords, Filled, Held, HeldIndex, HeldMarks, LineSays, LineIs, MarksSay, MarksAre, filledCount, firstLine, ruleCounts, withRule, countsIf, keptRule, Kept}
 use Rattle.gathering.proofs.HeldState.{fill-more, atoms-is, rules-is, occurrences-is, held-is, flat-last, sum-last, within-limits}
@@ -64,7 +64,7 @@ pub rule-numbers-unknown : {names hs bs ns : List (List ℕ)} {stamp : ℕ} {bef
     → r ≡ Answer.Undeclared → anyOf (some (λ x. not (among names x))) hs bs ns ≡ true
 rule-numbers-unknown {names} {hs} {bs} {ns} {stamp} {before} {at} {marks} {after} h e = subst (RuleNumbersSay names hs bs ns stamp before at marks after) e (h .says)
 
-module _ {kind : Kind} {st : State} {g : Gathered} {words bytes : List ℕ} (h : Held kind st g words bytes) {l : List ℕ} {f : Form} {s : RuleShape} (p : Ruled kind l f s) where
+module _ {kind : Kind} {st : SoFar} {g : Gathered} {words bytes : List ℕ} (h : Held kind st g words bytes) {l : List ℕ} {f : LineForm} {s : RuleShape} (p : Ruled kind l f s) where
   abbrev hs : List (List ℕ)
   hs = items (drop (s .lists .head) l)
 
@@ -113,7 +113,7 @@ module _ {kind : Kind} {st : State} {g : Gathered} {words bytes : List ℕ} (h :
           new-rule = numbered (st .names) hs bs ns
 
           rule-places : occurrences new-rule ≡ more
-          rule-places = omega (arith, length-map hs (numberOf (st .names)), length-map bs (numberOf (st .names)), length-map ns (numberOf (st .names)), p .is-heads, p .is-bodies, p .is-nots)
+          rule-places = omega (arith, length-map hs (nameNumber (st .names)), length-map bs (nameNumber (st .names)), length-map ns (nameNumber (st .names)), p .is-heads, p .is-bodies, p .is-nots)
 
           new-counts : ruleCounts (g .counts) more ≡ countsOf (with-rule st new-rule)
           new-counts =
@@ -138,9 +138,9 @@ module _ {kind : Kind} {st : State} {g : Gathered} {words bytes : List ℕ} (h :
 
               rule-words : counts ++ ruleNumbers names hs bs ns ≡ ruleWords new-rule
               rule-words =
-                  let of-head : s .heads ≡ length (map (numberOf (st .names)) hs) = p .is-heads ∙ sym (length-map hs (numberOf (st .names))) in
-                  let of-body : s .bodies ≡ length (map (numberOf (st .names)) bs) = p .is-bodies ∙ sym (length-map bs (numberOf (st .names))) in
-                  let of-nots : s .nots ≡ length (map (numberOf (st .names)) ns) = p .is-nots ∙ sym (length-map ns (numberOf (st .names))) in
+                  let of-head : s .heads ≡ length (map (nameNumber (st .names)) hs) = p .is-heads ∙ sym (length-map hs (nameNumber (st .names))) in
+                  let of-body : s .bodies ≡ length (map (nameNumber (st .names)) bs) = p .is-bodies ∙ sym (length-map bs (nameNumber (st .names))) in
+                  let of-nots : s .nots ≡ length (map (nameNumber (st .names)) ns) = p .is-nots ∙ sym (length-map ns (nameNumber (st .names))) in
                   λ i. of-head i ∷ of-body i ∷ of-nots i ∷ ruleNumbers (same i) hs bs ns
 
               words-length : length (ruleWords new-rule) ≡ 3 + more

@@ -15,14 +15,15 @@ use Rattle.kinds.specs.declared.refusals.Refusal.the-variants.{DeclaredTwice, L
 use Rattle.rules.specs.Lists.{flat}
 use Rattle.name_store.specs.NameStore.{encodeNames, decodeNames}
 use Rattle.name_store.specs.NameIndex.{Indexed}
-use Rattle.stores.specs.RuleStore.{ruleWords, wordCount, rulesFrom, Below}
+use Rattle.stores.specs.Checking.{Below}
+use Rattle.stores.specs.RuleStore.{ruleWords, wordCount, rulesFrom}
 use Rattle.gathering.specs.declared.gathered.Gathered.{Gathered}
 use Rattle.gathering.specs.declared.gathered.Line.{Line}
 use Rattle.gathering.specs.declared.gathered.Line.the-variants as Line
-use Rattle.lines.specs.Forms.{Form, Word}
-use Rattle.lines.specs.Faults.{State, countsOf, next, fault, ruling?, stageAfter, classesAfter, classWords, stepForm}
+use Rattle.lines.specs.Forms.{LineForm, Word}
+use Rattle.lines.specs.Faults.{SoFar, countsOf, next, fault, ruling?, stageAfter, classesAfter, classWords, stepForm}
 
-unfoldable pub stateOf : Kind → Gathered → List ℕ → List ℕ → State
+unfoldable pub stateOf : Kind → Gathered → List ℕ → List ℕ → SoFar
 stateOf kind g words bytes = record {
   kind = kind;
   stage = g .stage;
@@ -33,7 +34,7 @@ stateOf kind g words bytes = record {
 }
 
 -- the class words and the rules, as a rule store has them behind its header
-abbrev pub storedWords : State → List ℕ
+abbrev pub storedWords : SoFar → List ℕ
 storedWords st = st .words ++ flat ruleWords (st .program-rules)
 
 -- a list stands behind `skipped` words, up to `used`
@@ -45,7 +46,7 @@ pub record Filled (d : List ℕ) (skipped used : ℕ) (list : List ℕ) : Type 0
   pub ends : used ≡ skipped + length list
 
 -- the scratch stores hold a state
-pub record Held (kind : Kind) (st : State) (g : Gathered) (words bytes : List ℕ) : Type 0 where
+pub record Held (kind : Kind) (st : SoFar) (g : Gathered) (words bytes : List ℕ) : Type 0 where
   pub kind-is : st .kind ≡ kind
   pub stage-is : g .stage ≡ st .stage
   pub classes-is : g .classes ≡ st .classes
@@ -73,12 +74,12 @@ pub record HeldMarks (g : Gathered) (marks : List ℕ) : Type 0 where
   pub room : length marks ≡ atomLimit Plain
 
 -- what a line's answer says of the step that its form makes
-abbrev pub LineSays : Kind → State → Form → List ℕ → List ℕ → List ℕ → List ℕ → List ℕ → Line → Type 0
+abbrev pub LineSays : Kind → SoFar → LineForm → List ℕ → List ℕ → List ℕ → List ℕ → List ℕ → Line → Type 0
 LineSays kind st f words bytes starts firsts links (Line.Next g) =
     (stepForm st f ≡ next (stateOf kind g words bytes)) × Held kind (stateOf kind g words bytes) g words bytes × HeldIndex g bytes starts firsts links
 LineSays kind st f words bytes starts firsts links (Line.Fault r) = stepForm st f ≡ fault r
 
-pub record LineIs (kind : Kind) (st : State) (f : Form) (words bytes starts firsts links : List ℕ) (r : Line) : Type 0 where
+pub record LineIs (kind : Kind) (st : SoFar) (f : LineForm) (words bytes starts firsts links : List ℕ) (r : Line) : Type 0 where
   pub says : LineSays kind st f words bytes starts firsts links r
 
 -- what it leaves in the marks

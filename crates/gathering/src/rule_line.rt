@@ -117,7 +117,7 @@ pub fn add_rule(
     let stage = gathered.stage;
     let ruling = is_ruling(stage);
     if !ruling {
-        return Line::Fault(Refusal::Form);
+        return Line::Fault(Refusal::BrokenForm);
     }
     if shape.refused {
         return Line::Fault(Refusal::Name);

@@ -1,20 +1,20 @@
 -- The number of each refusal (document 01, "Who can be turned back").
 use Prim.Native.Nat.{ℕ}
 use Rattle.kinds.specs.declared.refusals.Refusal.{Refusal}
-use Rattle.kinds.specs.declared.refusals.Refusal.the-variants.{TextTooLong, Form, Name, DeclaredTwice, Undeclared, TwiceInList, Limit, FilledNot, Output, RuleStore, TooManyAtoms, SetNumber, Budget, NameStore}
+use Rattle.kinds.specs.declared.refusals.Refusal.the-variants.{TextTooLong, BrokenForm, Name, DeclaredTwice, Undeclared, TwiceInList, Limit, FilledNot, Output, RuleStore, TooManyAtoms, SetNumber, Budget, NameStore}
 
-abbrev pub numberOf : Refusal → ℕ
-numberOf TextTooLong = 1
-numberOf Form = 2
-numberOf Name = 3
-numberOf DeclaredTwice = 4
-numberOf Undeclared = 5
-numberOf TwiceInList = 6
-numberOf Limit = 7
-numberOf FilledNot = 8
-numberOf Output = 9
-numberOf RuleStore = 10
-numberOf TooManyAtoms = 11
-numberOf SetNumber = 12
-numberOf Budget = 13
-numberOf NameStore = 14
+abbrev pub refusalNumber : Refusal → ℕ
+refusalNumber TextTooLong = 1
+refusalNumber BrokenForm = 2
+refusalNumber Name = 3
+refusalNumber DeclaredTwice = 4
+refusalNumber Undeclared = 5
+refusalNumber TwiceInList = 6
+refusalNumber Limit = 7
+refusalNumber FilledNot = 8
+refusalNumber Output = 9
+refusalNumber RuleStore = 10
+refusalNumber TooManyAtoms = 11
+refusalNumber SetNumber = 12
+refusalNumber Budget = 13
+refusalNumber NameStore = 14

@@ -1,10 +1,10 @@
 // The refusals and their numbers (document 01, "Who can be turned back").
 ghost use mathlib.Core.Path.{_≡_};
-ghost use Rattle.kinds.specs.Refusals.{numberOf};
+ghost use Rattle.kinds.specs.Refusals.{refusalNumber};
 
 pub enum Refusal {
     TextTooLong,
-    Form,
+    BrokenForm,
     Name,
     DeclaredTwice,
     Undeclared,
@@ -21,11 +21,11 @@ pub enum Refusal {
 
 impl Refusal {
     pub fn number(self) -> u64
-        ensures { λ r. ⌜ r ≡ numberOf self ⌝ }
+        ensures { λ r. ⌜ r ≡ refusalNumber self ⌝ }
     {
         match self {
             Refusal::TextTooLong => 1,
-            Refusal::Form => 2,
+            Refusal::BrokenForm => 2,
             Refusal::Name => 3,
             Refusal::DeclaredTwice => 4,
             Refusal::Undeclared => 5,

@@ -8,18 +8,18 @@ use Rattle.kinds.specs.declared.limits.Kind.{Kind}
 use Rattle.name_store.specs.NameStore.{sameBytes}
 use Rattle.lines.specs.declared.forms.Keyword.{Keyword}
 use Rattle.lines.specs.Items.{items}
-use Rattle.lines.specs.Forms.{broken, begins, tagOf, headTag, bodyTag, notTag, listEnd, ruleEnd, cut, none, cutList, declaredForm, ruleForm, formOf, atoms, min, vary, fix}
+use Rattle.lines.specs.Forms.{broken, begins, tagOf, headTag, bodyTag, notTag, listEnd, ruleEnd, split, none, splitList, declaredForm, ruleForm, formOf, atoms, min, vary, fix}
 use Rattle.lines.specs.Shapes.{wordOf, Declared, Ruled}
 use Rattle.lines.proofs.NameLists.{Listed}
 
 -- a line that declares atoms
 module _ (kind : Kind) (l : List ℕ) (w : Keyword) {tag : List ℕ} (p : tag ≡ tagOf (wordOf w)) where
-  pub no-names : cutList tag l ≡ none → declaredForm (wordOf w) l ≡ broken
+  pub no-names : splitList tag l ≡ none → declaredForm (wordOf w) l ≡ broken
   unfolding declaredForm
   no-names e = rw (rw p at e)
 
   module _ {from end count : ℕ} {refused : Bool} (h : Listed kind tag l 0 from end count refused) {q : Bool} (e : q ≡ sameBytes (drop end l) listEnd) where
-    cuts : cutList (tagOf (wordOf w)) l ≡ cut (items (drop from l)) (drop end l)
+    cuts : splitList (tagOf (wordOf w)) l ≡ split (items (drop from l)) (drop end l)
     cuts = rw p at h .cuts
 
     pub not-closed : q ≡ false → declaredForm (wordOf w) l ≡ broken
@@ -32,17 +32,17 @@ module _ (kind : Kind) (l : List ℕ) (w : Keyword) {tag : List ℕ} (p : tag �
 
 -- a rule
 module _ (kind : Kind) (l : List ℕ) where
-  pub no-head : cutList headTag l ≡ none → ruleForm l ≡ broken
+  pub no-head : splitList headTag l ≡ none → ruleForm l ≡ broken
   unfolding ruleForm
   no-head e = rw e
 
   module _ {head he heads : ℕ} {hr : Bool} (h : Listed kind headTag l 0 head he heads hr) where
-    pub no-body : cutList bodyTag (drop he l) ≡ none → ruleForm l ≡ broken
+    pub no-body : splitList bodyTag (drop he l) ≡ none → ruleForm l ≡ broken
     unfolding ruleForm
     no-body e = rw (h .cuts, e)
 
     module _ {body be bodies : ℕ} {br : Bool} (b : Listed kind bodyTag l he body be bodies br) where
-      pub no-not : cutList notTag (drop be l) ≡ none → ruleForm l ≡ broken
+      pub no-not : splitList notTag (drop be l) ≡ none → ruleForm l ≡ broken
       unfolding ruleForm
       no-not e = rw (h .cuts, b .cuts, e)
 

@@ -21,7 +21,7 @@ use Rattle.lines.specs.declared.forms.NameFit.the-variants as Fit
 use Rattle.lines.specs.declared.forms.Names.{Names}
 use Rattle.lines.specs.declared.forms.Names.the-variants as Found
 use Rattle.lines.specs.Items.{items, span}
-use Rattle.lines.specs.Forms.{isName, begins, cut, none, cutNames, cutList}
+use Rattle.lines.specs.Forms.{isName, begins, split, none, splitNames, splitList}
 use Rattle.lines.specs.Faults.{refusedName}
 use Rattle.lines.specs.Shapes.{itemOf, classFit, nameFit, namesShape, listShape}
 use Rattle.lines.proofs.Tags.{tag-inside}
@@ -116,7 +116,7 @@ module _ {kind : Kind} {s : List ℕ} {from end count : ℕ} {refused : Bool} (h
 -- a tag and the names after it
 
 pub record Listed (kind : Kind) (tag l : List ℕ) (at from end count : ℕ) (refused : Bool) : Type 0 where
-  pub cuts : cutList tag (drop at l) ≡ cut (items (drop from l)) (drop end l)
+  pub cuts : splitList tag (drop at l) ≡ split (items (drop from l)) (drop end l)
   pub in-from : from ≤ length l
   pub in-end : end ≤ length l
   pub is-count : count ≡ length (items (drop from l))
@@ -144,17 +144,17 @@ module _ (kind : Kind) (tag l : List ℕ) (at : ℕ) where
   unfolding listShape namesShape
   shape = ap (λ (s : List ℕ). cond (begins tag (drop at l)) (namesShape kind names-from s) Found.Broken) (drop-drop (length tag) at l)
 
-  cut-is : cutList tag (drop at l) ≡ cond (begins tag (drop at l)) (cond all-names (cut names (drop (names-from + span names) l)) none) none
-  unfolding cutList cutNames
+  cut-is : splitList tag (drop at l) ≡ cond (begins tag (drop at l)) (cond all-names (split names (drop (names-from + span names) l)) none) none
+  unfolding splitList splitNames
   cut-is =
-      ap (λ (s : List ℕ). cond (begins tag (drop at l)) (cutNames s) none) (drop-drop (length tag) at l)
-      ∙ ap (λ (s : List ℕ). cond (begins tag (drop at l)) (cond all-names (cut names s) none) none) (drop-drop (span names) names-from l)
+      ap (λ (s : List ℕ). cond (begins tag (drop at l)) (splitNames s) none) (drop-drop (length tag) at l)
+      ∙ ap (λ (s : List ℕ). cond (begins tag (drop at l)) (cond all-names (split names s) none) none) (drop-drop (span names) names-from l)
 
   module _ {r : Names} (e : r ≡ listShape kind tag at (drop at l)) where
-    pub not-listed : r ≡ Found.Broken → cutList tag (drop at l) ≡ none
+    pub not-listed : r ≡ Found.Broken → splitList tag (drop at l) ≡ none
     not-listed d = cut-is ∙ go (begins tag (drop at l)) all-names (sym shape ∙ sym e ∙ d)
       where
-        go : (a b : Bool) → cond a (cond b (Found.List names-from (names-from + span names) (length names) (some (refusedName kind) names)) Found.Broken) Found.Broken ≡ Found.Broken → cond a (cond b (cut names (drop (names-from + span names) l)) none) none ≡ none
+        go : (a b : Bool) → cond a (cond b (Found.List names-from (names-from + span names) (length names) (some (refusedName kind) names)) Found.Broken) Found.Broken ≡ Found.Broken → cond a (cond b (split names (drop (names-from + span names) l)) none) none ≡ none
         go true true p = absurd (let z : _≡_ {A = ℕ} 0 1 = cc in omega arith)
         go true false p = refl
         go false b p = refl
@@ -162,7 +162,7 @@ module _ (kind : Kind) (tag l : List ℕ) (at : ℕ) where
     pub listed : at ≤ length l → {from end count : ℕ} {refused : Bool} → r ≡ Found.List from end count refused → Listed kind tag l at from end count refused
     listed h {from} {end} {count} {refused} d = go (begins tag (drop at l)) refl all-names (sym shape ∙ sym e ∙ d) cut-is
       where
-        go : (a : Bool) → begins tag (drop at l) ≡ a → (b : Bool) → cond a (cond b (Found.List names-from (names-from + span names) (length names) (some (refusedName kind) names)) Found.Broken) Found.Broken ≡ Found.List from end count refused → cutList tag (drop at l) ≡ cond a (cond b (cut names (drop (names-from + span names) l)) none) none → Listed kind tag l at from end count refused
+        go : (a : Bool) → begins tag (drop at l) ≡ a → (b : Bool) → cond a (cond b (Found.List names-from (names-from + span names) (length names) (some (refusedName kind) names)) Found.Broken) Found.Broken ≡ Found.List from end count refused → splitList tag (drop at l) ≡ cond a (cond b (split names (drop (names-from + span names) l)) none) none → Listed kind tag l at from end count refused
         go true q true p w =
             let u : names-from ≡ from = cc in
             let v : names-from + span names ≡ end = cc in
@@ -171,7 +171,7 @@ module _ (kind : Kind) (tag l : List ℕ) (at : ℕ) where
             let n : length names ≡ count = cc in
             let o : some (refusedName kind) names ≡ refused = cc in
             record {
-              cuts = w ∙ ap₂ (λ (x : List (List ℕ)) (k : ℕ). cut x (drop k l)) ls v;
+              cuts = w ∙ ap₂ (λ (x : List (List ℕ)) (k : ℕ). split x (drop k l)) ls v;
               in-from = omega arith;
               in-end = omega (arith, span-le (drop names-from l), length-drop names-from l);
               is-count = sym n ∙ ap length ls;

@@ -4,23 +4,22 @@ use mathlib.Core.Bool.{Bool, true, false, cond, not, _&&_, _||_}
 use mathlib.Core.List.{List, [], _∷_, _++_, map}
 use lib.Dec.{leb}
 use lib.ListN.{length, replicate}
-use Rattle.kinds.specs.Limits.{classLimit, within}
+use Rattle.kinds.specs.Limits.{classLimit, within, varying, fixed}
 use Rattle.kinds.specs.declared.limits.Counts.{Counts}
 use Rattle.kinds.specs.declared.limits.Kind.{Kind}
 use Rattle.kinds.specs.declared.limits.Kind.the-variants.{Plain, Preference}
 use Rattle.kinds.specs.declared.refusals.Refusal.{Refusal}
-use Rattle.kinds.specs.declared.refusals.Refusal.the-variants.{Form as BrokenForm, Name, DeclaredTwice, Undeclared, TwiceInList, Limit, FilledNot}
+use Rattle.kinds.specs.declared.refusals.Refusal.the-variants.{BrokenForm, Name, DeclaredTwice, Undeclared, TwiceInList, Limit, FilledNot}
 use Rattle.rules.specs.Lists.{some, sum}
 use Rattle.rules.specs.Rules.{Rule, rule, occurrences}
-use Rattle.rules.specs.Preferred.{varying, fixed}
 use Rattle.names.specs.Names.{allowed}
-use Rattle.name_store.specs.NameStore.{sameBytes}
+use Rattle.name_store.specs.NameStore.{sameBytes, among}
 use Rattle.lines.specs.declared.stage.Stage.{Stage}
 use Rattle.lines.specs.declared.stage.Stage.the-variants.{Declaring, Fixing, Ruling}
-use Rattle.lines.specs.Forms.{Word, atoms, min, vary, fix, Form, declares, rules, broken}
+use Rattle.lines.specs.Forms.{Word, atoms, min, vary, fix, LineForm, declares, rules, broken}
 
 -- what the lines so far say
-pub record State : Type 0 where
+pub record SoFar : Type 0 where
   pub kind : Kind
   pub stage : Stage
   pub classes : ℕ
@@ -29,12 +28,12 @@ pub record State : Type 0 where
   pub program-rules : List (Rule ℕ)
 
 -- their counts
-abbrev pub countsOf : State → Counts
+abbrev pub countsOf : SoFar → Counts
 countsOf st = record { atoms = length (st .names); rules = length (st .program-rules); occurrences = sum occurrences (st .program-rules) }
 
 -- what a line gives: the state after it, or its lowest fault
 pub data Step : Type 0 where
-  next : State → Step
+  next : SoFar → Step
   fault : Refusal → Step
 
 -- the order of the lines
@@ -83,18 +82,15 @@ classWords fix k c = replicate c fixed
 -- some name of the second list is in the first, or again in the second
 unfoldable pub twice : List (List ℕ) → List (List ℕ) → Bool
 twice old [] = false
-twice old (x ∷ xs) = some (sameBytes x) old || twice (old ++ (x ∷ [])) xs
+twice old (x ∷ xs) = among old x || twice (old ++ (x ∷ [])) xs
 
 abbrev pub refusedName : Kind → List ℕ → Bool
 refusedName kind x = not (allowed kind x)
 
-abbrev pub undeclared : List (List ℕ) → List ℕ → Bool
-undeclared names x = not (some (sameBytes x) names)
-
 -- the number of a declared name: how many stand before it
-unfoldable pub numberOf : List (List ℕ) → List ℕ → ℕ
-numberOf [] x = 0
-numberOf (y ∷ ys) x = cond (sameBytes x y) 0 (suc (numberOf ys x))
+unfoldable pub nameNumber : List (List ℕ) → List ℕ → ℕ
+nameNumber [] x = 0
+nameNumber (y ∷ ys) x = cond (sameBytes x y) 0 (suc (nameNumber ys x))
 
 -- true in any of a rule's three lists
 abbrev pub anyOf : (List (List ℕ) → Bool) → List (List ℕ) → List (List ℕ) → List (List ℕ) → Bool
@@ -104,7 +100,7 @@ abbrev pub first : Bool → Refusal → Step → Step
 first true f s = fault f
 first false f s = s
 
-abbrev pub declared : State → Word → List (List ℕ) → State
+abbrev pub declared : SoFar → Word → List (List ℕ) → SoFar
 declared st w xs = record {
   kind = st .kind;
   stage = stageAfter w;
@@ -115,7 +111,7 @@ declared st w xs = record {
 }
 
 -- a line that declares atoms: its order, then name lengths, then declared twice, then the counts
-unfoldable pub declare : State → Word → List (List ℕ) → Step
+unfoldable pub declare : SoFar → Word → List (List ℕ) → Step
 declare st w xs =
     first (not (expects (st .kind) (st .stage) w)) BrokenForm
     (first (some (refusedName (st .kind)) xs) Name
@@ -124,9 +120,9 @@ declare st w xs =
     (next (declared st w xs)))))
 
 abbrev pub numbered : List (List ℕ) → List (List ℕ) → List (List ℕ) → List (List ℕ) → Rule ℕ
-numbered names hs bs ns = rule (map (numberOf names) hs) (map (numberOf names) bs) (map (numberOf names) ns)
+numbered names hs bs ns = rule (map (nameNumber names) hs) (map (nameNumber names) bs) (map (nameNumber names) ns)
 
-abbrev pub with-rule : State → Rule ℕ → State
+abbrev pub with-rule : SoFar → Rule ℕ → SoFar
 with-rule st r = record {
   kind = st .kind;
   stage = st .stage;
@@ -142,16 +138,16 @@ filled Preference [] = false
 filled Preference (x ∷ xs) = true
 
 -- a rule: its order, names, undeclared, twice in a list, the counts, a filled `not` list
-unfoldable pub addRule : State → List (List ℕ) → List (List ℕ) → List (List ℕ) → Step
+unfoldable pub addRule : SoFar → List (List ℕ) → List (List ℕ) → List (List ℕ) → Step
 addRule st hs bs ns =
     first (not (ruling? (st .stage))) BrokenForm
     (first (anyOf (some (refusedName (st .kind))) hs bs ns) Name
-    (first (anyOf (some (undeclared (st .names))) hs bs ns) Undeclared
+    (first (anyOf (some (λ x. not (among (st .names) x))) hs bs ns) Undeclared
     (first (anyOf (twice []) hs bs ns) TwiceInList
     (first (not (within (st .kind) (countsOf (with-rule st (numbered (st .names) hs bs ns))))) Limit
     (first (filled (st .kind) ns) FilledNot (next (with-rule st (numbered (st .names) hs bs ns))))))))
 
-abbrev pub stepForm : State → Form → Step
+abbrev pub stepForm : SoFar → LineForm → Step
 stepForm st (declares w xs) = declare st w xs
 stepForm st (rules hs bs ns) = addRule st hs bs ns
 stepForm st broken = fault BrokenForm

@@ -15,11 +15,11 @@ use Rattle.lines.specs.Items.{items, span}
 pub data Word : Type 0 where
   atoms min vary fix : Word
 
-pub data Form : Type 0 where
-  declares : Word → List (List ℕ) → Form
+pub data LineForm : Type 0 where
+  declares : Word → List (List ℕ) → LineForm
   -- a rule's head, body and not list
-  rules : List (List ℕ) → List (List ℕ) → List (List ℕ) → Form
-  broken : Form
+  rules : List (List ℕ) → List (List ℕ) → List (List ℕ) → LineForm
+  broken : LineForm
 
 abbrev pub isName : NameClass → Bool
 isName House = true
@@ -32,19 +32,19 @@ abbrev pub begins : List ℕ → List ℕ → Bool
 begins tag s = sameBytes (take (length tag) s) tag
 
 -- what a tag and the names after it leave of a line
-pub data Cut : Type 0 where
-  cut : List (List ℕ) → List ℕ → Cut
-  none : Cut
+pub data Split : Type 0 where
+  split : List (List ℕ) → List ℕ → Split
+  none : Split
 
-unfoldable pub cutNames : List ℕ → Cut
-cutNames s = cond (every (λ x. isName (nameClass x)) (items s)) (cut (items s) (drop (span (items s)) s)) none
+unfoldable pub splitNames : List ℕ → Split
+splitNames s = cond (every (λ x. isName (nameClass x)) (items s)) (split (items s) (drop (span (items s)) s)) none
 
-unfoldable pub cutList : List ℕ → List ℕ → Cut
-cutList tag s = let rest = cutNames (drop (length tag) s) in cond (begins tag s) rest none
+unfoldable pub splitList : List ℕ → List ℕ → Split
+splitList tag s = let rest = splitNames (drop (length tag) s) in cond (begins tag s) rest none
 
-abbrev pub onCut : Cut → (List (List ℕ) → List ℕ → Form) → Form
-onCut (cut ns rest) f = f ns rest
-onCut none f = broken
+abbrev pub onSplit : Split → (List (List ℕ) → List ℕ → LineForm) → LineForm
+onSplit (split ns rest) f = f ns rest
+onSplit none f = broken
 
 -- the tags
 abbrev pub tagOf : Word → List ℕ
@@ -68,17 +68,17 @@ listEnd = close-bracket ∷ line-end ∷ []
 abbrev pub ruleEnd : List ℕ
 ruleEnd = close-bracket ∷ close-bracket ∷ line-end ∷ []
 
-abbrev pub closed : List ℕ → List ℕ → Form → Form
+abbrev pub closed : List ℕ → List ℕ → LineForm → LineForm
 closed rest ending f = cond (sameBytes rest ending) f broken
 
-unfoldable pub declaredForm : Word → List ℕ → Form
-declaredForm w l = onCut (cutList (tagOf w) l) (λ ns rest. closed rest listEnd (declares w ns))
+unfoldable pub declaredForm : Word → List ℕ → LineForm
+declaredForm w l = onSplit (splitList (tagOf w) l) (λ ns rest. closed rest listEnd (declares w ns))
 
-unfoldable pub ruleForm : List ℕ → Form
+unfoldable pub ruleForm : List ℕ → LineForm
 ruleForm l =
-    onCut (cutList headTag l) (λ hs r. onCut (cutList bodyTag r) (λ bs s. onCut (cutList notTag s) (λ ns rest. closed rest ruleEnd (rules hs bs ns))))
+    onSplit (splitList headTag l) (λ hs r. onSplit (splitList bodyTag r) (λ bs s. onSplit (splitList notTag s) (λ ns rest. closed rest ruleEnd (rules hs bs ns))))
 
-unfoldable pub formOf : List ℕ → Form
+unfoldable pub formOf : List ℕ → LineForm
 formOf l =
     cond (begins (tagOf atoms) l) (declaredForm atoms l)
     (cond (begins (tagOf min) l) (declaredForm min l)

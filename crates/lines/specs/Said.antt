@@ -7,19 +7,19 @@ use lib.ListN.{length}
 use Rattle.kinds.specs.Limits.{textLimit}
 use Rattle.kinds.specs.declared.limits.Kind.the-variants.{Plain, Preference}
 use Rattle.kinds.specs.declared.refusals.Refusal.{Refusal}
-use Rattle.kinds.specs.declared.refusals.Refusal.the-variants.{TextTooLong, Form as BrokenForm}
+use Rattle.kinds.specs.declared.refusals.Refusal.the-variants.{TextTooLong, BrokenForm}
 use Rattle.stores.specs.Program.{Program}
 use Rattle.lines.specs.declared.stage.Stage.the-variants.{Declaring}
 use Rattle.lines.specs.Lines.{lines}
 use Rattle.lines.specs.Forms.{atoms, begins, tagOf, formOf}
-use Rattle.lines.specs.Faults.{State, Step, next, fault, ruling?, stepForm}
+use Rattle.lines.specs.Faults.{SoFar, Step, next, fault, ruling?, stepForm}
 
 pub data Said : Type 0 where
   accepted : Program → List (List ℕ) → Said
   refused : Refusal → ℕ → Said
 
 -- the kind is plain exactly when the text starts with `(atoms`
-unfoldable pub start : List ℕ → State
+unfoldable pub start : List ℕ → SoFar
 start text = record {
   kind = cond (begins (tagOf atoms) text) Plain Preference;
   stage = Declaring;
@@ -30,7 +30,7 @@ start text = record {
 }
 
 -- the program of the lines
-abbrev pub programOf : State → Program
+abbrev pub programOf : SoFar → Program
 programOf st = record {
   kind = st .kind;
   atoms = length (st .names);
@@ -39,12 +39,12 @@ programOf st = record {
   rules = st .program-rules;
 }
 
-abbrev pub onStep : Step → ℕ → (State → Said) → Said
+abbrev pub onStep : Step → ℕ → (SoFar → Said) → Said
 onStep (next st) k f = f st
 onStep (fault r) k f = refused r k
 
 -- the lines from number k on; a missing line stands one past the last
-unfoldable pub readLines : ℕ → State → List (List ℕ) → Said
+unfoldable pub readLines : ℕ → SoFar → List (List ℕ) → Said
 readLines k st [] = cond (ruling? (st .stage)) (accepted (programOf st) (st .names)) (refused BrokenForm k)
 readLines k st (l ∷ ls) = onStep (stepForm st (formOf l)) k (λ after. readLines (suc k) after ls)
 

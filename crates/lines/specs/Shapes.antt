@@ -25,7 +25,7 @@ use Rattle.lines.specs.declared.forms.RuleShape.{RuleShape}
 use Rattle.lines.specs.declared.forms.Shape.{Shape}
 use Rattle.lines.specs.declared.forms.Shape.the-variants as Line
 use Rattle.lines.specs.Items.{run, items, span}
-use Rattle.lines.specs.Forms.{Word, atoms, min, vary, fix, Form, declares, rules, broken, isName, begins}
+use Rattle.lines.specs.Forms.{Word, atoms, min, vary, fix, LineForm, declares, rules, broken, isName, begins}
 use Rattle.lines.specs.Faults.{refusedName, anyOf}
 
 -- the first item
@@ -62,14 +62,14 @@ wordOf Vary = vary
 wordOf Fix = fix
 
 -- the line's form f declares the names that stand from a place on
-pub record Declared (kind : Kind) (l : List ℕ) (f : Form) (d : DeclaredShape) : Type 0 where
+pub record Declared (kind : Kind) (l : List ℕ) (f : LineForm) (d : DeclaredShape) : Type 0 where
   pub form : f ≡ declares (wordOf (d .word)) (items (drop (d .from) l))
   pub inside : d .from ≤ length l
   pub is-count : d .count ≡ length (items (drop (d .from) l))
   pub is-refused : d .refused ≡ some (refusedName kind) (items (drop (d .from) l))
 
 -- the line's form f is a rule whose lists stand from three places on
-pub record Ruled (kind : Kind) (l : List ℕ) (f : Form) (r : RuleShape) : Type 0 where
+pub record Ruled (kind : Kind) (l : List ℕ) (f : LineForm) (r : RuleShape) : Type 0 where
   pub form : f ≡ rules (items (drop (r .lists .head) l)) (items (drop (r .lists .body) l)) (items (drop (r .lists .not) l))
   pub in-head : r .lists .head ≤ length l
   pub in-body : r .lists .body ≤ length l
@@ -80,7 +80,7 @@ pub record Ruled (kind : Kind) (l : List ℕ) (f : Form) (r : RuleShape) : Type 
   pub is-refused : r .refused ≡ anyOf (some (refusedName kind)) (items (drop (r .lists .head) l)) (items (drop (r .lists .body) l)) (items (drop (r .lists .not) l))
 
 -- what a shape says of a line and its form
-abbrev pub ShapeIs : Kind → List ℕ → Form → Shape → Type 0
+abbrev pub ShapeIs : Kind → List ℕ → LineForm → Shape → Type 0
 ShapeIs kind l f (Line.Declares d) = Declared kind l f d
 ShapeIs kind l f (Line.Rule r) = Ruled kind l f r
 ShapeIs kind l f Line.Broken = f ≡ broken

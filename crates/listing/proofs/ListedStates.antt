@@ -37,7 +37,7 @@ use Rattle.walks.specs.declared.answers.NextState.the-variants.{State, Nothing,
 use Rattle.walks.proofs.answers.NextState.{the-type}
 use Rattle.walks.proofs.Listing.{next-state}
 use Rattle.printing.specs.Printed.{closing, stateLine, member, members, totalLine, spentLine, refusedText}
-use Rattle.listing.specs.Listed.{onNext, listing, wholeListing, sized}
+use Rattle.listing.specs.Listed.{onNext, listing, wholeListing, streamed}
 use Rattle.listing.specs.StoresPrinted.{Listable, lastLine, Limited, storesListing}
 use Rattle.printing.proofs.PrintedLines.{member-next, members-end, state-opens, total-short, front-fits, written-front}
 
@@ -240,7 +240,7 @@ module _ {rules names starts before now : List ℕ} {next start count : ℕ} (h 
 -- the text against the size of an output
 
 module _ {text before after : List ℕ} {size : ℕ} (h : Limited text before after size) where
-  pub too-long : streamLimit < size → refusedText Output 0 ≡ sized text
+  pub too-long : streamLimit < size → refusedText Output 0 ≡ streamed text
   too-long l = go (leb (length text) streamLimit) refl
     where
       go : (b : Bool) → leb (length text) streamLimit ≡ b → refusedText Output 0 ≡ cond b text (refusedText Output 0)
@@ -258,5 +258,5 @@ module _ {text before after : List ℕ} {size : ℕ} (h : Limited text before af
     pub all-fits : size - 0 ≤ length after
     all-fits = front-fits (h .fits short) (omega (arith, short))
 
-    pub all-is : take (size - 0) (drop 0 after) ≡ sized text
+    pub all-is : take (size - 0) (drop 0 after) ≡ streamed text
     all-is = written-front (h .fits short) (omega (arith, short)) ∙ sym (ap (λ (b : Bool). cond b text (refusedText Output 0)) (le-leb (length text) streamLimit short))

@@ -21,7 +21,7 @@ use Rattle.name_store.proofs.NameStores.{decoded-names}
 use Rattle.name_store.proofs.NameEntries.{length-filled, filled}
 use Rattle.text.specs.Items.{storedNames}
 use Rattle.printing.specs.Printed.{refusedText}
-use Rattle.listing.specs.Listed.{sized, statesOf}
+use Rattle.listing.specs.Listed.{streamed, statesOf}
 use Rattle.listing.specs.StoresPrinted.{Listable, storesListing, storesStates}
 
 not-true : (b : Bool) → not b ≡ true → b ≡ false
@@ -91,6 +91,6 @@ module _ (rules names : List ℕ) where
             all-allowed = rw names-are (decoded-names Preference n names (subst T (sym (test-is true (not-false fits f))) tt) .form .all-allowed);
           })
 
-          pub listing-of : sized (storesListing rules names (take (n - 0) (drop 0 starts))) ≡ storesStates rules names
+          pub listing-of : streamed (storesListing rules names (take (n - 0) (drop 0 starts))) ≡ storesStates rules names
           unfolding storesListing storesStates statesOf
           listing-of = rw (part-is, h, test-is true (not-false fits f), le-leb (decode rules .atoms) walkAtoms (rw atoms-is at few), names-are, atoms-is)

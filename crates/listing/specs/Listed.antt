@@ -32,9 +32,9 @@ unfoldable pub wholeListing : Program → List (List ℕ) → List ℕ
 wholeListing p names = listing (suc (2 ^ p .atoms)) p names 0 0
 
 -- a text past the size of an output is refused
-abbrev pub sized : List ℕ → List ℕ
-sized text = cond (leb (length text) streamLimit) text (refusedText Output 0)
+abbrev pub streamed : List ℕ → List ℕ
+streamed text = cond (leb (length text) streamLimit) text (refusedText Output 0)
 
 -- over 60 atoms are refused
 unfoldable pub statesOf : Program → List (List ℕ) → List ℕ
-statesOf p names = cond (leb (p .atoms) walkAtoms) (sized (wholeListing p names)) (refusedText TooManyAtoms 0)
+statesOf p names = cond (leb (p .atoms) walkAtoms) (streamed (wholeListing p names)) (refusedText TooManyAtoms 0)

@@ -20,7 +20,7 @@ ghost use Rattle.stores.specs.RuleStore.{ruleStore};
 ghost use Rattle.stores.specs.declared.rule_store.RuleStore.the-variants.{Of};
 ghost use Rattle.output.specs.Emitted.{Emitted, InRange};
 ghost use Rattle.printing.specs.Printed.{Shown};
-ghost use Rattle.listing.specs.Listed.{sized};
+ghost use Rattle.listing.specs.Listed.{streamed};
 ghost use Rattle.listing.specs.StoresPrinted.{Listable, Limited, lastLine, storesListing, storesStates};
 
 // What stands after the states.
@@ -59,7 +59,7 @@ fn emit_listing(rules: &[u16], names: &[u8], starts: &[u16], out: &mut [u8]) -> 
 // The listing, or refusal 9 where it passes the size of an output.
 fn show_listing(rules: &[u16], names: &[u8], starts: &[u16], out: &mut [u8]) -> usize
     requires { ⌜ Listable (now rules) (now names) (now starts) ⌝ }
-    ensures { λ r. ⌜ Shown (sized (storesListing (now (rules .entry)) (now (names .entry)) (now (starts .entry)))) (now (out .entry)) (now (out .exit)) r ⌝ }
+    ensures { λ r. ⌜ Shown (streamed (storesListing (now (rules .entry)) (now (names .entry)) (now (starts .entry)))) (now (out .entry)) (now (out .exit)) r ⌝ }
 {
     let mut scratch = [0u8; Kind::STREAM];
     let size = emit_listing(rules, names, starts, &mut scratch);

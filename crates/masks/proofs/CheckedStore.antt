@@ -10,13 +10,13 @@ use lib.Count.{ones, ones-le}
 use lib.ListN.{length, getD, take, drop, length-take, length-append, length-drop, length-map, List·getD-append}
 use lib.Seq.{drop-drop, drop-at, getD-drop}
 use borrow.Author.Tests.{ne-eqb, eq-eqb}
-use Rattle.kinds.specs.Limits.{ruleLimit, classLimit, walkAtoms}
+use Rattle.kinds.specs.Limits.{ruleLimit, classLimit, walkAtoms, fixed}
 use Rattle.kinds.specs.declared.limits.Kind.{Kind}
 use Rattle.kinds.specs.declared.limits.Kind.the-variants.{Plain, Preference}
 use Rattle.rules.specs.Lists.{All, flat, from}
 use Rattle.rules.specs.Sets.{has}
 use Rattle.rules.specs.Rules.{Rule, occurrences, reduct, model?, firstBroken}
-use Rattle.rules.specs.Preferred.{fixed, ofClass}
+use Rattle.rules.specs.Preferred.{ofClass}
 use Rattle.rules.proofs.Lists.{all-app, all-imp, length-from, all-at}
 use Rattle.rules.proofs.Preferred.{all-of-class}
 use Rattle.stores.specs.Program.{Program, ClassesForm, RuleForm, NotForm}

@@ -10,9 +10,9 @@ use lib.Bits.{bitOr, or-zero-l, or-zero-r}
 use lib.ListN.{length, getD, take, drop, set, length-drop, replicate, length-map}
 use lib.Seq.{getD-take, getD-drop, length-take-le}
 use borrow.Author.Tests.{ne-eqb, eq-eqb, eqb-true, leb-true, le-leb}
-use Rattle.kinds.specs.Limits.{classLimit}
+use Rattle.kinds.specs.Limits.{classLimit, varying, fixed}
 use Rattle.rules.specs.Lists.{keep, filter, from}
-use Rattle.rules.specs.Preferred.{varying, fixed, ofClass}
+use Rattle.rules.specs.Preferred.{ofClass}
 use Rattle.rules.proofs.Booleans.{both-true}
 use Rattle.stores.specs.Program.{roleOf}
 use Rattle.stores.specs.declared.roles.Role.{Role}

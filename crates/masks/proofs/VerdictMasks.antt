@@ -7,12 +7,12 @@ use native.Mathlib.Omega.{arith}
 use lib.Dec.{T, eqb, eqb→eq, eqb·suc-suc, eqb·zero-suc}
 use lib.Bits.{bitAnd}
 use lib.ListN.{length}
-use Rattle.kinds.specs.Limits.{classLimit}
+use Rattle.kinds.specs.Limits.{classLimit, fixed}
 use Rattle.rules.specs.Lists.{All, keep, filter, from}
 use Rattle.rules.specs.Sets.{has}
 use Rattle.rules.specs.Rules.{Rule, reduct, model?, countIf}
 use Rattle.rules.specs.Stable.{subset?}
-use Rattle.rules.specs.Preferred.{fixed, ofClass, agree?, spares?, beats?}
+use Rattle.rules.specs.Preferred.{ofClass, agree?, spares?, beats?}
 use Rattle.rules.proofs.Booleans.{bool-ext, T-of, T-and-r}
 use Rattle.rules.proofs.Lists.{all-filter, all-from}
 use Rattle.rules.proofs.Stable.{subset-law}

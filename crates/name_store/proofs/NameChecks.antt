@@ -4,7 +4,7 @@ use native.Mathlib.Numerals.{add-one}
 use native.Mathlib.Omega.{arith}
 use mathlib.Core.Path.{_≡_, refl, sym, ap, ap₂, _∙_, subst, subst₂, subst₃}
 use mathlib.Core.List.{List, [], _∷_, _++_}
-use mathlib.Core.Bool.{Bool, true, false, _&&_, cond}
+use mathlib.Core.Bool.{Bool, true, false, _&&_, cond, not}
 use lib.Dec.{T, leb, eqb, leb→le}
 use lib.ListN.{length, getD, take, drop, set, replicate, length-append, length-drop, length-set, take-append-drop}
 use lib.Seq.{length-take-le, drop-cons, drop-drop}
@@ -12,8 +12,8 @@ use Rattle.kinds.specs.declared.limits.Kind.{Kind}
 use Rattle.rules.proofs.Booleans.{T-and-r}
 use Rattle.rules.proofs.Lists.{none-left}
 use Rattle.names.specs.Names.{allowed}
-use Rattle.name_store.specs.NameStore.{nameBytes, encodeNames, firstName, decodeNames, namesFrom?, names?}
-use Rattle.name_store.specs.NameIndex.{new?, nameEnd, buckets, nameHash, Indexed}
+use Rattle.name_store.specs.NameStore.{nameBytes, encodeNames, firstName, decodeNames, namesFrom?, names?, among}
+use Rattle.name_store.specs.NameIndex.{nameEnd, buckets, nameHash, Indexed}
 use Rattle.name_store.specs.declared.index.Found.{Found}
 use Rattle.name_store.specs.declared.index.Found.the-variants.{At, Missing}
 use Rattle.name_store.proofs.NameStores.{allowed-short, names-cons, not-seen}
@@ -116,7 +116,7 @@ module _ {kind : Kind} {bytes : List ℕ} {atoms : ℕ} {starts₀ heads₀ next
           let q : at + (1 + getD (drop at bytes) 0 0) ≡ to = omega (arith, fit .1, first-byte bytes at) in
           drop-drop (1 + getD (drop at bytes) 0 0) at bytes ∙ ap (λ n. drop n bytes) q
 
-      step : names? kind atoms bytes ≡ allowed kind x && (new? x names && namesFrom? kind (names ++ (x ∷ [])) (atoms - (atom + 1)) (drop to bytes))
+      step : names? kind atoms bytes ≡ allowed kind x && (not (among names x) && namesFrom? kind (names ++ (x ∷ [])) (atoms - (atom + 1)) (drop to bytes))
       step =
           sym (k .left) ∙ ap (λ n. namesFrom? kind names n (drop at bytes)) one-more
           ∙ (rw (fit .0) at (names-cons kind names (atoms - (atom + 1)) (drop at bytes) x (drop to bytes) first-is rest-is))
@@ -125,7 +125,7 @@ module _ {kind : Kind} {bytes : List ℕ} {atoms : ℕ} {starts₀ heads₀ next
         pub check-wrong : s ≡ false → false ≡ names? kind atoms bytes
         check-wrong e = sym (rw (sym is-allowed ∙ e) at step)
 
-        module _ (good : s ≡ true) {t : Bool} (is-new : t ≡ new? x names) where
+        module _ (good : s ≡ true) {t : Bool} (is-new : t ≡ not (among names x)) where
           pub check-twice : t ≡ false → false ≡ names? kind atoms bytes
           check-twice e = sym (rw (sym is-allowed ∙ good, sym is-new ∙ e) at step)
 

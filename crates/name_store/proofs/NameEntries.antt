@@ -6,14 +6,14 @@ use native.Mathlib.Omega.{arith}
 use mathlib.Core.Path.{_≡_, refl, sym, ap, ap₂, _∙_, subst}
 use mathlib.Core.Logic.{_≢_}
 use mathlib.Core.List.{List, [], _∷_, _++_, append-assoc, append-nil}
-use mathlib.Core.Bool.{true, false, cond}
+use mathlib.Core.Bool.{true, false, cond, not}
 use lib.Dec.{eqb}
 use lib.ListN.{replicate, length-replicate, getD-replicate, take-append-drop, length, getD, take, drop, set, length-append, length-set, List·getD-append}
 use lib.Seq.{length-take-le, getD-take, drop-append-seam, take-append-le, take-append-seam, getD-append-seam, getD-set-same, getD-set-other, drop-drop}
 use borrow.Author.Tests.{eq-eqb, ne-eqb}
 use Rattle.rules.specs.Lists.{All, Distinct, some}
-use Rattle.name_store.specs.NameStore.{nameBytes, encodeNames, decodeNames, sameBytes}
-use Rattle.name_store.specs.NameIndex.{found, new?, buckets, nameHash, hashes, lastWith, place, Placed, Indexed}
+use Rattle.name_store.specs.NameStore.{nameBytes, encodeNames, decodeNames, sameBytes, among}
+use Rattle.name_store.specs.NameIndex.{found, buckets, nameHash, hashes, lastWith, nameStart, Placed, Indexed}
 use Rattle.name_store.proofs.ByteLoops.{hash-small}
 use Rattle.name_store.proofs.NameChains.{last-ext, missing-differs, found-among}
 use Rattle.name_store.proofs.NamePlaces.{length-decode}
@@ -105,10 +105,10 @@ module _ {names : List (List ℕ)} {bytes starts heads next : List ℕ} (ix : In
     start = λ i l. go i l (ℕ-discrete i (length names));
   }
     where
-      go : (i : ℕ) → i < length more → Dec (i ≡ length names) → getD (set starts (length names) at) i 0 ≡ place more i
+      go : (i : ℕ) → i < length more → Dec (i ≡ length names) → getD (set starts (length names) at) i 0 ≡ nameStart more i
       go i l (yes e) =
           ap (λ k. getD (set starts (length names) at) k 0) e ∙ getD-set-same starts (length names) at 0 starts-room
-          ∙ sym (ap (λ k. place more k) e ∙ ap (λ l. length (encodeNames l)) (take-append-seam names (x ∷ [])))
+          ∙ sym (ap (λ k. nameStart more k) e ∙ ap (λ l. length (encodeNames l)) (take-append-seam names (x ∷ [])))
       go i l (no e) =
           let u : i < length names = omega (arith, counts) in
           getD-set-other starts (length names) i at 0 e ∙ ix .placed .start i u
@@ -186,8 +186,8 @@ module _ (n : ℕ) {bytes starts heads next : List ℕ} (ix : Indexed (decodeNam
     found-filled : r ≡ found x (decodeNames n bytes)
     found-filled = is ∙ ap (λ m. found x (decodeNames m bytes)) length-filled
 
-    pub found-new : r ≡ Missing → true ≡ new? x (decodeNames n bytes)
-    found-new e = sym (is-true (new? x (decodeNames n bytes)) (not-seen x (decodeNames n bytes) .1 (missing-differs x 0 (decodeNames n bytes) (sym found-filled ∙ e))))
+    pub found-new : r ≡ Missing → true ≡ not (among (decodeNames n bytes) x)
+    found-new e = sym (is-true (not (among (decodeNames n bytes) x)) (not-seen x (decodeNames n bytes) .1 (missing-differs x 0 (decodeNames n bytes) (sym found-filled ∙ e))))
 
-    pub found-old : {j : ℕ} → r ≡ At j → false ≡ new? x (decodeNames n bytes)
-    found-old e = sym (is-false (new? x (decodeNames n bytes)) (λ t. T-not-out (some (sameBytes x) (decodeNames n bytes)) t (found-among x 0 (decodeNames n bytes) (sym found-filled ∙ e))))
+    pub found-old : {j : ℕ} → r ≡ At j → false ≡ not (among (decodeNames n bytes) x)
+    found-old e = sym (is-false (not (among (decodeNames n bytes) x)) (λ t. T-not-out (some (sameBytes x) (decodeNames n bytes)) t (found-among x 0 (decodeNames n bytes) (sym found-filled ∙ e))))

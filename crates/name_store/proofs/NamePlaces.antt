@@ -10,7 +10,7 @@ use Rattle.name_store.specs.NameStore.{nameBytes, encodeNames, decodeNam
 use lib.Dec.{leb}
 use mathlib.Core.Bool.{true, false}
 use borrow.Author.Tests.{le-leb, lt-leb}
-use Rattle.name_store.specs.NameIndex.{place, Placed, nameEnd}
+use Rattle.name_store.specs.NameIndex.{nameStart, Placed, nameEnd}
 use Rattle.name_store.specs.declared.index.Found.the-variants.{At, Missing}
 
 pub length-decode : (n : ℕ) (bs : List ℕ) → length (decodeNames n bs) ≡ n
@@ -38,14 +38,14 @@ stands bytes p x rest e =
     }
 
 drop-place : (names : List (List ℕ)) (rest : List ℕ) (i : ℕ) → i < length names
-    → drop (place names i) (encodeNames names ++ rest) ≡ nameBytes (getD names i []) ++ (encodeNames (drop (suc i) names) ++ rest)
+    → drop (nameStart names i) (encodeNames names ++ rest) ≡ nameBytes (getD names i []) ++ (encodeNames (drop (suc i) names) ++ rest)
 unfolding encodeNames
 drop-place [] rest i l = absurd (omega arith)
 drop-place (x ∷ names) rest zero l = append-assoc (nameBytes x) (encodeNames names) rest
 drop-place (x ∷ names) rest (suc i) l =
-    let size : place (x ∷ names) (suc i) ≡ length (nameBytes x) + place names i = length-append (nameBytes x) (encodeNames (take i names)) in
+    let size : nameStart (x ∷ names) (suc i) ≡ length (nameBytes x) + nameStart names i = length-append (nameBytes x) (encodeNames (take i names)) in
     ap₂ drop size (append-assoc (nameBytes x) (encodeNames names) rest)
-    ∙ drop-append-add (nameBytes x) (encodeNames names ++ rest) (place names i)
+    ∙ drop-append-add (nameBytes x) (encodeNames names ++ rest) (nameStart names i)
     ∙ drop-place names rest i (omega arith)
 
 pub placed-here : {names : List (List ℕ)} {bytes starts : List ℕ} → Placed names bytes starts → (i : ℕ) → i < length names → NameHere bytes (getD starts i 0) (getD names i [])

@@ -16,7 +16,7 @@ use Rattle.rules.proofs.Booleans.{T-and, T-and-l, T-and-r, T-or, T-or-out, T-of
 use Rattle.rules.proofs.Lists.{all-app, all-app-l, all-app-r, all-imp}
 use Rattle.names.specs.declared.forms.NameClass.{NameClass}
 use Rattle.names.specs.declared.forms.NameClass.the-variants.{House, Generated, TooLong, Wrong}
-use Rattle.names.specs.Names.{house?, classNumber?, digit?, sized, dotted, generated, nameClass, takes, allowed}
+use Rattle.names.specs.Names.{house?, classNumber?, digit?, byLength, dotted, generated, nameClass, takes, allowed}
 use Rattle.name_store.specs.NameStore.{nameBytes, encodeNames, NamesForm, NamesOf, firstName, decodeNames, sameBytes, namesFrom?, names?}
 
 -- the test of two names is equality
@@ -58,7 +58,7 @@ module _ (kind : Kind) where
       go Plain h = h
       go Preference h = h
 
-  sized-short : (bs : List ℕ) (c : NameClass) → T (takes kind (sized bs c)) → length bs ≤ 16
+  sized-short : (bs : List ℕ) (c : NameClass) → T (takes kind (byLength bs c)) → length bs ≤ 16
   sized-short bs c h = picked (leb (length bs) 16) c TooLong (λ t k. leb→le (length bs) 16 t) (λ k. absurd (no-long k)) h
 
   number-short : (bs : List ℕ) → T (classNumber? bs) → length bs ≤ 2
@@ -74,7 +74,7 @@ module _ (kind : Kind) where
 
   dotted-short : (c : ℕ) (bs : List ℕ) → T (takes kind (dotted c bs)) → length bs ≤ 16
   dotted-short c bs h =
-      picked ((eqb c 78 || (eqb c 83 || eqb c 68)) && house? bs) (sized bs Generated) (cond (eqb c 69 && classNumber? bs) Generated Wrong)
+      picked ((eqb c 78 || (eqb c 83 || eqb c 68)) && house? bs) (byLength bs Generated) (cond (eqb c 69 && classNumber? bs) Generated Wrong)
       (λ t k. sized-short bs Generated k)
       (picked (eqb c 69 && classNumber? bs) Generated Wrong
       (λ t k. omega (arith, number-short bs (T-and-r (eqb c 69) (classNumber? bs) t)))
@@ -84,7 +84,7 @@ module _ (kind : Kind) where
   class-short : (bs : List ℕ) → T (takes kind (nameClass bs)) → length bs ≤ 18
   unfolding nameClass
   class-short bs h =
-      picked (house? bs) (sized bs House) (generated bs)
+      picked (house? bs) (byLength bs House) (generated bs)
       (λ t k. omega (arith, sized-short bs House k))
       (picked (eqb (length bs) 1 && eqb (getD bs 0 0) 85) Generated (cond (leb 2 (length bs) && eqb (getD bs 1 0) 46) (dotted (getD bs 0 0) (drop 2 bs)) Wrong)
       (λ t k. omega (arith, eqb→eq (length bs) 1 (T-and-l (eqb (length bs) 1) (eqb (getD bs 0 0) 85) t)))

@@ -18,10 +18,6 @@ foundFrom i x (y ∷ names) = cond (sameBytes y x) (At i) (foundFrom (suc i) x n
 abbrev pub found : List ℕ → List (List ℕ) → Found
 found x names = foundFrom 0 x names
 
--- x is none of the names
-abbrev pub new? : List ℕ → List (List ℕ) → Bool
-new? x names = not (some (sameBytes x) names)
-
 -- the end of the name whose length byte stands at that place, if it is inside the bytes
 unfoldable pub nameEnd : List ℕ → ℕ → Found
 nameEnd bs p = cond (leb 1 (length (drop p bs)) && leb (1 + getD (drop p bs) 0 0) (length (drop p bs))) (At (p + 1 + getD bs p 0)) Missing
@@ -46,14 +42,14 @@ lastWith f h zero = 0
 lastWith f h (suc i) = cond (eqb (f i) h) (suc i) (lastWith f h i)
 
 -- the place of atom i's length byte
-abbrev pub place : List (List ℕ) → ℕ → ℕ
-place names i = length (encodeNames (take i names))
+abbrev pub nameStart : List (List ℕ) → ℕ → ℕ
+nameStart names i = length (encodeNames (take i names))
 
 -- the bytes begin with the store of these names, and `starts` has the place of each
 pub record Placed (names : List (List ℕ)) (bytes starts : List ℕ) : Type 0 where
   pub stored : encodeNames names ++ drop (length (encodeNames names)) bytes ≡ bytes
   pub room : length names ≤ length starts
-  pub start : (i : ℕ) → i < length names → getD starts i 0 ≡ place names i
+  pub start : (i : ℕ) → i < length names → getD starts i 0 ≡ nameStart names i
 
 -- `heads` has for each hash the last atom with it, `next` for each atom the one before with its hash, each plus one
 pub record Indexed (names : List (List ℕ)) (bytes starts heads next : List ℕ) : Type 0 where

@@ -43,13 +43,17 @@ sameBytes [] (y ∷ ys) = false
 sameBytes (x ∷ xs) [] = false
 sameBytes (x ∷ xs) (y ∷ ys) = eqb x y && sameBytes xs ys
 
+-- the name is among the names
+abbrev pub among : List (List ℕ) → List ℕ → Bool
+among names x = some (sameBytes x) names
+
 -- n names follow, none of them among those seen before
 unfoldable pub namesFrom? : Kind → List (List ℕ) → ℕ → List ℕ → Bool
 namesFrom? kind seen zero bs = empty? bs
 namesFrom? kind seen (suc n) bs =
     (leb 1 (length bs) && leb (1 + getD bs 0 0) (length bs))
     && (allowed kind (firstName bs)
-    && (not (some (sameBytes (firstName bs)) seen)
+    && (not (among seen (firstName bs))
     && namesFrom? kind (seen ++ (firstName bs ∷ [])) n (drop (1 + getD bs 0 0) bs)))
 
 unfoldable pub names? : Kind → ℕ → List ℕ → Bool

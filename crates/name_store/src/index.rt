@@ -1,11 +1,11 @@
 // The index of a name store: an atom's name by its number, and its number by the name.
-ghost use mathlib.Core.Bool.{cond};
+ghost use mathlib.Core.Bool.{cond, not};
 ghost use mathlib.Core.Path.{_≡_};
 ghost use Prim.Native.Nat.{_+_, _*_, _%_, _≤_, _<_};
 ghost use mathlib.Core.List.{[]};
 ghost use lib.ListN.{length, getD, set};
-ghost use Rattle.name_store.specs.NameStore.{decodeNames, sameBytes};
-ghost use Rattle.name_store.specs.NameIndex.{found, new?, nameEnd, nameHash, buckets, Placed, Indexed};
+ghost use Rattle.name_store.specs.NameStore.{decodeNames, sameBytes, among};
+ghost use Rattle.name_store.specs.NameIndex.{found, nameEnd, nameHash, buckets, Placed, Indexed};
 
 // The values of the hash.
 pub const BUCKETS: usize = 4096;
@@ -142,7 +142,7 @@ pub fn enter_new(
 ) -> bool
     requires { ⌜ Indexed (decodeNames atom (now bytes)) (now bytes) (now starts) (now heads) (now next) ⌝ }
     requires { ⌜ (atom < length (now starts)) × (atom < length (now next)) × (atom + 1 < 65536) × (at < 65536) ⌝ }
-    ensures { λ r. ⌜ r ≡ new? (now (name .entry)) (decodeNames atom (now (bytes .entry))) ⌝ }
+    ensures { λ r. ⌜ r ≡ not (among (decodeNames atom (now (bytes .entry))) (now (name .entry))) ⌝ }
     ensures { λ r. ⌜ now (starts .exit) ≡ cond r (set (now (starts .entry)) atom at) (now (starts .entry)) ⌝ }
     ensures { λ r. ⌜ now (heads .exit) ≡ cond r (set (now (heads .entry)) (nameHash (now (name .entry))) (atom + 1)) (now (heads .entry)) ⌝ }
     ensures { λ r. ⌜ now (next .exit) ≡ cond r (set (now (next .entry)) atom (getD (now (heads .entry)) (nameHash (now (name .entry))) 0)) (now (next .entry)) ⌝ }

@@ -13,7 +13,7 @@ use borrow.Author.Tests.{le-leb, lt-leb, ne-eqb}
 use Rattle.kinds.specs.declared.limits.Kind.{Kind}
 use Rattle.kinds.specs.declared.limits.Kind.the-variants.{Plain, Preference}
 use Rattle.rules.specs.Lists.{every}
-use Rattle.names.specs.Names.{letter?, digit?, nameByte?, house?, classNumber?, sized, dotted, generated, nameClass, takes}
+use Rattle.names.specs.Names.{letter?, digit?, nameByte?, house?, classNumber?, byLength, dotted, generated, nameClass, takes}
 use Rattle.names.specs.declared.forms.NameClass.{NameClass}
 use Rattle.names.specs.declared.forms.NameClass.the-variants.{House, Generated, TooLong, Wrong}
 
@@ -85,7 +85,7 @@ number-none bs a b = simp (ne-eqb _ _ a, ne-eqb _ _ b)
 abbrev pub Copy : ℕ → Type 0
 Copy c = (c ≡ 68) ⊎ ((c ≡ 78) ⊎ (c ≡ 83))
 
-pub dotted-copy : (c : ℕ) (bs : List ℕ) {r : Bool} → Copy c → r ≡ house? bs → r ≡ true → sized bs Generated ≡ dotted c bs
+pub dotted-copy : (c : ℕ) (bs : List ℕ) {r : Bool} → Copy c → r ≡ house? bs → r ≡ true → byLength bs Generated ≡ dotted c bs
 dotted-copy c bs (inl e) f g = simp (e, sym f ∙ g)
 dotted-copy c bs (inr (inl e)) f g = simp (e, sym f ∙ g)
 dotted-copy c bs (inr (inr e)) f g = simp (e, sym f ∙ g)
@@ -124,7 +124,7 @@ module _ (bs : List ℕ) (some : length bs ≡ 0 → ⊥) (more : length bs ≡ 
   pub generated-plain : (getD bs 1 0 ≡ 46 → ⊥) → Wrong ≡ generated bs
   generated-plain e = simp (ne-eqb _ _ more, two, ne-eqb _ _ e)
 
-pub class-house : (bs : List ℕ) {r : Bool} → r ≡ house? bs → r ≡ true → sized bs House ≡ nameClass bs
+pub class-house : (bs : List ℕ) {r : Bool} → r ≡ house? bs → r ≡ true → byLength bs House ≡ nameClass bs
 unfolding nameClass
 class-house bs f g = simp (sym f ∙ g)
 

@@ -34,13 +34,13 @@ classNumber? bs =
     || (eqb (length bs) 2 && (eqb (getD bs 0 0) 49 && (leb 48 (getD bs 1 0) && leb (getD bs 1 0) 54)))
 
 -- a name of the house form, by its length
-abbrev pub sized : List ℕ → NameClass → NameClass
-sized bs c = cond (leb (length bs) nameLimit) c TooLong
+abbrev pub byLength : List ℕ → NameClass → NameClass
+byLength bs c = cond (leb (length bs) nameLimit) c TooLong
 
 -- `N.`, `S.` or `D.` before a house name, `E.` before a class number
 abbrev pub dotted : ℕ → List ℕ → NameClass
 dotted c bs =
-    cond ((eqb c 78 || (eqb c 83 || eqb c 68)) && house? bs) (sized bs Generated)
+    cond ((eqb c 78 || (eqb c 83 || eqb c 68)) && house? bs) (byLength bs Generated)
     (cond (eqb c 69 && classNumber? bs) Generated Wrong)
 
 -- `U`, or one of the dotted names
@@ -50,7 +50,7 @@ generated bs =
     (cond (leb 2 (length bs) && eqb (getD bs 1 0) 46) (dotted (getD bs 0 0) (drop 2 bs)) Wrong)
 
 unfoldable pub nameClass : List ℕ → NameClass
-nameClass bs = cond (house? bs) (sized bs House) (generated bs)
+nameClass bs = cond (house? bs) (byLength bs House) (generated bs)
 
 abbrev pub takes : Kind → NameClass → Bool
 takes Plain House = true

@@ -2,7 +2,7 @@
 use kinds::limits::Kind;
 ghost use mathlib.Core.Path.{_≡_};
 ghost use Rattle.rules.specs.Lists.{every};
-ghost use Rattle.names.specs.Names.{letter?, digit?, nameByte?, house?, classNumber?, sized, dotted, generated, nameClass, takes};
+ghost use Rattle.names.specs.Names.{letter?, digit?, nameByte?, house?, classNumber?, byLength, dotted, generated, nameClass, takes};
 
 pub enum NameClass {
     // A house name.
@@ -82,7 +82,7 @@ pub fn class_number(bytes: &[u8]) -> bool
 
 // A name of the house form, by its length.
 pub fn sized_class(bytes: &[u8], class: NameClass) -> NameClass
-    ensures { λ r. ⌜ r ≡ sized (now (bytes .entry)) class ⌝ }
+    ensures { λ r. ⌜ r ≡ byLength (now (bytes .entry)) class ⌝ }
 {
     if bytes.len() <= Kind::NAME {
         class

@@ -9,7 +9,7 @@ use Rattle.kinds.specs.Limits.{atomLimit, longestName}
 use Rattle.kinds.specs.declared.limits.Kind.the-variants.{Plain}
 use Rattle.rules.specs.Lists.{some}
 use Rattle.rules.proofs.Booleans.{or-assoc, or-false}
-use Rattle.name_store.specs.NameStore.{nameBytes, encodeNames, decodeNames, sameBytes}
+use Rattle.name_store.specs.NameStore.{nameBytes, encodeNames, decodeNames, sameBytes, among}
 use Rattle.name_store.specs.NameIndex.{found, Indexed}
 use Rattle.name_store.specs.declared.index.Found.{Found}
 use Rattle.name_store.specs.declared.index.Found.the-variants as Found
@@ -19,7 +19,7 @@ use Rattle.lines.specs.declared.scan.Item.the-variants.{At, Stop}
 use Rattle.lines.specs.Items.{items}
 use Rattle.lines.specs.Faults.{twice}
 use Rattle.lines.specs.Shapes.{itemOf}
-use Rattle.numbering.specs.Entries.{EntryRoom, EntrySays, EntryIs, Room, Stored, Short, AllEntered, SomeEntered, among}
+use Rattle.numbering.specs.Entries.{EntryRoom, EntrySays, EntryIs, Room, Stored, Short, AllEntered, SomeEntered}
 use Rattle.lines.proofs.Scanning.{items-end, item-fits, item, later, item-is, item-length}
 use Rattle.numbering.proofs.NameNumbers.{named, unnamed}
 use Rattle.numbering.proofs.NewNames.{decoded}

@@ -9,13 +9,13 @@ use borrow.Author.Fill.{fill-none, fill-more}
 use Rattle.kinds.specs.Limits.{longestName}
 use Rattle.rules.specs.Lists.{All, some}
 use Rattle.rules.proofs.Lists.{all-app-r}
-use Rattle.name_store.specs.NameStore.{encodeNames, decodeNames}
+use Rattle.name_store.specs.NameStore.{encodeNames, decodeNames, among}
 use Rattle.name_store.specs.NameIndex.{buckets, lastWith, Indexed}
 use Rattle.numbering.specs.declared.entries.Entered.{Entered}
 use Rattle.numbering.specs.declared.entries.Entered.the-variants as Answer
 use Rattle.lines.specs.Items.{items}
 use Rattle.lines.specs.Faults.{twice}
-use Rattle.numbering.specs.Entries.{Room, Stored, Short, AllEntered, SomeEntered, EnteredSays, EnteredIs, among}
+use Rattle.numbering.specs.Entries.{Room, Stored, Short, AllEntered, SomeEntered, EnteredSays, EnteredIs}
 use Rattle.numbering.proofs.Entering.{twice-split, twice-apart}
 use Rattle.numbering.proofs.NewNames.{decoded}
 

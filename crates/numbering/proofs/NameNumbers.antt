@@ -13,9 +13,9 @@ use Rattle.rules.proofs.Booleans.{bool-ext, eq→eqb, or-assoc, or-true, or-fal
 use Rattle.rules.proofs.Lists.{all-app}
 use Rattle.name_store.specs.declared.index.Found.{Found}
 use Rattle.name_store.specs.declared.index.Found.the-variants as Found
-use Rattle.name_store.specs.NameStore.{sameBytes}
+use Rattle.name_store.specs.NameStore.{sameBytes, among}
 use Rattle.name_store.specs.NameIndex.{foundFrom, found}
-use Rattle.stores.specs.RuleStore.{Below}
+use Rattle.stores.specs.Checking.{Below}
 use Rattle.name_store.proofs.NameStores.{same-law}
 use Rattle.output.specs.Emitted.{Emitted, InRange}
 use Rattle.output.proofs.Emitting.{none, then, renamed}
@@ -23,9 +23,8 @@ use Rattle.stores.proofs.Marks.{set-below, set-marks}
 use Rattle.lines.specs.declared.scan.Item.{Item}
 use Rattle.lines.specs.declared.scan.Item.the-variants.{At, Stop}
 use Rattle.lines.specs.Items.{items}
-use Rattle.lines.specs.Faults.{twice, numberOf}
+use Rattle.lines.specs.Faults.{twice, nameNumber}
 use Rattle.lines.specs.Shapes.{itemOf}
-use Rattle.numbering.specs.Entries.{among}
 use Rattle.numbering.specs.Numbers.{Numbered}
 use Rattle.lines.proofs.Scanning.{items-end, item-fits, item, later, item-is}
 
@@ -35,22 +34,22 @@ same-sym x y = bool-ext (sameBytes x y) (sameBytes y x) (λ h. same-law y x .1 (
 -- x is the name of atom j
 pub record Named (names : List (List ℕ)) (x : List ℕ) (j : ℕ) : Type 0 where
   pub declared : among names x ≡ true
-  pub number : numberOf names x ≡ j
+  pub number : nameNumber names x ≡ j
   pub below : j < length names
 
-named-from : (i : ℕ) (x : List ℕ) (names : List (List ℕ)) {j : ℕ} → foundFrom i x names ≡ Found.At j → (among names x ≡ true) × (i + numberOf names x ≡ j) × (numberOf names x < length names)
-unfolding foundFrom numberOf
+named-from : (i : ℕ) (x : List ℕ) (names : List (List ℕ)) {j : ℕ} → foundFrom i x names ≡ Found.At j → (among names x ≡ true) × (i + nameNumber names x ≡ j) × (nameNumber names x < length names)
+unfolding foundFrom nameNumber
 named-from i x [] e = absurd (let z : _≡_ {A = ℕ} 0 1 = cc in omega arith)
 named-from i x (y ∷ ys) {j} e = go (sameBytes y x) (same-sym x y) e (λ (k : foundFrom (suc i) x ys ≡ Found.At j). named-from (suc i) x ys k)
   where
     go : (b : Bool) → sameBytes x y ≡ b → cond b (Found.At i) (foundFrom (suc i) x ys) ≡ Found.At j
-        → (foundFrom (suc i) x ys ≡ Found.At j → (among ys x ≡ true) × (suc i + numberOf ys x ≡ j) × (numberOf ys x < length ys))
-        → ((sameBytes x y || among ys x) ≡ true) × (i + cond (sameBytes x y) 0 (suc (numberOf ys x)) ≡ j) × (cond (sameBytes x y) 0 (suc (numberOf ys x)) < suc (length ys))
+        → (foundFrom (suc i) x ys ≡ Found.At j → (among ys x ≡ true) × (suc i + nameNumber ys x ≡ j) × (nameNumber ys x < length ys))
+        → ((sameBytes x y || among ys x) ≡ true) × (i + cond (sameBytes x y) 0 (suc (nameNumber ys x)) ≡ j) × (cond (sameBytes x y) 0 (suc (nameNumber ys x)) < suc (length ys))
     go true t e r = let s : i ≡ j = cc in rw t (refl, omega arith, omega arith)
     go false t e r = let k = r e in rw t (k .0, omega (arith, k .1), omega (arith, k .2))
 
 pub named : (x : List ℕ) (names : List (List ℕ)) {r : Found} {j : ℕ} → r ≡ found x names → r ≡ Found.At j → Named names x j
-named x names e d = let k = named-from 0 x names (sym e ∙ d) in record { declared = k .0; number = sym (zero-add (numberOf names x)) ∙ k .1; below = omega (arith, k .1, k .2) }
+named x names e d = let k = named-from 0 x names (sym e ∙ d) in record { declared = k .0; number = sym (zero-add (nameNumber names x)) ∙ k .1; below = omega (arith, k .1, k .2) }
 
 unnamed-from : (i : ℕ) (x : List ℕ) (names : List (List ℕ)) → foundFrom i x names ≡ Found.Missing → among names x ≡ false
 unfolding foundFrom
@@ -66,26 +65,26 @@ unnamed x names e d = unnamed-from 0 x names (sym e ∙ d)
 
 -- declared names are equal exactly when their numbers are
 
-name-of : (names : List (List ℕ)) (x : List ℕ) → among names x ≡ true → getD names (numberOf names x) [] ≡ x
-unfolding numberOf
+name-of : (names : List (List ℕ)) (x : List ℕ) → among names x ≡ true → getD names (nameNumber names x) [] ≡ x
+unfolding nameNumber
 name-of [] x e = absurd (let z : _≡_ {A = ℕ} 0 1 = cc in omega arith)
 name-of (y ∷ ys) x e = go (sameBytes x y) refl e (name-of ys x)
   where
-    go : (b : Bool) → sameBytes x y ≡ b → (b || among ys x) ≡ true → (among ys x ≡ true → getD ys (numberOf ys x) [] ≡ x) → getD (y ∷ ys) (cond b 0 (suc (numberOf ys x))) [] ≡ x
+    go : (b : Bool) → sameBytes x y ≡ b → (b || among ys x) ≡ true → (among ys x ≡ true → getD ys (nameNumber ys x) [] ≡ x) → getD (y ∷ ys) (cond b 0 (suc (nameNumber ys x))) [] ≡ x
     go true t e r = sym (same-law x y .0 (subst T (sym t) tt))
     go false t e r = r e
 
-same-number : (names : List (List ℕ)) (x y : List ℕ) → among names x ≡ true → among names y ≡ true → sameBytes x y ≡ eqb (numberOf names x) (numberOf names y)
+same-number : (names : List (List ℕ)) (x y : List ℕ) → among names x ≡ true → among names y ≡ true → sameBytes x y ≡ eqb (nameNumber names x) (nameNumber names y)
 same-number names x y p q =
-    bool-ext (sameBytes x y) (eqb (numberOf names x) (numberOf names y))
-    (λ h. eq→eqb (numberOf names x) (numberOf names y) (ap (numberOf names) (same-law x y .0 h)))
-    (λ h. same-law x y .1 (sym (name-of names x p) ∙ ap (λ (k : ℕ). getD names k []) (eqb→eq (numberOf names x) (numberOf names y) h) ∙ name-of names y q))
+    bool-ext (sameBytes x y) (eqb (nameNumber names x) (nameNumber names y))
+    (λ h. eq→eqb (nameNumber names x) (nameNumber names y) (ap (nameNumber names) (same-law x y .0 h)))
+    (λ h. same-law x y .1 (sym (name-of names x p) ∙ ap (λ (k : ℕ). getD names k []) (eqb→eq (nameNumber names x) (nameNumber names y) h) ∙ name-of names y q))
 
 abbrev Declared : List (List ℕ) → List (List ℕ) → Type 0
 Declared names xs = All (λ y. among names y ≡ true) xs
 
 -- x stood before exactly when its number did
-stood : (names : List (List ℕ)) (x : List ℕ) → among names x ≡ true → (seen : List (List ℕ)) → Declared names seen → among seen x ≡ some (λ y. eqb (numberOf names x) (numberOf names y)) seen
+stood : (names : List (List ℕ)) (x : List ℕ) → among names x ≡ true → (seen : List (List ℕ)) → Declared names seen → among seen x ≡ some (λ y. eqb (nameNumber names x) (nameNumber names y)) seen
 stood names x p [] d = refl
 stood names x p (y ∷ seen) d = ap₂ _||_ (same-number names x y p (d .0)) (stood names x p seen (d .1))
 
@@ -121,10 +120,10 @@ pub record Numbering (names : List (List ℕ)) (s : List ℕ) (from stamp : ℕ)
   pub known : Declared names seen
   pub all : seen ++ items (drop i s) ≡ items (drop from s)
   pub is-twice : (flag || twice seen (items (drop i s))) ≡ twice [] (items (drop from s))
-  pub marked : (a : ℕ) → eqb (getD marks a 0) stamp ≡ some (λ y. eqb a (numberOf names y)) seen
+  pub marked : (a : ℕ) → eqb (getD marks a 0) stamp ≡ some (λ y. eqb a (nameNumber names y)) seen
   pub below : Below (stamp + 1) marks
   pub room : length names ≤ length marks
-  pub written : Emitted before at (map (numberOf names) seen) now end
+  pub written : Emitted before at (map (nameNumber names) seen) now end
 
 pub numbering : (names : List (List ℕ)) (s : List ℕ) (from stamp : ℕ) (before : List ℕ) (at : ℕ) (marks : List ℕ) → from ≤ length s → length names ≤ length marks → at + length s < 2 ^ 63 → Below stamp marks → Numbering names s from stamp before at from at false marks before
 numbering names s from stamp before at marks i r h b =
@@ -151,7 +150,7 @@ module _ {names : List (List ℕ)} {s : List ℕ} {from stamp : ℕ} {before : L
       record {
         declared = ap (some (λ x. not (among names x))) (sym whole) ∙ all-declared names (h .seen) (h .known);
         is-twice = sym (or-false flag) ∙ ap (λ l. flag || twice (h .seen) l) (sym out) ∙ h .is-twice;
-        written = renamed (h .written) (ap (map (numberOf names)) whole);
+        written = renamed (h .written) (ap (map (nameNumber names)) whole);
         below = h .below;
       }
 
@@ -180,13 +179,13 @@ module _ {names : List (List ℕ)} {s : List ℕ} {from stamp : ℕ} {before : L
         atom-marked = omega (arith, known-name .below, h .room)
 
         pub word-range : (w : ℕ) → InRange end (w ∷ [])
-        word-range w = record { below = omega (arith, h .range, h .written .place, length-map (h .seen) (numberOf names), h .few, number-inside) }
+        word-range w = record { below = omega (arith, h .range, h .written .place, length-map (h .seen) (nameNumber names), h .few, number-inside) }
 
         module _ {had : Bool} {marks′ : List ℕ} (m : had ≡ eqb (getD marks j 0) stamp) (t : marks′ ≡ set marks j stamp) {now′ : List ℕ} {end′ : ℕ} (w : Emitted now end (j ∷ []) now′ end′) where
           before? : some (sameBytes x) (h .seen) ≡ had
           before? =
               stood names x (known-name .declared) (h .seen) (h .known)
-              ∙ ap (λ k. some (λ y. eqb k (numberOf names y)) (h .seen)) (known-name .number)
+              ∙ ap (λ k. some (λ y. eqb k (nameNumber names y)) (h .seen)) (known-name .number)
               ∙ sym (h .marked j)
               ∙ sym m
 
@@ -207,10 +206,10 @@ module _ {names : List (List ℕ)} {s : List ℕ} {from stamp : ℕ} {before : L
                     ∙ h .is-twice;
                 marked = λ a. ap (λ l. eqb (getD l a 0) stamp) t ∙ set-marks marks j stamp atom-marked a
                     ∙ ap₂ (λ (k : ℕ) (b : Bool). eqb a k || b) (sym (known-name .number)) (h .marked a)
-                    ∙ sym (some-last (λ y. eqb a (numberOf names y)) (h .seen) x);
+                    ∙ sym (some-last (λ y. eqb a (nameNumber names y)) (h .seen) x);
                 below = subst (Below (stamp + 1)) (sym t) (set-below marks j stamp atom-marked (h .below));
                 room = omega (arith, h .room, ap length t ∙ length-set marks j stamp);
-                written = renamed (then (h .written) w) (ap (λ k. map (numberOf names) (h .seen) ++ (k ∷ [])) (sym (known-name .number)) ∙ sym (map-last (numberOf names) (h .seen) x));
+                written = renamed (then (h .written) w) (ap (λ k. map (nameNumber names) (h .seen) ++ (k ∷ [])) (sym (known-name .number)) ∙ sym (map-last (nameNumber names) (h .seen) x));
               }
 
           pub number-again : had ≡ true → {flag′ : Bool} → flag′ ≡ true → Numbering names s from stamp before at (i + 1 + n) end′ flag′ marks′ now′

@@ -9,12 +9,12 @@ use lib.Dec.{T}
 use lib.ListN.{length, getD, drop, set, length-drop}
 use lib.Seq.{sets, drop-append-seam}
 use Rattle.rules.specs.Lists.{All}
-use Rattle.name_store.specs.NameStore.{nameBytes, encodeNames, decodeNames}
+use Rattle.name_store.specs.NameStore.{nameBytes, encodeNames, decodeNames, among}
 use Rattle.name_store.specs.NameIndex.{nameHash, Indexed}
 use Rattle.name_store.proofs.NameStores.{decode-front, not-seen}
 use Rattle.name_store.proofs.NameEntries.{entered}
 use Rattle.output.specs.Emitted.{Emitted, InRange}
-use Rattle.numbering.specs.Entries.{among, EntryRoom, EntrySays, EntryIs}
+use Rattle.numbering.specs.Entries.{EntryRoom, EntrySays, EntryIs}
 use Rattle.output.proofs.Emitting.{sets-seam}
 
 -- the names of an index are those of its bytes

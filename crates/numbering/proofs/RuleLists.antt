@@ -9,10 +9,10 @@ use Rattle.rules.specs.Lists.{some}
 use Rattle.rules.proofs.Booleans.{or-true}
 use Rattle.output.proofs.Emitting.{then}
 use Rattle.lines.specs.Items.{items}
-use Rattle.lines.specs.Faults.{numberOf, anyOf}
+use Rattle.lines.specs.Faults.{nameNumber, anyOf}
 use Rattle.numbering.specs.declared.numbers.Numbers.{Numbers}
 use Rattle.numbering.specs.declared.numbers.Numbers.the-variants as Answer
-use Rattle.numbering.specs.Entries.{among}
+use Rattle.name_store.specs.NameStore.{among}
 use Rattle.numbering.specs.Numbers.{Numbered, NumbersSay, NumbersIs, RuleNumbered}
 use Rattle.lines.proofs.Scanning.{items-few}
 
@@ -47,4 +47,4 @@ module _ {names xs : List (List ℕ)} {stamp : ℕ} {before : List ℕ} {at : �
 
 -- the place after a list is a number that the code can hold
 pub list-end : (s : List ℕ) (from : ℕ) {names : List (List ℕ)} {stamp at : ℕ} {d d₁ m : List ℕ} {end : ℕ} {t : Bool} → Numbered names (items (drop from s)) stamp d at m d₁ end t → end ≤ at + length s
-list-end s from {names} h = omega (arith, h .written .place, length-map (items (drop from s)) (numberOf names), items-few s from)
+list-end s from {names} h = omega (arith, h .written .place, length-map (items (drop from s)) (nameNumber names), items-few s from)

@@ -7,16 +7,12 @@ use lib.ListN.{length, drop}
 use Rattle.kinds.specs.Limits.{atomLimit, longestName, longestEntry, storeBytes}
 use Rattle.kinds.specs.declared.limits.Kind.the-variants.{Plain}
 use Rattle.rules.specs.Lists.{All, some}
-use Rattle.name_store.specs.NameStore.{encodeNames, sameBytes}
+use Rattle.name_store.specs.NameStore.{encodeNames, sameBytes, among}
 use Rattle.name_store.specs.NameIndex.{Indexed}
 use Rattle.numbering.specs.declared.entries.Entered.{Entered}
 use Rattle.numbering.specs.declared.entries.Entered.the-variants as Answer
 use Rattle.lines.specs.Items.{items}
 use Rattle.lines.specs.Faults.{twice}
-
--- the name is among the names
-abbrev pub among : List (List ℕ) → List ℕ → Bool
-among names x = some (sameBytes x) names
 
 -- there is room for one name more
 pub record EntryRoom (names : List (List ℕ)) (x bytes starts links : List ℕ) (atom at : ℕ) : Type 0 where

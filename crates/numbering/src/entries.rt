@@ -10,13 +10,13 @@ ghost use mathlib.Core.Path.{_≡_};
 ghost use Prim.Native.Nat.{_≤_, _<_};
 ghost use mathlib.Core.List.{[]};
 ghost use lib.ListN.{length, drop, replicate};
-ghost use Rattle.name_store.specs.NameStore.{nameBytes, decodeNames};
+ghost use Rattle.name_store.specs.NameStore.{nameBytes, decodeNames, among};
 ghost use Rattle.name_store.specs.NameIndex.{Indexed, buckets};
 ghost use Rattle.output.specs.Emitted.{Emitted, InRange};
 ghost use Rattle.rules.specs.Lists.{some};
 ghost use Rattle.lines.specs.Items.{items};
 ghost use Rattle.lines.specs.Faults.{twice};
-ghost use Rattle.numbering.specs.Entries.{EntryRoom, EntryIs, Room, Stored, Short, EnteredIs, among};
+ghost use Rattle.numbering.specs.Entries.{EntryRoom, EntryIs, Room, Stored, Short, EnteredIs};
 
 // What entering the names of a line gives: all are entered; or those before `at`, where the store is full; or a name stands twice.
 pub enum Entered {

@@ -12,7 +12,7 @@ ghost use lib.Dec.{eqb};
 ghost use lib.ListN.{length, getD, drop, set};
 ghost use Rattle.name_store.specs.NameStore.{decodeNames};
 ghost use Rattle.name_store.specs.NameIndex.{Indexed};
-ghost use Rattle.stores.specs.RuleStore.{Below};
+ghost use Rattle.stores.specs.Checking.{Below};
 ghost use Rattle.lines.specs.Items.{items};
 ghost use Rattle.numbering.specs.Numbers.{NumbersIs, RuleNumbersIs};
 

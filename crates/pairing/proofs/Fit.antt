@@ -7,15 +7,14 @@ use mathlib.Core.List.{List, [], _∷_}
 use mathlib.Core.Logic.{_⊎_, inl, inr}
 use lib.Dec.{T, eqb→eq}
 use lib.ListN.{length, getD}
-use Rattle.kinds.specs.Limits.{atomLimit, ruleLimit, occurrenceLimit, classLimit}
+use Rattle.kinds.specs.Limits.{atomLimit, ruleLimit, occurrenceLimit, classLimit, varying, fixed}
 use Rattle.kinds.specs.declared.limits.Kind.{Kind}
 use Rattle.kinds.specs.declared.limits.Kind.the-variants.{Preference}
 use Rattle.rules.specs.Lists.{All, Distinct, sum}
 use Rattle.rules.specs.Rules.{Rule, occurrences}
-use Rattle.rules.specs.Preferred.{varying, fixed}
 use Rattle.rules.proofs.Booleans.{decide, T-not-in}
 use Rattle.rules.proofs.Lists.{all-imp, all-at}
-use Rattle.stores.specs.Program.{Program, Form, ClassesForm, RuleForm, RoleForm, Rising, roleOf}
+use Rattle.stores.specs.Program.{Program, ProgramForm, ClassesForm, RuleForm, RoleForm, NeverFalling, roleOf}
 use Rattle.stores.proofs.ClassWord.{minimised, below, above}
 use Rattle.stores.proofs.RuleTests.{rising-from}
 use Rattle.pairing.specs.Atoms.{classWord, fixed?, unfixed?}
@@ -43,7 +42,7 @@ pub record Fit (p : Program) : Type 0 where
   pub rules-fit : length (p .rules) ≤ ruleLimit Preference
   pub occurrences-fit : sum occurrences (p .rules) ≤ occurrenceLimit Preference
 
-rising-at : (b : ℕ) (l : List ℕ) → Rising b l → (i j : ℕ) → i < j → j < length l → getD l i 0 ≤ getD l j 0
+rising-at : (b : ℕ) (l : List ℕ) → NeverFalling b l → (i j : ℕ) → i < j → j < length l → getD l i 0 ≤ getD l j 0
 rising-at b [] h i j m u = absurd (omega arith)
 rising-at b (x ∷ l) h zero zero m u = absurd (omega arith)
 rising-at b (x ∷ l) h zero (suc j) m u = rising-from x l (h .1) j (omega arith)
@@ -69,7 +68,7 @@ word k w h = first (decLe 1 w) (decLe w classLimit)
         last (yes e) f = record { low = l; class = λ c. absurd (u c); high = omega arith }
         last (no e) (yes f) = record { low = l; class = λ c. absurd (u c); high = omega arith }
 
-pub fit-of : (p : Program) → p .kind ≡ Preference → Form p → Fit p
+pub fit-of : (p : Program) → p .kind ≡ Preference → ProgramForm p → Fit p
 fit-of p e f =
     let c : ClassesForm Preference (p .atoms) (p .classes) (p .words) = subst (λ (k : Kind). ClassesForm k (p .atoms) (p .classes) (p .words)) e (f .classes-form) in
     let rs : All (RuleForm Preference (p .atoms)) (p .rules) = subst (λ (k : Kind). All (RuleForm k (p .atoms)) (p .rules)) e (f .rule-forms) in

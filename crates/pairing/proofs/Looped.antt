@@ -9,8 +9,8 @@ use Rattle.kinds.specs.declared.limits.Kind.the-variants.{Preference}
 use Rattle.rules.specs.Lists.{flat, from}
 use Rattle.rules.specs.Rules.{Rule, rule}
 use Rattle.rules.proofs.Lists.{length-from}
-use Rattle.stores.specs.Program.{Program, Form}
-use Rattle.pairing.specs.Atoms.{Atom, original, N, S, D, E, U, originals, classWord, fixed?, minimised?, minimisedAtoms, unfixedAtoms, declared, place, decimal, nameOf}
+use Rattle.stores.specs.Program.{Program, ProgramForm}
+use Rattle.pairing.specs.Atoms.{Atom, original, N, S, D, E, U, originals, classWord, fixed?, minimised?, minimisedAtoms, unfixedAtoms, declared, atomNumber, decimal, nameOf}
 use Rattle.pairing.specs.Steps.{step1, step2, step3, step4, step5, step6, step7, step8, step9, step10, translation}
 use Rattle.pairing.specs.Translated.{translated, translatedRules, translatedNames, rename}
 use Rattle.pairing.specs.Loops.{loop1, loop2, loop3, loop4, loop5, loop6, loop789, loop10, looped, dot, loopedNames}
@@ -39,7 +39,7 @@ module _ (p : Program) where
   u = 2 * p .atoms + q + m + suc (p .classes)
 
   abbrev numbered : Rule Atom → Rule ℕ
-  numbered = rename (place p)
+  numbered = rename (atomNumber p)
 
   looped1 : map numbered (step1 p) ≡ flat (loop1 (p .atoms)) (from 0 (p .atoms))
   unfolding step1
@@ -122,8 +122,8 @@ module _ (p : Program) where
         (both (map D (minimisedAtoms p)) _ (map (dot 68) (take m names)) _ (run D 68 (minimisedAtoms p) (take m names) (λ a. refl) (ap (map name) (minimised-first p fit) ∙ first-names m few-minimised))
         (both (map E (from 0 (suc (p .classes)))) (U ∷ []) (map (λ j. dot 69 (decimal j)) (from 0 (suc (p .classes)))) ((85 ∷ []) ∷ []) (map-map (nameOf names) E (from 0 (suc (p .classes)))) refl))))
 
-pub looped-rules : (p : Program) → p .kind ≡ Preference → Form p → translated p .rules ≡ looped p
+pub looped-rules : (p : Program) → p .kind ≡ Preference → ProgramForm p → translated p .rules ≡ looped p
 looped-rules p kind form = whole p (fit-of p kind form)
 
-pub looped-names : (p : Program) → p .kind ≡ Preference → Form p → (names : List (List ℕ)) → length names ≡ p .atoms → translatedNames p names ≡ loopedNames p names
+pub looped-names : (p : Program) → p .kind ≡ Preference → ProgramForm p → (names : List (List ℕ)) → length names ≡ p .atoms → translatedNames p names ≡ loopedNames p names
 looped-names p kind form names count = whole-names p (fit-of p kind form) names count

@@ -6,13 +6,12 @@ use mathlib.Core.List.{List, [], _∷_, _++_, map, map-map, map-append}
 use mathlib.Core.Logic.{and-true}
 use lib.Dec.{T, leb→le, le→leb, eqb→eq}
 use lib.ListN.{length, getD, length-append, length-map}
-use Rattle.kinds.specs.Limits.{classLimit}
+use Rattle.kinds.specs.Limits.{classLimit, fixed}
 use Rattle.rules.specs.Lists.{All, from}
-use Rattle.rules.specs.Preferred.{fixed}
 use Rattle.rules.proofs.Booleans.{eq→eqb, T-not-in, T-not-out}
 use Rattle.rules.proofs.Lists.{length-from, from-append}
 use Rattle.stores.specs.Program.{Program}
-use Rattle.pairing.specs.Atoms.{Atom, original, N, S, D, E, U, originals, classWord, minimised?, fixed?, unfixed?, minimisedAtoms, unfixedAtoms, declared, place}
+use Rattle.pairing.specs.Atoms.{Atom, original, N, S, D, E, U, originals, classWord, minimised?, fixed?, unfixed?, minimisedAtoms, unfixedAtoms, declared, atomNumber}
 use Rattle.pairing.proofs.Quantified.{Each·simp}
 use Rattle.pairing.proofs.ListLaws.{shifted, map-eq, filter-first, found}
 use Rattle.pairing.proofs.Fit.{Fit, Minimised}
@@ -58,15 +57,15 @@ module _ (p : Program) where
         le→leb (classWord p a) classLimit (omega (arith, fit .rising a b m (omega arith))))
 
     -- a run of c atoms numbered from s, and what follows it
-    run : (f : ℕ → Atom) (s : ℕ) (l : List ℕ) (c : ℕ) → ((a : ℕ) → place p (f a) ≡ s + a) → l ≡ from 0 c → map (place p) (map f l) ≡ from s c
+    run : (f : ℕ → Atom) (s : ℕ) (l : List ℕ) (c : ℕ) → ((a : ℕ) → atomNumber p (f a) ≡ s + a) → l ≡ from 0 c → map (atomNumber p) (map f l) ≡ from s c
     run f s l c h e =
         let k : s + 0 ≡ s = omega arith in
-        map-map (place p) f l ∙ map-eq (λ (a : ℕ). place p (f a)) (λ (a : ℕ). s + a) h l ∙ ap (map (λ (a : ℕ). s + a)) e ∙ shifted s 0 c ∙ ap (λ (x : ℕ). from x c) k
+        map-map (atomNumber p) f l ∙ map-eq (λ (a : ℕ). atomNumber p (f a)) (λ (a : ℕ). s + a) h l ∙ ap (map (λ (a : ℕ). s + a)) e ∙ shifted s 0 c ∙ ap (λ (x : ℕ). from x c) k
 
-    then : (xs ys : List Atom) (s c t d : ℕ) → s + c ≡ t → map (place p) xs ≡ from s c → map (place p) ys ≡ from t d → map (place p) (xs ++ ys) ≡ from s (c + d)
-    then xs ys s c t d j e f = map-append (place p) xs ys ∙ ap₂ (λ (x y : List ℕ). x ++ y) e (f ∙ ap (λ (x : ℕ). from x d) (sym j)) ∙ from-append s c d
+    then : (xs ys : List Atom) (s c t d : ℕ) → s + c ≡ t → map (atomNumber p) xs ≡ from s c → map (atomNumber p) ys ≡ from t d → map (atomNumber p) (xs ++ ys) ≡ from s (c + d)
+    then xs ys s c t d j e f = map-append (atomNumber p) xs ys ∙ ap₂ (λ (x y : List ℕ). x ++ y) e (f ∙ ap (λ (x : ℕ). from x d) (sym j)) ∙ from-append s c d
 
-    pub order : map (place p) (declared p) ≡ from 0 (length (declared p))
+    pub order : map (atomNumber p) (declared p) ≡ from 0 (length (declared p))
     unfolding declared
     order =
         let n = p .atoms in
@@ -81,5 +80,5 @@ module _ (p : Program) where
         ∙ ap (from 0) (sym count)
 
     -- the atom with a number
-    pub known : All (λ c. getD (declared p) (place p c) U ≡ c) (declared p)
-    known = found (place p) U [] (declared p) order
+    pub known : All (λ c. getD (declared p) (atomNumber p c) U ≡ c) (declared p)
+    known = found (atomNumber p) U [] (declared p) order

@@ -13,8 +13,8 @@ use Rattle.rules.specs.Rules.{Rule}
 use Rattle.rules.specs.Preferred.{ofClass}
 use Rattle.rules.proofs.Booleans.{T-not-out, eq→eqb}
 use Rattle.rules.proofs.Lists.{all-imp, all-both, all-map, app-iff, map-iff, length-from, distinct-map}
-use Rattle.stores.specs.Program.{Program, Form, ListForm, RuleForm}
-use Rattle.pairing.specs.Atoms.{Atom, original, N, S, D, E, U, originals, classWord, fixed?, unfixed?, minimised?, declared, place}
+use Rattle.stores.specs.Program.{Program, ProgramForm, ListForm, RuleForm}
+use Rattle.pairing.specs.Atoms.{Atom, original, N, S, D, E, U, originals, classWord, fixed?, unfixed?, minimised?, declared, atomNumber}
 use Rattle.pairing.specs.Steps.{step1, step2, step3, step4, step5, step6, step7, step8, step9, step10, translation}
 use Rattle.pairing.specs.Translated.{translated, translatedRules, numbers}
 use Rattle.pairing.proofs.Quantified.{Each·simp}
@@ -113,15 +113,15 @@ module _ (p : Program) (fit : Fit p) where
 
   -- a declared atom: its number is below the count, and it is found again by it
   abbrev Placed : Atom → Type 0
-  Placed c = (place p c < length (declared p)) × (getD (declared p) (place p c) U ≡ c)
+  Placed c = (atomNumber p c < length (declared p)) × (getD (declared p) (atomNumber p c) U ≡ c)
 
   placed : All Placed (declared p)
-  placed = all-both (λ c. place p c < length (declared p)) (λ c. getD (declared p) (place p c) U ≡ c) (declared p) (of-numbers (place p) U (declared p) (order p fit) (λ i. i < length (declared p)) (λ i l. l)) (known p fit)
+  placed = all-both (λ c. atomNumber p c < length (declared p)) (λ c. getD (declared p) (atomNumber p c) U ≡ c) (declared p) (of-numbers (atomNumber p) U (declared p) (order p fit) (λ i. i < length (declared p)) (λ i l. l)) (known p fit)
 
-  list-form : (l : List Atom) → All Placed l → Distinct l → ListForm (length (declared p)) (map (place p) l)
+  list-form : (l : List Atom) → All Placed l → Distinct l → ListForm (length (declared p)) (map (atomNumber p) l)
   list-form l h d = (
-    all-map (λ a. a < length (declared p)) (place p) l (all-imp Placed (λ c. place p c < length (declared p)) (λ c q. q .0) l h),
-    distinct-map (place p) Placed (λ a b q s e. sym (q .1) ∙ ap (λ (i : ℕ). getD (declared p) i U) e ∙ s .1) l h d,
+    all-map (λ a. a < length (declared p)) (atomNumber p) l (all-imp Placed (λ c. atomNumber p c < length (declared p)) (λ c q. q .0) l h),
+    distinct-map (atomNumber p) Placed (λ a b q s e. sym (q .1) ∙ ap (λ (i : ℕ). getD (declared p) i U) e ∙ s .1) l h d,
   )
 
   rule-forms : All (RuleForm Plain (length (declared p))) (translatedRules p)
@@ -133,7 +133,7 @@ module _ (p : Program) (fit : Fit p) where
     no-nots = tt;
   }) (translation p) (closed p fit Placed placed) single)
 
-pub plain-form : (p : Program) → p .kind ≡ Preference → Form p → Form (translated p)
+pub plain-form : (p : Program) → p .kind ≡ Preference → ProgramForm p → ProgramForm (translated p)
 unfolding numbers
 plain-form p kind form =
     let fit = fit-of p kind form in

@@ -14,8 +14,8 @@ use Rattle.kinds.specs.declared.limits.Kind.the-variants.{Plain, Preference}
 use Rattle.rules.specs.Lists.{All, Distinct, from}
 use Rattle.rules.proofs.Booleans.{T-not-out, eq→eqb}
 use Rattle.rules.proofs.Lists.{all-imp, all-app, all-map, all-from, app-iff, every-from}
-use Rattle.stores.specs.Program.{Program, Form}
-use Rattle.names.specs.Names.{letter?, house?, classNumber?, nameClass, sized, dotted, generated, takes, allowed}
+use Rattle.stores.specs.Program.{Program, ProgramForm}
+use Rattle.names.specs.Names.{letter?, house?, classNumber?, nameClass, byLength, dotted, generated, takes, allowed}
 use Rattle.name_store.specs.NameStore.{NamesForm}
 use Rattle.names.specs.declared.forms.NameClass.{NameClass}
 use Rattle.names.specs.declared.forms.NameClass.the-variants.{House, Generated, TooLong, Wrong}
@@ -33,7 +33,7 @@ either true c d f g h = f h
 either false c d f g h = g h
 
 not-dotted : (c : ℕ) (x : List ℕ) → T (takes Preference (dotted c x)) → ⊥
-not-dotted c x = either ((eqb c 78 || (eqb c 83 || eqb c 68)) && house? x) (sized x Generated) (cond (eqb c 69 && classNumber? x) Generated Wrong)
+not-dotted c x = either ((eqb c 78 || (eqb c 83 || eqb c 68)) && house? x) (byLength x Generated) (cond (eqb c 69 && classNumber? x) Generated Wrong)
     (either (leb (length x) nameLimit) Generated TooLong (λ h. h) (λ h. h))
     (either (eqb c 69 && classNumber? x) Generated Wrong (λ h. h) (λ h. h))
 
@@ -101,7 +101,7 @@ module _ (Q : List ℕ → Type 0) where
   ends-all : (l : List ℕ) → ((x : List ℕ) → Q (dot 69 x)) → Q (85 ∷ []) → All Q (map (λ j. dot 69 (decimal j)) l ++ ((85 ∷ []) ∷ []))
   ends-all l h u = all-app Q (map (λ j. dot 69 (decimal j)) l) ((85 ∷ []) ∷ []) (all-map Q (λ j. dot 69 (decimal j)) l (all-each (λ j. Q (dot 69 (decimal j))) (λ j. h (decimal j)) l)) (u, tt)
 
-module _ (p : Program) (kind : p .kind ≡ Preference) (form : Form p) (names : List (List ℕ)) (names-form : NamesForm Preference (p .atoms) names) where
+module _ (p : Program) (kind : p .kind ≡ Preference) (form : ProgramForm p) (names : List (List ℕ)) (names-form : NamesForm Preference (p .atoms) names) where
   house : All HouseName names
   house = all-imp (λ x. T (allowed Preference x)) HouseName house-name names (names-form .all-allowed)
 

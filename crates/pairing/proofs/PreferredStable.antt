@@ -11,7 +11,8 @@ use lib.ListN.{length}
 use Rattle.rules.specs.Lists.{All, Any, from}
 use Rattle.rules.specs.Sets.{has, In, Out}
 use Rattle.rules.specs.Rules.{Rule, Holds, Model}
-use Rattle.rules.specs.Preferred.{fixed, OfClass, Beats, Preferred}
+use Rattle.kinds.specs.Limits.{fixed}
+use Rattle.rules.specs.Preferred.{OfClass, Beats, Preferred}
 use Rattle.rules.proofs.Booleans.{stable, T-of, T-and, T-and-l, T-and-r, eq→eqb}
 use Rattle.rules.proofs.Lists.{all-both, all-any, any-or-none, from-all, length-from}
 use Rattle.stores.specs.Program.{Program}

@@ -9,7 +9,8 @@ use lib.Dec.{T, eqb, ltb, eqb→eq, eqb-refl, ltb→lt, lt→ltb}
 use Rattle.rules.specs.Lists.{All, Any}
 use Rattle.rules.specs.Sets.{has, In, Out}
 use Rattle.rules.specs.Rules.{Rule, Holds, Model}
-use Rattle.rules.specs.Preferred.{fixed, OfClass, Beats, Preferred}
+use Rattle.kinds.specs.Limits.{fixed}
+use Rattle.rules.specs.Preferred.{OfClass, Beats, Preferred}
 use Rattle.rules.proofs.Booleans.{stable, T-of, T-and, T-and-l, T-and-r, T-not-in, T-not-out, eq→eqb}
 use Rattle.rules.proofs.Lists.{all-both, any-or-none}
 use Rattle.stores.specs.Program.{Program}

@@ -7,16 +7,16 @@ use mathlib.Core.List.{List, map}
 use mathlib.Core.Logic.{inr}
 use lib.Dec.{eqb, leb, eqb→eq, leb→le, le→leb}
 use lib.ListN.{length, length-append, length-map}
-use Rattle.kinds.specs.Limits.{classLimit}
+use Rattle.kinds.specs.Limits.{classLimit, varying, fixed}
 use Rattle.kinds.specs.declared.limits.Kind.the-variants.{Preference}
 use Rattle.rules.specs.Lists.{filter, from, sum}
 use Rattle.rules.specs.Rules.{Rule, occurrences}
-use Rattle.rules.specs.Preferred.{varying, fixed, ofClass}
+use Rattle.rules.specs.Preferred.{ofClass}
 use Rattle.rules.proofs.Booleans.{eq→eqb}
 use Rattle.rules.proofs.Lists.{all-imp, all-from, length-from, sum-app}
 use Rattle.rules.proofs.Sets.{digit}
-use Rattle.stores.specs.Program.{Program, Form}
-use Rattle.pairing.specs.Atoms.{Atom, original, S, originals, classWord, minimised?, varying?, fixed?, unfixed?, minimisedAtoms, fixedAtoms, unfixedAtoms, place}
+use Rattle.stores.specs.Program.{Program, ProgramForm}
+use Rattle.pairing.specs.Atoms.{Atom, original, S, originals, classWord, minimised?, varying?, fixed?, unfixed?, minimisedAtoms, fixedAtoms, unfixedAtoms, atomNumber}
 use Rattle.pairing.specs.Steps.{step1, step2, step3, step4, step5, step6, step7, step8, step9, step10, translation}
 use Rattle.pairing.specs.Translated.{translated, translatedRules, numbers, atomsSum, rulesSum, occurrencesSum, rename}
 use Rattle.pairing.proofs.ListLaws.{all-each}
@@ -174,7 +174,7 @@ module _ (p : Program) where
 rename-places : (num : Atom → ℕ) (l : List (Rule Atom)) → sum occurrences (map (rename num) l) ≡ sum occurrences l
 rename-places num l = simp sum-map (sum-eq _ occurrences l (all-each _ (λ q. simp length-map) l))
 
-module _ (p : Program) (kind : p .kind ≡ Preference) (form : Form p) where
+module _ (p : Program) (kind : p .kind ≡ Preference) (form : ProgramForm p) where
   pub atoms-sum : translated p .atoms ≡ atomsSum (numbers p)
   unfolding numbers
   atoms-sum = omega (arith, count p, parts p)
@@ -185,7 +185,7 @@ module _ (p : Program) (kind : p .kind ≡ Preference) (form : Form p) where
 
   pub occurrences-sum : sum occurrences (translated p .rules) ≡ occurrencesSum (numbers p)
   unfolding numbers translatedRules
-  occurrences-sum = rename-places (place p) (translation p) ∙ omega (arith, places-all p (fit-of p kind form), parts p)
+  occurrences-sum = rename-places (atomNumber p) (translation p) ∙ omega (arith, places-all p (fit-of p kind form), parts p)
 
   -- n counts all three
   pub atoms-three : numbers p .n ≡ numbers p .p + numbers p .v + numbers p .f

@@ -4,9 +4,8 @@ use mathlib.Core.List.{List, [], _∷_, _++_, map}
 use mathlib.Core.Bool.{Bool, not, cond}
 use lib.Dec.{leb, ltb, eqb}
 use lib.ListN.{length, getD}
-use Rattle.kinds.specs.Limits.{classLimit}
+use Rattle.kinds.specs.Limits.{classLimit, varying, fixed}
 use Rattle.rules.specs.Lists.{filter, from}
-use Rattle.rules.specs.Preferred.{varying, fixed}
 use Rattle.stores.specs.Program.{Program}
 
 -- an atom of the file; N., S. and D. of one; E.0 to E.k; U
@@ -58,13 +57,13 @@ module _ (p : Program) where
       ++ (U ∷ [])))))
 
   -- an atom's number in that order; no class word falls, so the unfixed and the minimised atoms are the first ones
-  abbrev pub place : Atom → ℕ
-  place (original a) = a
-  place (N a) = p .atoms + a
-  place (S a) = 2 * p .atoms + a
-  place (D a) = 2 * p .atoms + length unfixedAtoms + a
-  place (E j) = 2 * p .atoms + length unfixedAtoms + length minimisedAtoms + j
-  place U = 2 * p .atoms + length unfixedAtoms + length minimisedAtoms + suc (p .classes)
+  abbrev pub atomNumber : Atom → ℕ
+  atomNumber (original a) = a
+  atomNumber (N a) = p .atoms + a
+  atomNumber (S a) = 2 * p .atoms + a
+  atomNumber (D a) = 2 * p .atoms + length unfixedAtoms + a
+  atomNumber (E j) = 2 * p .atoms + length unfixedAtoms + length minimisedAtoms + j
+  atomNumber U = 2 * p .atoms + length unfixedAtoms + length minimisedAtoms + suc (p .classes)
 
 -- 0 to 16 without leading zero
 abbrev pub decimal : ℕ → List ℕ

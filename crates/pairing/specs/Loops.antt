@@ -6,7 +6,8 @@ use lib.Dec.{eqb}
 use lib.ListN.{length, getD, take}
 use Rattle.rules.specs.Lists.{filter, flat, from}
 use Rattle.rules.specs.Rules.{Rule, rule}
-use Rattle.rules.specs.Preferred.{fixed, ofClass}
+use Rattle.kinds.specs.Limits.{fixed}
+use Rattle.rules.specs.Preferred.{ofClass}
 use Rattle.stores.specs.Program.{Program}
 use Rattle.pairing.specs.Atoms.{minimisedAtoms, unfixedAtoms, decimal}
 

@@ -6,7 +6,7 @@ use Rattle.kinds.specs.declared.limits.Kind.the-variants.{Plain}
 use Rattle.rules.specs.Lists.{sum}
 use Rattle.rules.specs.Rules.{Rule, rule, occurrences}
 use Rattle.stores.specs.Program.{Program}
-use Rattle.pairing.specs.Atoms.{minimisedAtoms, varyingAtoms, fixedAtoms, declared, place, nameOf}
+use Rattle.pairing.specs.Atoms.{minimisedAtoms, varyingAtoms, fixedAtoms, declared, atomNumber, nameOf}
 use Rattle.pairing.specs.Steps.{translation}
 
 -- a rule with other atoms
@@ -14,7 +14,7 @@ abbrev pub rename : {A : Type 0} → (A → ℕ) → Rule A → Rule ℕ
 rename f r = rule (map f (r .head)) (map f (r .body)) (map f (r .nots))
 
 unfoldable pub translatedRules : Program → List (Rule ℕ)
-translatedRules p = map (rename (place p)) (translation p)
+translatedRules p = map (rename (atomNumber p)) (translation p)
 
 abbrev pub translated : Program → Program
 translated p = record { kind = Plain; atoms = length (declared p); classes = 0; words = []; rules = translatedRules p }

@@ -11,7 +11,7 @@ use lib.ListN.{length, getD, take, drop, length-append}
 use lib.Seq.{sets-eq, length-sets, take-append-seam}
 use borrow.Author.Tests.{le-leb, lt-leb, lt-ltb, le-ltb}
 use Rattle.kinds.specs.declared.refusals.Refusal.{Refusal}
-use Rattle.kinds.specs.Refusals.{numberOf}
+use Rattle.kinds.specs.Refusals.{refusalNumber}
 use Rattle.rules.specs.Lists.{keep, filter, flat, from}
 use Rattle.rules.specs.Sets.{has}
 use Rattle.kinds.specs.Words.{space}
@@ -54,13 +54,13 @@ last-digit x h l =
 
 -- a refusal
 
-pub refused-opens : (f : Refusal) (line : ℕ) {n : ℕ} → n ≡ numberOf f → Ahead (refusedText f line) (40 ∷ 114 ∷ 101 ∷ 102 ∷ 117 ∷ 115 ∷ 101 ∷ 100 ∷ 32 ∷ []) (decimal n ++ (space ∷ (decimal line ++ closing)))
+pub refused-opens : (f : Refusal) (line : ℕ) {n : ℕ} → n ≡ refusalNumber f → Ahead (refusedText f line) (40 ∷ 114 ∷ 101 ∷ 102 ∷ 117 ∷ 115 ∷ 101 ∷ 100 ∷ 32 ∷ []) (decimal n ++ (space ∷ (decimal line ++ closing)))
 unfolding refusedText
 refused-opens f line e = record { is = rw e }
 
 pub refused-short : (f : Refusal) (line : ℕ) → length (refusedText f line) ≤ 52
 unfolding refusedText
-refused-short f line = simp length-append (omega (arith, decimal-short (numberOf f), decimal-short line))
+refused-short f line = simp length-append (omega (arith, decimal-short (refusalNumber f), decimal-short line))
 
 pub refused-range : (f : Refusal) (line : ℕ) → InRange 0 (refusedText f line)
 refused-range f line = record { below = omega (arith, refused-short f line) }

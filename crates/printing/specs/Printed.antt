@@ -5,13 +5,12 @@ use mathlib.Core.Bool.{cond}
 use mathlib.Core.List.{List, [], _∷_, _++_}
 use lib.Dec.{leb, ltb}
 use lib.ListN.{length, getD}
-use Rattle.kinds.specs.Refusals.{numberOf}
+use Rattle.kinds.specs.Refusals.{refusalNumber}
 use Rattle.kinds.specs.declared.refusals.Refusal.{Refusal}
-use Rattle.rules.specs.Lists.{filter, flat, from}
+use Rattle.rules.specs.Lists.{filter, flat, from, over}
 use Rattle.rules.specs.Sets.{has}
 use Rattle.kinds.specs.Words.{space, close-bracket, line-end}
 use Rattle.text.specs.Text.{item, listLine, named}
-use Rattle.output.specs.Emitted.{over}
 
 -- a number in decimal digits, at most f of them
 unfoldable pub digits : ℕ → ℕ → List ℕ
@@ -27,7 +26,7 @@ closing = close-bracket ∷ line-end ∷ []
 
 -- `(refused NUMBER LINE)`
 unfoldable pub refusedText : Refusal → ℕ → List ℕ
-refusedText f line = (40 ∷ 114 ∷ 101 ∷ 102 ∷ 117 ∷ 115 ∷ 101 ∷ 100 ∷ space ∷ []) ++ (decimal (numberOf f) ++ (space ∷ (decimal line ++ closing)))
+refusedText f line = (40 ∷ 114 ∷ 101 ∷ 102 ∷ 117 ∷ 115 ∷ 101 ∷ 100 ∷ space ∷ []) ++ (decimal (refusalNumber f) ++ (space ∷ (decimal line ++ closing)))
 
 -- state
 abbrev pub stateWord : List ℕ

@@ -12,10 +12,10 @@ use Rattle.kinds.specs.declared.limits.Kind.{Kind}
 use Rattle.kinds.specs.declared.limits.Kind.the-variants.{Plain, Preference}
 use Rattle.kinds.specs.declared.refusals.Refusal.{Refusal}
 use Rattle.kinds.specs.declared.refusals.Refusal.the-variants.{TextTooLong, Output, RuleStore, NameStore, TooManyAtoms}
-use Rattle.rules.specs.Lists.{flat, sum}
+use Rattle.rules.specs.Lists.{flat, sum, over}
 use Rattle.rules.specs.Rules.{occurrences}
 use Rattle.rules.proofs.Lists.{all-imp}
-use Rattle.stores.specs.Program.{Program, Form}
+use Rattle.stores.specs.Program.{Program, ProgramForm}
 use Rattle.stores.specs.RuleStore.{encode, decode, ruleWords, ruleStore, isOf, wordCount}
 use Rattle.stores.specs.declared.rule_store.RuleStore.the-variants.{Of}
 use Rattle.names.specs.Names.{allowed}
@@ -24,18 +24,17 @@ use Rattle.stores.proofs.RuleStores.{decode-encode, words-count, rules-length}
 use Rattle.name_store.proofs.NameStores.{allowed-short, decode-names, encoded-length}
 use Rattle.writer.specs.declared.Written.{Written}
 use Rattle.writer.specs.declared.Written.the-variants.{Text, Refused as NotWritten}
-use Rattle.output.specs.Emitted.{over}
 use Rattle.writer.specs.Answers.{fitted, writtenBytes}
 use Rattle.delivery.specs.declared.answers.Read.{Read}
 use Rattle.delivery.specs.declared.answers.Read.the-variants.{Accepted, Refused as NotRead}
 use Rattle.numbering.specs.Scratch.{scratchWords, scratchBytes}
-use Rattle.lines.specs.Faults.{State}
+use Rattle.lines.specs.Faults.{SoFar}
 use Rattle.lines.specs.Said.{Said, accepted, refused, said, programOf}
 use Rattle.delivery.specs.Answers.{readAnswer, readRules, readNames, ruleWordsOf, nameBytesOf, answerOf}
 use Rattle.reader.proofs.RoundTrip.{accepted-form}
 use Rattle.translation.specs.Answers.{translationText, storesTranslation, translateAnswer, translateOutput}
 use Rattle.printing.specs.Printed.{refusedText}
-use Rattle.listing.specs.Listed.{wholeListing, sized, statesOf}
+use Rattle.listing.specs.Listed.{wholeListing, streamed, statesOf}
 use Rattle.programs.specs.Programs.{ofKind, onSaid, printed, translatePrinted, statesPrinted, writtenPrinted, storesTranslated}
 use Rattle.listing.specs.StoresPrinted.{storesStates}
 use Rattle.delivery.proofs.AcceptedTexts.{Filled, never, filled, reads-as, front}
@@ -44,7 +43,7 @@ use Rattle.printing.proofs.PrintedLines.{refused-short}
 
 -- the longest stores
 
-pub words-fit : (p : Program) → Form p → length (encode p) ≤ scratchWords
+pub words-fit : (p : Program) → ProgramForm p → length (encode p) ≤ scratchWords
 unfolding encode
 words-fit p f =
     let a = length-append (p .words) (flat ruleWords (p .rules)) in
@@ -59,7 +58,7 @@ words-fit p f =
     by-kind Plain c n r o a b = omega arith
     by-kind Preference c n r o a b = omega arith
 
-pub bytes-fit : (p : Program) (names : List (List ℕ)) → Form p → NamesForm (p .kind) (p .atoms) names → length (encodeNames names) ≤ scratchBytes
+pub bytes-fit : (p : Program) (names : List (List ℕ)) → ProgramForm p → NamesForm (p .kind) (p .atoms) names → length (encodeNames names) ≤ scratchBytes
 bytes-fit p names f g = by-kind (p .kind) (f .atoms-fit)
   where
     short : length (encodeNames names) ≤ 19 * p .atoms
@@ -114,8 +113,8 @@ translation-refused rules names e room r = sym (ap (λ (w : Written). writtenPri
 
 -- on the stores of a program of the form
 
-module _ (p : Program) (names : List (List ℕ)) (form : Form p) (fit : NamesForm (p .kind) (p .atoms) names) where
-  pub translated-stores : storesTranslated (encode p) (encodeNames names) ≡ ofKind (p .kind) (sized (translationText p names))
+module _ (p : Program) (names : List (List ℕ)) (form : ProgramForm p) (fit : NamesForm (p .kind) (p .atoms) names) where
+  pub translated-stores : storesTranslated (encode p) (encodeNames names) ≡ ofKind (p .kind) (streamed (translationText p names))
   unfolding storesTranslated translateAnswer
   translated-stores = rw (answered p form, stores-text p form names fit, decode-encode p form) (by-kind (p .kind) refl)
     where
@@ -125,7 +124,7 @@ module _ (p : Program) (names : List (List ℕ)) (form : Form p) (fit : NamesFor
 
       by-kind : (k : Kind) → p .kind ≡ k
           → writtenPrinted (cond (isOf Preference (Of k)) (cond (names? Preference (p .atoms) (encodeNames names)) (fitted (translationText p names) streamLimit) (NotWritten NameStore)) (NotWritten RuleStore)) (translationText p names)
-          ≡ ofKind k (sized (translationText p names))
+          ≡ ofKind k (streamed (translationText p names))
       by-kind Plain e = refl
       by-kind Preference e = rw (named p form names fit e) (by-room (leb (length (translationText p names)) streamLimit))
 
@@ -144,7 +143,7 @@ module _ (text rules names : List ℕ) {answer : Read} (a : answer ≡ readAnswe
   read-as : Filled text (length rules) (length names) w b
   read-as = filled text (length rules) (length names) w b (sym a ∙ e)
 
-  abbrev file : State
+  abbrev file : SoFar
   file = read-as .file
 
   rules-are : rules′ ≡ over (ruleWordsOf file) rules
@@ -202,7 +201,7 @@ module _ (f : Program → List (List ℕ) → List ℕ) (text : List ℕ) where
 
       pub accepted-text : {rules′ names′ : List ℕ} {w b : ℕ} → answer ≡ Accepted w b → rules′ ≡ readRules text rules names → names′ ≡ readNames text rules names
           → (stores : List ℕ → List ℕ → List ℕ)
-          → ((p : Program) (names : List (List ℕ)) → Form p → NamesForm (p .kind) (p .atoms) names → stores (encode p) (encodeNames names) ≡ ofKind (p .kind) (f p names))
+          → ((p : Program) (names : List (List ℕ)) → ProgramForm p → NamesForm (p .kind) (p .atoms) names → stores (encode p) (encodeNames names) ≡ ofKind (p .kind) (f p names))
           → stores (take (w - 0) (drop 0 rules′)) (take (b - 0) (drop 0 names′)) ≡ printed f text
       accepted-text e u v stores agrees =
           let st = file text rules names a e u v in
@@ -214,7 +213,7 @@ module _ (f : Program → List (List ℕ) → List ℕ) (text : List ℕ) where
 
 -- what is printed is never longer than an output of the programs
 
-sized-short : (text : List ℕ) → length (sized text) ≤ streamLimit
+sized-short : (text : List ℕ) → length (streamed text) ≤ streamLimit
 sized-short text = go (leb (length text) streamLimit) refl
   where
     go : (b : Bool) → leb (length text) streamLimit ≡ b → length (cond b text (refusedText Output 0)) ≤ streamLimit
@@ -239,13 +238,13 @@ printed-short f h text = by-length (leb (length text) streamLimit)
 
 pub translate-short : (text : List ℕ) → length (translatePrinted text) ≤ streamLimit
 unfolding translatePrinted
-translate-short text = printed-short (λ p names. sized (translationText p names)) (λ p names. sized-short (translationText p names)) text
+translate-short text = printed-short (λ p names. streamed (translationText p names)) (λ p names. sized-short (translationText p names)) text
 
 pub states-short : (text : List ℕ) → length (statesPrinted text) ≤ streamLimit
 unfolding statesPrinted statesOf
 states-short text = printed-short statesOf few text
   where
-    go : (p : Program) (names : List (List ℕ)) (b : Bool) → length (cond b (sized (wholeListing p names)) (refusedText TooManyAtoms 0)) ≤ streamLimit
+    go : (p : Program) (names : List (List ℕ)) (b : Bool) → length (cond b (streamed (wholeListing p names)) (refusedText TooManyAtoms 0)) ≤ streamLimit
     go p names true = sized-short (wholeListing p names)
     go p names false = omega (arith, refused-short TooManyAtoms 0)
 

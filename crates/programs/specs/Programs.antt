@@ -14,7 +14,7 @@ use Rattle.writer.specs.declared.Written.the-variants.{Text, Refused}
 use Rattle.lines.specs.Said.{Said, accepted, refused, said, programOf}
 use Rattle.translation.specs.Answers.{translationText, storesTranslation, translateAnswer}
 use Rattle.printing.specs.Printed.{refusedText}
-use Rattle.listing.specs.Listed.{sized, statesOf}
+use Rattle.listing.specs.Listed.{streamed, statesOf}
 
 abbrev pub ofKind : Kind → List ℕ → List ℕ
 ofKind Plain text = refusedText RuleStore 0
@@ -29,7 +29,7 @@ unfoldable pub printed : (Program → List (List ℕ) → List ℕ) → List ℕ
 printed f text = cond (leb (length text) streamLimit) (onSaid (said text) f) (refusedText TextTooLong 0)
 
 unfoldable pub translatePrinted : List ℕ → List ℕ
-translatePrinted text = printed (λ p names. sized (translationText p names)) text
+translatePrinted text = printed (λ p names. streamed (translationText p names)) text
 
 unfoldable pub statesPrinted : List ℕ → List ℕ
 statesPrinted text = printed statesOf text

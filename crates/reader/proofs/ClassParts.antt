@@ -10,11 +10,11 @@ use lib.Dec.{T, leb, eqb, leb→le, eqb→eq}
 use lib.ListN.{length, getD, replicate, length-append, length-replicate}
 use borrow.Author.Tests.{eq-eqb, ne-eqb, le-leb, lt-leb}
 use Rattle.rules.specs.Lists.{All, Distinct, keep, filter, from}
-use Rattle.rules.specs.Preferred.{varying, fixed, ofClass}
+use Rattle.rules.specs.Preferred.{ofClass}
 use Rattle.rules.proofs.Booleans.{T-and-l}
 use Rattle.rules.proofs.Lists.{all-imp, all-keep, all-both}
-use Rattle.kinds.specs.Limits.{classLimit}
-use Rattle.stores.specs.Program.{Rising, RoleForm, roleOf}
+use Rattle.kinds.specs.Limits.{classLimit, varying, fixed}
+use Rattle.stores.specs.Program.{NeverFalling, RoleForm, roleOf}
 use Rattle.stores.specs.declared.roles.Role.{Role}
 use Rattle.stores.specs.declared.roles.Role.the-variants.{Minimised, Varying, Fixed, Unknown}
 use Rattle.stores.proofs.ClassWord.{minimised}
@@ -153,14 +153,14 @@ module _ (ws : List ℕ) (names : List (List ℕ)) (same : length ws ≡ length 
       let all = chosen-every (is v) (replicate (length xs) v) xs (all-replicate (λ u. is v u ≡ true) (length xs) v (eq-eqb v v refl)) (length-replicate (length xs) v) in
       split v ∙ ap₂ _++_ none all
 
-pub rising-app : (b v c : ℕ) (ws : List ℕ) → Rising b ws → All (λ w. w ≤ v) ws → b ≤ v → Rising b (ws ++ replicate c v)
+pub rising-app : (b v c : ℕ) (ws : List ℕ) → NeverFalling b ws → All (λ w. w ≤ v) ws → b ≤ v → NeverFalling b (ws ++ replicate c v)
 rising-app b v zero [] r h l = tt
 rising-app b v (suc c) [] r h l = (l, rising-app v v c [] tt tt (omega arith))
 rising-app b v c (w ∷ ws) r h l = (r .0, rising-app w v c ws (r .1) (h .1) (h .0))
 
 -- rising class words: the classes up to a, then class word b
 
-rising-least : (b : ℕ) (ws : List ℕ) → Rising b ws → All (λ w. b ≤ w) ws
+rising-least : (b : ℕ) (ws : List ℕ) → NeverFalling b ws → All (λ w. b ≤ w) ws
 rising-least b [] r = tt
 rising-least b (w ∷ ws) r = (r .0, all-imp (λ v. w ≤ v) (λ v. b ≤ v) (λ v h. let l : b ≤ w = r .0 in omega arith) ws (rising-least w ws (r .1)))
 
@@ -185,7 +185,7 @@ module _ (a b : ℕ) (below : a < b) where
       go (yes k) = found k (h k)
       go (no k) = lt-leb w b (omega arith) ∙ sym (ne-eqb w b (λ e. k (omega arith)))
 
-  pub chosen-next : {A : Type 0} (c : ℕ) (ws : List ℕ) (xs : List A) → Rising c ws → All (Next a b) ws → chosen (upTo b) ws xs ≡ chosen (upTo a) ws xs ++ chosen (is b) ws xs
+  pub chosen-next : {A : Type 0} (c : ℕ) (ws : List ℕ) (xs : List A) → NeverFalling c ws → All (Next a b) ws → chosen (upTo b) ws xs ≡ chosen (upTo a) ws xs ++ chosen (is b) ws xs
   chosen-next c [] xs r h = refl
   chosen-next c (w ∷ ws) [] r h = refl
   chosen-next {A} c (w ∷ ws) (x ∷ xs) r h = go (decLe w a) (chosen-next w ws xs (r .1) (h .1))

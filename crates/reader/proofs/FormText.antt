@@ -17,7 +17,7 @@ use Rattle.name_store.proofs.NameStores.{same-equal, same-self}
 use Rattle.kinds.specs.Words.{space, open-bracket, close-bracket, line-end, atomsWord, minWord, varyWord, fixWord, ruleWord, headWord, bodyWord, notWord}
 use Rattle.text.specs.Text.{item, openText, listLine, ruleLine}
 use Rattle.lines.specs.Items.{delimiter?, run, itemsFrom, items, span}
-use Rattle.lines.specs.Forms.{Word, atoms, min, vary, fix, Form, declares, rules, broken, isName, begins, Cut, cut, none, cutNames, cutList, onCut, tagOf, headTag, bodyTag, notTag, listEnd, ruleEnd, closed, declaredForm, ruleForm, formOf}
+use Rattle.lines.specs.Forms.{Word, atoms, min, vary, fix, LineForm, declares, rules, broken, isName, begins, Split, split, none, splitNames, splitList, onSplit, tagOf, headTag, bodyTag, notTag, listEnd, ruleEnd, closed, declaredForm, ruleForm, formOf}
 use Rattle.reader.proofs.LineText.{WholeLine, NoEnd, end-line, before-line}
 use Rattle.reader.proofs.NameText.{IsName, NoDelimiter, name-bytes}
 
@@ -89,39 +89,39 @@ every-name : (ns : List (List ℕ)) → T (every (λ x. isName (nameClass x)) ns
 every-name ns = every-all (λ x. isName (nameClass x)) IsName (λ x. (λ t. t, λ t. t)) ns
 
 -- what a cut says of the text that was cut
-abbrev CutOf : List ℕ → List ℕ → Cut → Type 0
-CutOf tag s (cut ns rest) = (s ≡ tag ++ (flat item ns ++ rest)) × All IsName ns
+abbrev CutOf : List ℕ → List ℕ → Split → Type 0
+CutOf tag s (split ns rest) = (s ≡ tag ++ (flat item ns ++ rest)) × All IsName ns
 CutOf tag s none = Unit {0}
 
-cut-names : (s : List ℕ) → CutOf [] s (cutNames s)
-unfolding cutNames
+cut-names : (s : List ℕ) → CutOf [] s (splitNames s)
+unfolding splitNames
 cut-names s = go (every (λ x. isName (nameClass x)) (items s)) (every-name (items s) .0)
   where
-    go : (b : Bool) → (T b → All IsName (items s)) → CutOf [] s (cond b (cut (items s) (drop (span (items s)) s)) none)
+    go : (b : Bool) → (T b → All IsName (items s)) → CutOf [] s (cond b (split (items s) (drop (span (items s)) s)) none)
     go true h = (items-text s, h tt)
     go false h = tt
 
-cut-list : (tag s : List ℕ) → CutOf tag s (cutList tag s)
-unfolding cutList
-cut-list tag s = go (begins tag s) (cutNames (drop (length tag) s)) (same-equal (take (length tag) s) tag) (cut-names (drop (length tag) s))
+cut-list : (tag s : List ℕ) → CutOf tag s (splitList tag s)
+unfolding splitList
+cut-list tag s = go (begins tag s) (splitNames (drop (length tag) s)) (same-equal (take (length tag) s) tag) (cut-names (drop (length tag) s))
   where
-    go : (b : Bool) (c : Cut) → (T b → take (length tag) s ≡ tag) → CutOf [] (drop (length tag) s) c → CutOf tag s (cond b c none)
-    go true (cut ns rest) e h = (sym (take-append-drop (length tag) s) ∙ ap₂ _++_ (e tt) (h .0), h .1)
+    go : (b : Bool) (c : Split) → (T b → take (length tag) s ≡ tag) → CutOf [] (drop (length tag) s) c → CutOf tag s (cond b c none)
+    go true (split ns rest) e h = (sym (take-append-drop (length tag) s) ∙ ap₂ _++_ (e tt) (h .0), h .1)
     go true none e h = tt
     go false c e h = tt
 
-cut-of : (tag : List ℕ) (ns : List (List ℕ)) (r : List ℕ) → All IsName ns → cutList tag (tag ++ (flat item ns ++ (close-bracket ∷ r))) ≡ cut ns (close-bracket ∷ r)
-unfolding cutList cutNames
+cut-of : (tag : List ℕ) (ns : List (List ℕ)) (r : List ℕ) → All IsName ns → splitList tag (tag ++ (flat item ns ++ (close-bracket ∷ r))) ≡ split ns (close-bracket ∷ r)
+unfolding splitList splitNames
 cut-of tag ns r h =
     let rest = close-bracket ∷ r in
     let s = flat item ns ++ rest in
     let starts : begins tag (tag ++ s) ≡ true = ap (λ t. sameBytes t tag) (take-append-seam tag s) ∙ is-true (sameBytes tag tag) (same-self tag) in
     let named : every (λ x. isName (nameClass x)) ns ≡ true = is-true (every (λ x. isName (nameClass x)) ns) (every-name ns .1 h) in
-    ap (λ b. cond b (cutNames (drop (length tag) (tag ++ s))) none) starts
-    ∙ ap cutNames (drop-append-seam tag s)
-    ∙ ap (λ xs. cond (every (λ x. isName (nameClass x)) xs) (cut xs (drop (span xs) s)) none) (items-of ns r h)
-    ∙ ap (λ b. cond b (cut ns (drop (span ns) s)) none) named
-    ∙ ap (cut ns) (after-items ns rest)
+    ap (λ b. cond b (splitNames (drop (length tag) (tag ++ s))) none) starts
+    ∙ ap splitNames (drop-append-seam tag s)
+    ∙ ap (λ xs. cond (every (λ x. isName (nameClass x)) xs) (split xs (drop (span xs) s)) none) (items-of ns r h)
+    ∙ ap (λ b. cond b (split ns (drop (span ns) s)) none) named
+    ∙ ap (split ns) (after-items ns rest)
 
 -- the lines as tags and names
 
@@ -152,25 +152,25 @@ rule-line hs bs ns =
     ∙ ap (λ l. (open-bracket ∷ bodyWord) ++ (flat item bs ++ (close-bracket ∷ space ∷ l))) (open-text notWord ns ruleEnd)))
 
 -- what a form says of its line
-abbrev pub LineOf : Form → List ℕ → Type 0
+abbrev pub LineOf : LineForm → List ℕ → Type 0
 LineOf (declares w ns) l = (l ≡ listLine (wordOf w) ns) × All IsName ns
 LineOf (rules hs bs ns) l = (l ≡ ruleLine hs bs ns) × All IsName hs × All IsName bs × All IsName ns
 LineOf broken l = Unit {0}
 
-closed-line : (l rest ending : List ℕ) (f : Form) → (rest ≡ ending → LineOf f l) → LineOf (closed rest ending f) l
+closed-line : (l rest ending : List ℕ) (f : LineForm) → (rest ≡ ending → LineOf f l) → LineOf (closed rest ending f) l
 closed-line l rest ending f h = go (sameBytes rest ending) (same-equal rest ending)
   where
     go : (b : Bool) → (T b → rest ≡ ending) → LineOf (cond b f broken) l
     go true e = h (e tt)
     go false e = tt
 
-on-cut : (l tag s : List ℕ) (f : List (List ℕ) → List ℕ → Form)
+on-cut : (l tag s : List ℕ) (f : List (List ℕ) → List ℕ → LineForm)
     → ((ns : List (List ℕ)) (rest : List ℕ) → s ≡ tag ++ (flat item ns ++ rest) → All IsName ns → LineOf (f ns rest) l)
-    → LineOf (onCut (cutList tag s) f) l
-on-cut l tag s f h = go (cutList tag s) (cut-list tag s)
+    → LineOf (onSplit (splitList tag s) f) l
+on-cut l tag s f h = go (splitList tag s) (cut-list tag s)
   where
-    go : (c : Cut) → CutOf tag s c → LineOf (onCut c f) l
-    go (cut ns rest) k = h ns rest (k .0) (k .1)
+    go : (c : Split) → CutOf tag s c → LineOf (onSplit c f) l
+    go (split ns rest) k = h ns rest (k .0) (k .1)
     go none k = tt
 
 declared-line : (w : Word) (l : List ℕ) → LineOf (declaredForm w l) l
@@ -182,13 +182,13 @@ declared-line w l =
 rule-form-line : (l : List ℕ) → LineOf (ruleForm l) l
 unfolding ruleForm
 rule-form-line l =
-    on-cut l headTag l (λ hs r. onCut (cutList bodyTag r) (λ bs s. onCut (cutList notTag s) (λ ns rest. closed rest ruleEnd (rules hs bs ns)))) (λ hs r e₁ h₁.
-    on-cut l bodyTag r (λ bs s. onCut (cutList notTag s) (λ ns rest. closed rest ruleEnd (rules hs bs ns))) (λ bs s e₂ h₂.
+    on-cut l headTag l (λ hs r. onSplit (splitList bodyTag r) (λ bs s. onSplit (splitList notTag s) (λ ns rest. closed rest ruleEnd (rules hs bs ns)))) (λ hs r e₁ h₁.
+    on-cut l bodyTag r (λ bs s. onSplit (splitList notTag s) (λ ns rest. closed rest ruleEnd (rules hs bs ns))) (λ bs s e₂ h₂.
     on-cut l notTag s (λ ns rest. closed rest ruleEnd (rules hs bs ns)) (λ ns rest e₃ h₃.
     closed-line l rest ruleEnd (rules hs bs ns) (λ k.
     (e₁ ∙ ap (λ t. headTag ++ (flat item hs ++ t)) (e₂ ∙ ap (λ t. bodyTag ++ (flat item bs ++ t)) (e₃ ∙ ap (λ t. notTag ++ (flat item ns ++ t)) k)) ∙ sym (rule-line hs bs ns), h₁, h₂, h₃)))))
 
-either : (l : List ℕ) (b : Bool) (f g : Form) → LineOf f l → LineOf g l → LineOf (cond b f g) l
+either : (l : List ℕ) (b : Bool) (f g : LineForm) → LineOf f l → LineOf g l → LineOf (cond b f g) l
 either l true f g h k = h
 either l false f g h k = k
 
@@ -197,7 +197,7 @@ unfolding formOf
 form-line l =
     choice atoms _ (choice min _ (choice vary _ (choice fix (ruleForm l) (rule-form-line l))))
   where
-    choice : (w : Word) (g : Form) → LineOf g l → LineOf (cond (begins (tagOf w) l) (declaredForm w l) g) l
+    choice : (w : Word) (g : LineForm) → LineOf g l → LineOf (cond (begins (tagOf w) l) (declaredForm w l) g) l
     choice w g h = either l (begins (tagOf w) l) (declaredForm w l) g (declared-line w l) h
 
 -- the forms of written lines
@@ -205,8 +205,8 @@ form-line l =
 declared-form : (w : Word) (ns : List (List ℕ)) → All IsName ns → declaredForm w (listLine (wordOf w) ns) ≡ declares w ns
 unfolding declaredForm sameBytes
 declared-form w ns h =
-    let f : List (List ℕ) → List ℕ → Form = λ xs rest. closed rest listEnd (declares w xs) in
-    ap (λ l. onCut (cutList (tagOf w) l) f) (list-line w ns) ∙ ap (λ c. onCut c f) (cut-of (tagOf w) ns (line-end ∷ []) h)
+    let f : List (List ℕ) → List ℕ → LineForm = λ xs rest. closed rest listEnd (declares w xs) in
+    ap (λ l. onSplit (splitList (tagOf w) l) f) (list-line w ns) ∙ ap (λ c. onSplit c f) (cut-of (tagOf w) ns (line-end ∷ []) h)
 
 pub list-form : (w : Word) (ns : List (List ℕ)) → All IsName ns → formOf (listLine (wordOf w) ns) ≡ declares w ns
 unfolding formOf listLine openText sameBytes
@@ -218,15 +218,15 @@ list-form fix ns h = declared-form fix ns h
 rule-form : (hs bs ns : List (List ℕ)) → All IsName hs → All IsName bs → All IsName ns → ruleForm (ruleLine hs bs ns) ≡ rules hs bs ns
 unfolding ruleForm sameBytes
 rule-form hs bs ns h₁ h₂ h₃ =
-    let f₃ : List (List ℕ) → List (List ℕ) → List (List ℕ) → List ℕ → Form = λ xs ys zs rest. closed rest ruleEnd (rules xs ys zs) in
-    let f₂ : List (List ℕ) → List (List ℕ) → List ℕ → Form = λ xs ys s. onCut (cutList notTag s) (f₃ xs ys) in
-    let f₁ : List (List ℕ) → List ℕ → Form = λ xs r. onCut (cutList bodyTag r) (f₂ xs) in
+    let f₃ : List (List ℕ) → List (List ℕ) → List (List ℕ) → List ℕ → LineForm = λ xs ys zs rest. closed rest ruleEnd (rules xs ys zs) in
+    let f₂ : List (List ℕ) → List (List ℕ) → List ℕ → LineForm = λ xs ys s. onSplit (splitList notTag s) (f₃ xs ys) in
+    let f₁ : List (List ℕ) → List ℕ → LineForm = λ xs r. onSplit (splitList bodyTag r) (f₂ xs) in
     let third = space ∷ open-bracket ∷ (notWord ++ (flat item ns ++ ruleEnd)) in
     let second = space ∷ open-bracket ∷ (bodyWord ++ (flat item bs ++ (close-bracket ∷ third))) in
-    ap (λ l. onCut (cutList headTag l) f₁) (rule-line hs bs ns)
-    ∙ ap (λ c. onCut c f₁) (cut-of headTag hs second h₁)
-    ∙ ap (λ c. onCut c (f₂ hs)) (cut-of bodyTag bs third h₂)
-    ∙ ap (λ c. onCut c (f₃ hs bs)) (cut-of notTag ns (close-bracket ∷ line-end ∷ []) h₃)
+    ap (λ l. onSplit (splitList headTag l) f₁) (rule-line hs bs ns)
+    ∙ ap (λ c. onSplit c f₁) (cut-of headTag hs second h₁)
+    ∙ ap (λ c. onSplit c (f₂ hs)) (cut-of bodyTag bs third h₂)
+    ∙ ap (λ c. onSplit c (f₃ hs bs)) (cut-of notTag ns (close-bracket ∷ line-end ∷ []) h₃)
 
 pub rule-line-form : (hs bs ns : List (List ℕ)) → All IsName hs → All IsName bs → All IsName ns → formOf (ruleLine hs bs ns) ≡ rules hs bs ns
 unfolding formOf ruleLine openText sameBytes

@@ -10,20 +10,20 @@ use lib.ListN.{length, take, drop, length-drop, drop-of-length-le}
 use lib.Seq.{drop-drop, length-take-le}
 use Rattle.kinds.specs.declared.limits.Kind.{Kind}
 use Rattle.kinds.specs.declared.refusals.Refusal.{Refusal}
-use Rattle.kinds.specs.declared.refusals.Refusal.the-variants.{Form as BrokenForm}
+use Rattle.kinds.specs.declared.refusals.Refusal.the-variants.{BrokenForm}
 use Rattle.rules.proofs.Lists.{part-sized}
 use Rattle.gathering.specs.declared.gathered.Gathered.{Gathered}
 use Rattle.gathering.specs.declared.gathered.Line.{Line}
 use Rattle.gathering.specs.declared.gathered.Line.the-variants.{Next, Fault}
-use Rattle.stores.specs.RuleStore.{Below}
+use Rattle.stores.specs.Checking.{Below}
 use Rattle.lines.specs.declared.forms.DeclaredShape.{DeclaredShape}
 use Rattle.lines.specs.Items.{items}
 use Rattle.lines.specs.Shapes.{wordOf, Declared}
 use Rattle.reader.specs.declared.reading.Gather.{Gather}
 use Rattle.reader.specs.declared.reading.Gather.the-variants.{Whole, Refused}
 use Rattle.lines.specs.Lines.{lineLength, linesFrom, lines}
-use Rattle.lines.specs.Forms.{Form, formOf}
-use Rattle.lines.specs.Faults.{State, ruling?, stepForm}
+use Rattle.lines.specs.Forms.{LineForm, formOf}
+use Rattle.lines.specs.Faults.{SoFar, ruling?, stepForm}
 use Rattle.lines.specs.Said.{Said, accepted, refused, onStep, readLines, start, programOf}
 use Rattle.gathering.specs.Gathered.{stateOf, Held, HeldIndex, HeldMarks, LineSays, LineIs, MarksSay, MarksAre}
 use Rattle.reader.specs.Gathering.{startCounts, passedOn, GatherSays, GatherIs}
@@ -65,7 +65,7 @@ module _ (s : List ℕ) (at : ℕ) (l : at < length s) {n : ℕ} (e : n ≡ line
   line-short = omega (arith, ap length (part-sized at n (drop at s)) ∙ length-take-le n (drop at s) (omega (arith, line-inside .0, length-drop at s)), line-inside .0)
 
 -- a declaring line adds no rule
-module _ {kind : Kind} {st : State} {g : Gathered} {words bytes : List ℕ} (h : Held kind st g words bytes) {l : List ℕ} {f : Form} {s : DeclaredShape} (p : Declared kind l f s) where
+module _ {kind : Kind} {st : SoFar} {g : Gathered} {words bytes : List ℕ} (h : Held kind st g words bytes) {l : List ℕ} {f : LineForm} {s : DeclaredShape} (p : Declared kind l f s) where
   pub declared-marks : {words′ bytes′ starts′ firsts′ links′ : List ℕ} {a : Line} → LineIs kind st f words′ bytes′ starts′ firsts′ links′ a → {marks : List ℕ} → HeldMarks g marks → MarksAre marks a
   declared-marks {words′} {bytes′} {starts′} {firsts′} {links′} {a} w {marks} m = record { says = go a (w .says) }
     where
@@ -100,7 +100,7 @@ reading {kind} {s} {g} {words} {bytes} {starts} {firsts} {links} {marks} h x m e
     })
 
 module _ {kind : Kind} {s : List ℕ} {g : Gathered} {words bytes starts firsts links marks : List ℕ} {at number : ℕ} (h : Reading kind s g words bytes starts firsts links marks at number) where
-  abbrev st : State
+  abbrev st : SoFar
   st = stateOf kind g words bytes
 
   abbrev whole : Said

@@ -9,20 +9,20 @@ use lib.Dec.{T, leb, leb→le, le→leb}
 use Rattle.kinds.specs.Limits.{classLimit, within}
 use Rattle.kinds.specs.declared.limits.Kind.{Kind}
 use Rattle.kinds.specs.declared.refusals.Refusal.{Refusal}
-use Rattle.kinds.specs.declared.refusals.Refusal.the-variants.{Form as BrokenForm, Name, DeclaredTwice, Undeclared, TwiceInList, Limit, FilledNot}
+use Rattle.kinds.specs.declared.refusals.Refusal.the-variants.{BrokenForm, Name, DeclaredTwice, Undeclared, TwiceInList, Limit, FilledNot}
 use Rattle.rules.specs.Lists.{All, Distinct, some}
 use Rattle.rules.proofs.Booleans.{is-true, stable, T-not-in, T-not-out, T-and, T-and-l, T-and-r, T-or, T-or-out}
 use Rattle.rules.proofs.Lists.{all-imp}
 use Rattle.names.specs.Names.{allowed}
-use Rattle.numbering.specs.Entries.{among}
+use Rattle.name_store.specs.NameStore.{among}
 use Rattle.lines.specs.Forms.{Word}
-use Rattle.lines.specs.Faults.{State, countsOf, Step, next, expects, ruling?, classesAfter, twice, refusedName, anyOf, first, declared, declare, numbered, with-rule, filled, addRule}
+use Rattle.lines.specs.Faults.{SoFar, countsOf, Step, next, expects, ruling?, classesAfter, twice, refusedName, anyOf, first, declared, declare, numbered, with-rule, filled, addRule}
 use Rattle.gathering.proofs.HeldState.{Fits, within-limits, limits-within}
 use Rattle.reader.proofs.NumberedNames.{Declared, declared-law, some-none, twice-free, free-twice}
 
 -- one test after another
 
-passed : (b : Bool) (f : Refusal) (s : Step) {after : State} → first b f s ≡ next after → (T b → ⊥) × (s ≡ next after)
+passed : (b : Bool) (f : Refusal) (s : Step) {after : SoFar} → first b f s ≡ next after → (T b → ⊥) × (s ≡ next after)
 passed true f s e = absurd (let z : _≡_ {A = ℕ} 0 1 = cc in omega arith)
 passed false f s e = (λ t. t, e)
 
@@ -30,7 +30,7 @@ passes : (b : Bool) (f : Refusal) (s : Step) → (T b → ⊥) → first b f s �
 passes true f s h = absurd (h tt)
 passes false f s h = refl
 
-next-inj : {a b : State} → next a ≡ next b → a ≡ b
+next-inj : {a b : SoFar} → next a ≡ next b → a ≡ b
 next-inj e = cc
 
 holds : (b : Bool) → (T (not b) → ⊥) ↔ T b
@@ -45,14 +45,14 @@ none-fails p l = (
 
 -- a line that declares atoms
 
-pub record Declares (st : State) (w : Word) (xs : List (List ℕ)) : Type 0 where
+pub record Declares (st : SoFar) (w : Word) (xs : List (List ℕ)) : Type 0 where
   pub expected : T (expects (st .kind) (st .stage) w)
   pub all-allowed : All (λ x. T (allowed (st .kind) x)) xs
   pub not-twice : T (twice (st .names) xs) → ⊥
   pub counts-fit : Fits (st .kind) (countsOf (declared st w xs))
   pub classes-fit : classesAfter w (st .classes) ≤ classLimit
 
-module _ (st : State) (w : Word) (xs : List (List ℕ)) where
+module _ (st : SoFar) (w : Word) (xs : List (List ℕ)) where
   abbrev unexpected : Bool
   unexpected = not (expects (st .kind) (st .stage) w)
 
@@ -74,7 +74,7 @@ module _ (st : State) (w : Word) (xs : List (List ℕ)) where
   abbrev compared : Step
   compared = first (twice (st .names) xs) DeclaredTwice counted
 
-  pub declare-said : (after : State) → declare st w xs ≡ next after → Declares st w xs × (declared st w xs ≡ after)
+  pub declare-said : (after : SoFar) → declare st w xs ≡ next after → Declares st w xs × (declared st w xs ≡ after)
   unfolding declare
   declare-said after e =
       let e₁ = passed unexpected BrokenForm (first refusedNames Name compared) e in
@@ -108,7 +108,7 @@ pub record Listed (kind : Kind) (names xs : List (List ℕ)) : Type 0 where
   pub all-declared : All (Declared names) xs
   pub different : Distinct xs
 
-pub record Adds (st : State) (hs bs ns : List (List ℕ)) : Type 0 where
+pub record Adds (st : SoFar) (hs bs ns : List (List ℕ)) : Type 0 where
   pub ruling : T (ruling? (st .stage))
   pub head-listed : Listed (st .kind) (st .names) hs
   pub body-listed : Listed (st .kind) (st .names) bs
@@ -142,7 +142,7 @@ listed-law kind names xs = (
   λ h. (none-fails (allowed kind) xs .1 (h .all-allowed), all-declared-law names xs .1 (h .all-declared), free-twice [] xs (h .different)),
 )
 
-module _ (st : State) (hs bs ns : List (List ℕ)) where
+module _ (st : SoFar) (hs bs ns : List (List ℕ)) where
   abbrev refusedAny : Bool
   refusedAny = anyOf (some (refusedName (st .kind))) hs bs ns
 
@@ -164,7 +164,7 @@ module _ (st : State) (hs bs ns : List (List ℕ)) where
   abbrev known : Step
   known = first undeclaredAny Undeclared (first twiceAny TwiceInList limited)
 
-  pub rule-said : (after : State) → addRule st hs bs ns ≡ next after → Adds st hs bs ns × (with-rule st (numbered (st .names) hs bs ns) ≡ after)
+  pub rule-said : (after : SoFar) → addRule st hs bs ns ≡ next after → Adds st hs bs ns × (with-rule st (numbered (st .names) hs bs ns) ≡ after)
   unfolding addRule
   rule-said after e =
       let e₁ = passed (not (ruling? (st .stage))) BrokenForm (first refusedAny Name known) e in

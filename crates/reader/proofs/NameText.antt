@@ -13,7 +13,7 @@ use Rattle.rules.proofs.Booleans.{T-and-l, T-and-r, T-or-out}
 use Rattle.rules.proofs.Lists.{all-imp, every-all}
 use Rattle.names.specs.declared.forms.NameClass.{NameClass}
 use Rattle.names.specs.declared.forms.NameClass.the-variants.{House, Generated, Wrong}
-use Rattle.names.specs.Names.{letter?, digit?, nameByte?, house?, classNumber?, sized, dotted, generated, nameClass}
+use Rattle.names.specs.Names.{letter?, digit?, nameByte?, house?, classNumber?, byLength, dotted, generated, nameClass}
 use Rattle.lines.specs.Items.{delimiter?}
 use Rattle.lines.specs.Forms.{isName}
 
@@ -92,7 +92,7 @@ picked false c d f g h = g h
 
 dotted-high : (c : ℕ) (x : List ℕ) → T (isName (dotted c x)) → (46 ≤ c) × High x
 dotted-high c x =
-    picked (copy && house? x) (sized x Generated) (cond (eqb c 69 && classNumber? x) Generated Wrong)
+    picked (copy && house? x) (byLength x Generated) (cond (eqb c 69 && classNumber? x) Generated Wrong)
     (λ t. (mark (T-or-out (eqb c 78) (eqb c 83 || eqb c 68) (T-and-l copy (house? x) t)), house-high x (T-and-r copy (house? x) t)))
     (picked (eqb c 69 && classNumber? x) Generated Wrong
     (λ t. (omega (arith, eqb→eq c 69 (T-and-l (eqb c 69) (classNumber? x) t)), number-high x (T-and-r (eqb c 69) (classNumber? x) t)))
@@ -123,4 +123,4 @@ generated-high x h =
 pub name-bytes : (x : List ℕ) → IsName x → NoDelimiter x
 unfolding nameClass
 name-bytes x h =
-    all-imp (λ b. 46 ≤ b) (λ b. T (not (delimiter? b))) high-byte x (picked (house? x) (sized x House) (generated x) (house-high x) (generated-high x) h)
+    all-imp (λ b. 46 ≤ b) (λ b. T (not (delimiter? b))) high-byte x (picked (house? x) (byLength x House) (generated x) (house-high x) (generated-high x) h)

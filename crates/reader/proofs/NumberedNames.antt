@@ -11,11 +11,10 @@ use lib.Seq.{append-snoc}
 use Rattle.rules.specs.Lists.{All, Any, Distinct, some}
 use Rattle.rules.proofs.Booleans.{T-or, T-or-out, is-true}
 use Rattle.rules.proofs.Lists.{all-app, all-app-r, all-any, all-imp, some-any, all-at, distinct-map}
-use Rattle.name_store.specs.NameStore.{sameBytes}
-use Rattle.numbering.specs.Entries.{among}
+use Rattle.name_store.specs.NameStore.{sameBytes, among}
 use Rattle.name_store.proofs.NameStores.{same-law}
 use Rattle.text.specs.Text.{named}
-use Rattle.lines.specs.Faults.{twice, numberOf}
+use Rattle.lines.specs.Faults.{twice, nameNumber}
 
 -- x is one of the names
 abbrev pub Declared : List (List ℕ) → List ℕ → Type 0
@@ -66,22 +65,22 @@ free-twice old (x ∷ xs) d t =
 -- numbers
 
 module _ (x : List ℕ) where
-  pub number-below : (names : List (List ℕ)) → Declared names x → numberOf names x < length names
-  unfolding numberOf
+  pub number-below : (names : List (List ℕ)) → Declared names x → nameNumber names x < length names
+  unfolding nameNumber
   number-below [] h = absurd h
   number-below (y ∷ ys) h = go (sameBytes x y) (same-law x y .1) (number-below ys) h
     where
-      go : (b : Bool) → (x ≡ y → T b) → (Declared ys x → numberOf ys x < length ys) → (x ≡ y) ⊎ Declared ys x → cond b 0 (suc (numberOf ys x)) < suc (length ys)
+      go : (b : Bool) → (x ≡ y → T b) → (Declared ys x → nameNumber ys x < length ys) → (x ≡ y) ⊎ Declared ys x → cond b 0 (suc (nameNumber ys x)) < suc (length ys)
       go true e r k = omega arith
       go false e r (inl k) = absurd (e k)
       go false e r (inr k) = omega (arith, r k)
 
-  pub name-of-number : (names : List (List ℕ)) → Declared names x → getD names (numberOf names x) [] ≡ x
-  unfolding numberOf
+  pub name-of-number : (names : List (List ℕ)) → Declared names x → getD names (nameNumber names x) [] ≡ x
+  unfolding nameNumber
   name-of-number [] h = absurd h
   name-of-number (y ∷ ys) h = go (sameBytes x y) (same-law x y) (name-of-number ys) h
     where
-      go : (b : Bool) → T b ↔ (x ≡ y) → (Declared ys x → getD ys (numberOf ys x) [] ≡ x) → (x ≡ y) ⊎ Declared ys x → getD (y ∷ ys) (cond b 0 (suc (numberOf ys x))) [] ≡ x
+      go : (b : Bool) → T b ↔ (x ≡ y) → (Declared ys x → getD ys (nameNumber ys x) [] ≡ x) → (x ≡ y) ⊎ Declared ys x → getD (y ∷ ys) (cond b 0 (suc (nameNumber ys x))) [] ≡ x
       go true e r k = sym (e .0 tt)
       go false e r (inl k) = absurd (e .1 k)
       go false e r (inr k) = r k
@@ -93,13 +92,13 @@ module _ (x : List ℕ) where
       go true e = absurd (h (sym (e tt)))
       go false e = refl
 
-pub number-of-name : (names : List (List ℕ)) (a : ℕ) → Distinct names → a < length names → numberOf names (getD names a []) ≡ a
-unfolding numberOf
+pub number-of-name : (names : List (List ℕ)) (a : ℕ) → Distinct names → a < length names → nameNumber names (getD names a []) ≡ a
+unfolding nameNumber
 number-of-name [] a d h = absurd (omega arith)
-number-of-name (y ∷ ys) zero d h = ap (λ b. cond b 0 (suc (numberOf ys y))) (is-true (sameBytes y y) (same-law y y .1 refl))
+number-of-name (y ∷ ys) zero d h = ap (λ b. cond b 0 (suc (nameNumber ys y))) (is-true (sameBytes y y) (same-law y y .1 refl))
 number-of-name (y ∷ ys) (suc a) d h =
     let x = getD ys a [] in
-    is-no-other x y (suc (numberOf ys x)) (all-at (λ z. y ≢ z) [] ys (d .0) a (omega arith)) ∙ ap suc (number-of-name ys a (d .1) (omega arith))
+    is-no-other x y (suc (nameNumber ys x)) (all-at (λ z. y ≢ z) [] ys (d .0) a (omega arith)) ∙ ap suc (number-of-name ys a (d .1) (omega arith))
 
 pub declared-at : (names : List (List ℕ)) (a : ℕ) → a < length names → Declared names (getD names a [])
 declared-at [] a h = absurd (omega arith)
@@ -109,19 +108,19 @@ declared-at (y ∷ ys) (suc a) h = inr (declared-at ys a (omega arith))
 -- the lists of a rule
 
 module _ (names : List (List ℕ)) where
-  pub names-of-numbers : (xs : List (List ℕ)) → All (Declared names) xs → named names (map (numberOf names) xs) ≡ xs
+  pub names-of-numbers : (xs : List (List ℕ)) → All (Declared names) xs → named names (map (nameNumber names) xs) ≡ xs
   names-of-numbers [] h = refl
   names-of-numbers (x ∷ xs) h = ap₂ _∷_ (name-of-number x names (h .0)) (names-of-numbers xs (h .1))
 
-  pub numbers-differ : (xs : List (List ℕ)) → All (Declared names) xs → Distinct xs → Distinct (map (numberOf names) xs)
+  pub numbers-differ : (xs : List (List ℕ)) → All (Declared names) xs → Distinct xs → Distinct (map (nameNumber names) xs)
   numbers-differ xs h d =
-      distinct-map (numberOf names) (Declared names) (λ x y k l e. sym (name-of-number x names k) ∙ ap (λ i. getD names i []) e ∙ name-of-number y names l) xs h d
+      distinct-map (nameNumber names) (Declared names) (λ x y k l e. sym (name-of-number x names k) ∙ ap (λ i. getD names i []) e ∙ name-of-number y names l) xs h d
 
   module _ (different : Distinct names) where
-    pub numbers-of-names : (as′ : List ℕ) → All (λ a. a < length names) as′ → map (numberOf names) (named names as′) ≡ as′
+    pub numbers-of-names : (as′ : List ℕ) → All (λ a. a < length names) as′ → map (nameNumber names) (named names as′) ≡ as′
     numbers-of-names [] h = refl
     numbers-of-names (a ∷ as′) h = ap₂ _∷_ (number-of-name names a different (h .0)) (numbers-of-names as′ (h .1))
 
     pub names-differ : (as′ : List ℕ) → All (λ a. a < length names) as′ → Distinct as′ → Distinct (named names as′)
     names-differ as′ h d =
-        distinct-map (λ a. getD names a []) (λ a. a < length names) (λ a b k l e. sym (number-of-name names a different k) ∙ ap (numberOf names) e ∙ number-of-name names b different l) as′ h d
+        distinct-map (λ a. getD names a []) (λ a. a < length names) (λ a b k l e. sym (number-of-name names a different k) ∙ ap (nameNumber names) e ∙ number-of-name names b different l) as′ h d

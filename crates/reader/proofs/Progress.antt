@@ -7,24 +7,23 @@ use mathlib.Core.Bool.{Bool, true, false, cond}
 use mathlib.Core.List.{List, [], _∷_, _++_, map, append-assoc, append-nil}
 use lib.Dec.{T}
 use lib.ListN.{length, replicate}
-use Rattle.kinds.specs.Limits.{atomLimit, classLimit}
+use Rattle.kinds.specs.Limits.{atomLimit, classLimit, varying, fixed}
 use Rattle.kinds.specs.declared.limits.Kind.{Kind}
 use Rattle.kinds.specs.declared.limits.Kind.the-variants.{Plain, Preference}
-use Rattle.kinds.specs.declared.refusals.Refusal.the-variants.{Form as BrokenForm}
+use Rattle.kinds.specs.declared.refusals.Refusal.the-variants.{BrokenForm}
 use Rattle.rules.specs.Lists.{All, flat, from}
 use Rattle.rules.specs.Rules.{Rule, occurrences}
-use Rattle.rules.specs.Preferred.{varying, fixed}
 use Rattle.rules.proofs.Lists.{all-app, all-imp, all-from, all-map}
 use Rattle.names.specs.Names.{allowed}
 use Rattle.name_store.specs.NameStore.{NamesForm}
-use Rattle.stores.specs.Program.{Program, Form, RoleForm, roleOf, ListForm, NotForm, RuleForm}
+use Rattle.stores.specs.Program.{Program, ProgramForm, RoleForm, roleOf, ListForm, NotForm, RuleForm}
 use Rattle.kinds.specs.Words.{atomsWord, minWord, varyWord, fixWord}
 use Rattle.text.specs.Text.{listLine, ruleLine, ruleText, declarations, textOf}
 use Rattle.lines.specs.declared.stage.Stage.{Stage}
 use Rattle.lines.specs.declared.stage.Stage.the-variants.{Declaring, Fixing, Ruling}
 use Rattle.lines.specs.Forms.{Word, atoms, min, vary, fix, declares, rules, broken, formOf, begins, tagOf}
-use Rattle.lines.specs.Forms.{Form as LineForm}
-use Rattle.lines.specs.Faults.{State, Step, next, fault, expects, ruling?, numberOf, declared, numbered, with-rule, filled, stepForm}
+use Rattle.lines.specs.Forms.{LineForm}
+use Rattle.lines.specs.Faults.{SoFar, Step, next, fault, expects, ruling?, nameNumber, declared, numbered, with-rule, filled, stepForm}
 use Rattle.lines.specs.Said.{accepted, refused, start, onStep, readLines, programOf}
 use Rattle.reader.proofs.LineText.{joined}
 use Rattle.reader.proofs.FormText.{wordOf, LineOf, form-line}
@@ -61,7 +60,7 @@ abbrev minLines : ℕ → List ℕ → List (List ℕ) → List ℕ
 minLines k words names = flat (λ j. listLine minWord (classNames words names j)) (from 1 k)
 
 -- the text of the lines so far
-abbrev textAt : Stage → Kind → State → List ℕ
+abbrev textAt : Stage → Kind → SoFar → List ℕ
 textAt Declaring Plain st = []
 textAt Declaring Preference st = minLines (st .classes) (st .words) (st .names)
 textAt Fixing Plain st = []
@@ -69,20 +68,20 @@ textAt Fixing Preference st = minLines (st .classes) (st .words) (st .names) ++ 
 textAt Ruling kind st = textOf (programOf st) (st .names)
 
 -- what the lines so far leave open
-abbrev StageForm : Stage → Kind → State → Type 0
+abbrev StageForm : Stage → Kind → SoFar → Type 0
 StageForm Declaring Plain st = (st .names ≡ []) × (st .program-rules ≡ [])
 StageForm Declaring Preference st = All (λ w. w ≤ st .classes) (st .words) × (st .program-rules ≡ [])
 StageForm Fixing Plain st = ⊥
 StageForm Fixing Preference st = All (λ w. w ≤ varying) (st .words) × (st .program-rules ≡ [])
 StageForm Ruling kind st = Unit {0}
 
-pub record SoFar (st : State) (text : List ℕ) : Type 0 where
-  pub form : Form (programOf st)
+pub record SoFar (st : SoFar) (text : List ℕ) : Type 0 where
+  pub form : ProgramForm (programOf st)
   pub names-form : NamesForm (st .kind) (length (st .names)) (st .names)
   pub stage-form : StageForm (st .stage) (st .kind) st
   pub text-is : textAt (st .stage) (st .kind) st ≡ text
 
-abbrev pub state : Kind → Stage → ℕ → List ℕ → List (List ℕ) → List (Rule ℕ) → State
+abbrev pub state : Kind → Stage → ℕ → List ℕ → List (List ℕ) → List (Rule ℕ) → SoFar
 state kind stage k words names rs =
     record { kind = kind; stage = stage; classes = k; words = words; names = names; program-rules = rs }
 
@@ -106,7 +105,7 @@ from-snoc s (suc c) t e = ap (λ l. s ∷ l) (from-snoc (suc s) c t (omega arith
 
 -- a line that declares atoms
 
-names-more : {st : State} {text : List ℕ} {w : Word} {xs : List (List ℕ)} → SoFar st text → Declares st w xs → NamesForm (st .kind) (length (st .names ++ xs)) (st .names ++ xs)
+names-more : {st : SoFar} {text : List ℕ} {w : Word} {xs : List (List ℕ)} → SoFar st text → Declares st w xs → NamesForm (st .kind) (length (st .names ++ xs)) (st .names ++ xs)
 names-more {st} {xs = xs} s d = record {
   count = refl;
   all-allowed = all-app (λ x. T (allowed (st .kind) x)) (st .names) xs (s .names-form .all-allowed) (d .all-allowed);
@@ -132,8 +131,8 @@ module _ (k : ℕ) (words : List ℕ) (names : List (List ℕ)) (same : length w
   below-after : All (λ w. w ≤ v) words → All (λ w. w ≤ v) wordsAfter
   below-after h = all-app (λ w. w ≤ v) words (replicate (length xs) v) h (all-replicate (λ w. w ≤ v) (length xs) v (omega arith))
 
-  module _ (stage after : Stage) (j : ℕ) (rs : List (Rule ℕ)) (none : rs ≡ []) (f : Form (programOf (state Preference stage k words names rs))) where
-    form-after : k ≤ j → j ≤ classLimit → length (names ++ xs) ≤ atomLimit Preference → All (λ w. w ≤ v) words → RoleForm j (roleOf v) → Form (programOf (state Preference after j wordsAfter (names ++ xs) rs))
+  module _ (stage after : Stage) (j : ℕ) (rs : List (Rule ℕ)) (none : rs ≡ []) (f : ProgramForm (programOf (state Preference stage k words names rs))) where
+    form-after : k ≤ j → j ≤ classLimit → length (names ++ xs) ≤ atomLimit Preference → All (λ w. w ≤ v) words → RoleForm j (roleOf v) → ProgramForm (programOf (state Preference after j wordsAfter (names ++ xs) rs))
     form-after more fits room low role = record {
       atoms-fit = room;
       rules-fit = f .rules-fit;
@@ -217,7 +216,7 @@ module _ {text : List ℕ} (k : ℕ) (words : List ℕ) (names : List (List ℕ)
             ∙ ap₂ _++_ (ap₂ _++_ (min-lines-kept k words names same fixed xs (omega arith)) (line-kept k words names same fixed xs varyWord varying (omega arith)) ∙ s .text-is) (line-new k words names same fixed xs fixWord strict);
       }
 
-declare-step : (st : State) (w : Word) (xs : List (List ℕ)) {text : List ℕ} → SoFar st text → Declares st w xs → SoFar (declared st w xs) (text ++ listLine (wordOf w) xs)
+declare-step : (st : SoFar) (w : Word) (xs : List (List ℕ)) {text : List ℕ} → SoFar st text → Declares st w xs → SoFar (declared st w xs) (text ++ listLine (wordOf w) xs)
 declare-step st w xs {text} s d = go (turn (st .kind) (st .stage) w (d .expected)) s d
   where
     go : {kind : Kind} {stage : Stage} {v : Word} → Turn kind stage v
@@ -240,14 +239,14 @@ no-nots-form Plain f ns h = tt
 no-nots-form Preference f [] h = refl
 no-nots-form Preference f (x ∷ ns) h = absurd (h tt)
 
-list-form : {kind : Kind} {names xs : List (List ℕ)} → Listed kind names xs → ListForm (length names) (map (numberOf names) xs)
+list-form : {kind : Kind} {names xs : List (List ℕ)} → Listed kind names xs → ListForm (length names) (map (nameNumber names) xs)
 list-form {kind} {names} {xs} l = (
-  all-map (λ a. a < length names) (numberOf names) xs (all-imp (Declared names) (λ x. numberOf names x < length names) (λ x d. number-below x names d) xs (l .all-declared)),
+  all-map (λ a. a < length names) (nameNumber names) xs (all-imp (Declared names) (λ x. nameNumber names x < length names) (λ x d. number-below x names d) xs (l .all-declared)),
   numbers-differ names xs (l .all-declared) (l .different),
 )
 
 module _ (kind : Kind) (k : ℕ) (words : List ℕ) (names : List (List ℕ)) (rs : List (Rule ℕ)) (hs bs ns : List (List ℕ)) where
-  abbrev before : State
+  abbrev before : SoFar
   before = state kind Ruling k words names rs
 
   abbrev new : Rule ℕ
@@ -275,7 +274,7 @@ module _ (kind : Kind) (k : ℕ) (words : List ℕ) (names : List (List ℕ)) (r
               head-form = list-form (d .head-listed);
               body-form = list-form (d .body-listed);
               nots-form = list-form (d .nots-listed);
-              no-nots = no-nots-form kind (numberOf names) ns (d .no-nots);
+              no-nots = no-nots-form kind (nameNumber names) ns (d .no-nots);
             },
             tt,
           );
@@ -288,7 +287,7 @@ module _ (kind : Kind) (k : ℕ) (words : List ℕ) (names : List (List ℕ)) (r
             ∙ ap₂ _++_ (s .text-is) (line-of-rule d);
       }
 
-rule-step : (st : State) (hs bs ns : List (List ℕ)) {text : List ℕ} → SoFar st text → Adds st hs bs ns → SoFar (with-rule st (numbered (st .names) hs bs ns)) (text ++ ruleLine hs bs ns)
+rule-step : (st : SoFar) (hs bs ns : List (List ℕ)) {text : List ℕ} → SoFar st text → Adds st hs bs ns → SoFar (with-rule st (numbered (st .names) hs bs ns)) (text ++ ruleLine hs bs ns)
 rule-step st hs bs ns {text} s d = go (st .stage) (d .ruling) s d
   where
     go : (stage : Stage) → T (ruling? stage)
@@ -301,7 +300,7 @@ rule-step st hs bs ns {text} s d = go (st .stage) (d .ruling) s d
 
 -- every line
 
-line-step : (st : State) (l : List ℕ) {after : State} {text : List ℕ} → SoFar st text → stepForm st (formOf l) ≡ next after → SoFar after (text ++ l)
+line-step : (st : SoFar) (l : List ℕ) {after : SoFar} {text : List ℕ} → SoFar st text → stepForm st (formOf l) ≡ next after → SoFar after (text ++ l)
 line-step st l {after} {text} s = go (formOf l) (form-line l)
   where
     go : (f : LineForm) → LineOf f l → stepForm st f ≡ next after → SoFar after (text ++ l)
@@ -311,11 +310,11 @@ line-step st l {after} {text} s = go (formOf l) (form-line l)
 
 -- what all lines together say: stores of the form, whose text they are
 pub record AllSaid (p : Program) (names : List (List ℕ)) (text : List ℕ) : Type 0 where
-  pub form : Form p
+  pub form : ProgramForm p
   pub names-form : NamesForm (p .kind) (p .atoms) names
   pub text-is : textOf p names ≡ text
 
-all-said : {st : State} {text : List ℕ} → SoFar st text → T (ruling? (st .stage)) → AllSaid (programOf st) (st .names) text
+all-said : {st : SoFar} {text : List ℕ} → SoFar st text → T (ruling? (st .stage)) → AllSaid (programOf st) (st .names) text
 all-said {st} {text} s r = record { form = s .form; names-form = s .names-form; text-is = go (st .stage) r (s .text-is) }
   where
     go : (stage : Stage) → T (ruling? stage) → textAt stage (st .kind) st ≡ text → textOf (programOf st) (st .names) ≡ text
@@ -323,7 +322,7 @@ all-said {st} {text} s r = record { form = s .form; names-form = s .names-form; 
     go Fixing h e = absurd h
     go Ruling h e = e
 
-pub lines-said : (k : ℕ) (st : State) (ls : List (List ℕ)) (text : List ℕ) {p : Program} {names : List (List ℕ)} → SoFar st text → readLines k st ls ≡ accepted p names → AllSaid p names (text ++ joined ls)
+pub lines-said : (k : ℕ) (st : SoFar) (ls : List (List ℕ)) (text : List ℕ) {p : Program} {names : List (List ℕ)} → SoFar st text → readLines k st ls ≡ accepted p names → AllSaid p names (text ++ joined ls)
 unfolding readLines
 lines-said k st [] text {p} {names} s e = go (ruling? (st .stage)) (λ t. t) e
   where
@@ -336,8 +335,8 @@ lines-said k st [] text {p} {names} s e = go (ruling? (st .stage)) (λ t. t) e
 lines-said k st (l ∷ ls) text {p} {names} s e = go (stepForm st (formOf l)) (λ after. line-step st l s) (λ after t. lines-said (suc k) after ls t) e
   where
     go : (q : Step)
-        → ((after : State) → q ≡ next after → SoFar after (text ++ l))
-        → ((after : State) (t : List ℕ) → SoFar after t → readLines (suc k) after ls ≡ accepted p names → AllSaid p names (t ++ joined ls))
+        → ((after : SoFar) → q ≡ next after → SoFar after (text ++ l))
+        → ((after : SoFar) (t : List ℕ) → SoFar after t → readLines (suc k) after ls ≡ accepted p names → AllSaid p names (t ++ joined ls))
         → onStep q k (λ after. readLines (suc k) after ls) ≡ accepted p names
         → AllSaid p names (text ++ (l ++ joined ls))
     go (next after) f rec i = subst (AllSaid p names) (append-assoc text l (joined ls)) (rec after (text ++ l) (f after refl) i)

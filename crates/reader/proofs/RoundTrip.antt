@@ -7,21 +7,20 @@ use mathlib.Core.Bool.{Bool, true, false, cond}
 use mathlib.Core.List.{List, [], _++_, append-nil}
 use lib.Dec.{T, leb, le→leb}
 use lib.ListN.{length}
-use Rattle.kinds.specs.Limits.{atomLimit, textLimit}
+use Rattle.kinds.specs.Limits.{atomLimit, textLimit, varying, fixed}
 use Rattle.kinds.specs.declared.limits.Kind.{Kind}
 use Rattle.kinds.specs.declared.limits.Kind.the-variants.{Plain, Preference}
-use Rattle.kinds.specs.declared.refusals.Refusal.the-variants.{TextTooLong, Form as BrokenForm}
+use Rattle.kinds.specs.declared.refusals.Refusal.the-variants.{TextTooLong, BrokenForm}
 use Rattle.rules.specs.Lists.{All, flat, from}
-use Rattle.rules.specs.Preferred.{varying, fixed}
 use Rattle.rules.proofs.Booleans.{is-true}
 use Rattle.name_store.specs.NameStore.{NamesForm, sameBytes}
-use Rattle.stores.specs.Program.{Program, Form, RuleForm}
+use Rattle.stores.specs.Program.{Program, ProgramForm, RuleForm}
 use Rattle.kinds.specs.Words.{minWord, varyWord, fixWord}
 use Rattle.text.specs.Text.{openText, listLine, classLine, declarations, ruleText, textOf}
 use Rattle.lines.specs.declared.stage.Stage.the-variants.{Declaring, Ruling}
 use Rattle.lines.specs.Lines.{linesFrom, lines}
 use Rattle.lines.specs.Forms.{atoms, begins, tagOf}
-use Rattle.lines.specs.Faults.{State, ruling?}
+use Rattle.lines.specs.Faults.{SoFar, ruling?}
 use Rattle.lines.specs.Said.{accepted, refused, start, readLines, said, programOf}
 use Rattle.text.proofs.TextLength.{text-fits}
 use Rattle.reader.specs.WrittenText.{WrittenText}
@@ -44,7 +43,7 @@ pub read-write : (text : List ℕ) (p : Program) (names : List (List ℕ)) → s
 read-write text p names e = accepted-text text p names e .text-is
 
 -- they are of the form, and the names fit
-pub accepted-form : (text : List ℕ) (p : Program) (names : List (List ℕ)) → said text ≡ accepted p names → Form p × NamesForm (p .kind) (p .atoms) names
+pub accepted-form : (text : List ℕ) (p : Program) (names : List (List ℕ)) → said text ≡ accepted p names → ProgramForm p × NamesForm (p .kind) (p .atoms) names
 accepted-form text p names e = let s = accepted-text text p names e in (s .form, s .names-form)
 
 -- a written text
@@ -70,7 +69,7 @@ start-is kind p names rest = ap (λ b. state (cond b Plain Preference) Declaring
     go Plain = refl
     go Preference = refl
 
-said-read : (text : List ℕ) (st end : State) → length text ≤ textLimit → start text ≡ st → Reads st text end → T (ruling? (end .stage)) → said text ≡ accepted (programOf end) (end .names)
+said-read : (text : List ℕ) (st end : SoFar) → length text ≤ textLimit → start text ≡ st → Reads st text end → T (ruling? (end .stage)) → said text ≡ accepted (programOf end) (end .names)
 unfolding said readLines lines linesFrom
 said-read text st end short e r ruling =
     let last = r .reads 1 [] in
@@ -80,10 +79,10 @@ said-read text st end short e r ruling =
     ∙ ap (λ b. cond b (accepted (programOf end) (end .names)) (refused BrokenForm (last .0))) (is-true (ruling? (end .stage)) ruling)
 
 -- the state after the last line of a program's text
-abbrev endState : Program → List (List ℕ) → State
+abbrev endState : Program → List (List ℕ) → SoFar
 endState p names = state (p .kind) Ruling (p .classes) (p .words) names (p .rules)
 
-reads-program : (p : Program) (names : List (List ℕ)) → Form p → NamesForm (p .kind) (p .atoms) names → Reads (state (p .kind) Declaring 0 [] [] []) (textOf p names) (endState p names)
+reads-program : (p : Program) (names : List (List ℕ)) → ProgramForm p → NamesForm (p .kind) (p .atoms) names → Reads (state (p .kind) Declaring 0 [] [] []) (textOf p names) (endState p names)
 unfolding textOf
 reads-program p names f g =
     reads-then (reads-declarations (p .kind) p names (f .classes-form) g (f .atoms-fit))
@@ -94,7 +93,7 @@ unfolding textOf
 start-program p names = start-is (p .kind) p names (flat (ruleText names) (p .rules))
 
 -- stores of the form are written to a text that is accepted and gives them back
-pub write-read : (p : Program) (names : List (List ℕ)) → Form p → NamesForm (p .kind) (p .atoms) names → said (textOf p names) ≡ accepted p names
+pub write-read : (p : Program) (names : List (List ℕ)) → ProgramForm p → NamesForm (p .kind) (p .atoms) names → said (textOf p names) ≡ accepted p names
 write-read p names f g =
     said-read (textOf p names) (state (p .kind) Declaring 0 [] [] []) (endState p names) (text-fits f g) (start-program p names) (reads-program p names f g) tt
     ∙ ap (λ n. accepted (counting n) names) (g .count)

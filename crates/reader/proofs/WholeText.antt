@@ -14,7 +14,8 @@ use Rattle.kinds.specs.declared.refusals.Refusal.{Refusal}
 use Rattle.kinds.specs.declared.refusals.Refusal.the-variants.{TextTooLong}
 use Rattle.name_store.specs.NameStore.{encodeNames, decodeNames}
 use Rattle.name_store.specs.NameIndex.{buckets}
-use Rattle.stores.specs.RuleStore.{wordCount, Below}
+use Rattle.stores.specs.Checking.{Below}
+use Rattle.stores.specs.RuleStore.{wordCount}
 use Rattle.delivery.specs.declared.answers.Read.{Read}
 use Rattle.delivery.specs.declared.answers.Read.the-variants.{Refused}
 use Rattle.reader.specs.declared.reading.Gather.{Gather}

@@ -10,25 +10,24 @@ use lib.Dec.{T}
 use lib.ListN.{length, getD, replicate, length-append}
 use lib.Seq.{append-snoc}
 use borrow.Author.Tests.{le-leb, lt-leb}
-use Rattle.kinds.specs.Limits.{atomLimit, ruleLimit, occurrenceLimit, classLimit}
+use Rattle.kinds.specs.Limits.{atomLimit, ruleLimit, occurrenceLimit, classLimit, varying, fixed}
 use Rattle.kinds.specs.declared.limits.Kind.{Kind}
 use Rattle.kinds.specs.declared.limits.Kind.the-variants.{Plain, Preference}
 use Rattle.rules.specs.Lists.{All, Distinct, flat, from, sum}
 use Rattle.rules.specs.Rules.{Rule, rule, occurrences}
-use Rattle.rules.specs.Preferred.{varying, fixed}
 use Rattle.rules.proofs.Lists.{all-imp, all-map, all-at, sum-app}
 use Rattle.names.specs.declared.forms.NameClass.{NameClass}
 use Rattle.names.specs.declared.forms.NameClass.the-variants.{House, Generated, TooLong, Wrong}
 use Rattle.names.specs.Names.{nameClass, takes, allowed}
 use Rattle.name_store.specs.NameStore.{NamesForm}
-use Rattle.stores.specs.Program.{Program, RoleForm, roleOf, Rising, ClassesForm, ListForm, NotForm, RuleForm}
+use Rattle.stores.specs.Program.{Program, RoleForm, roleOf, NeverFalling, ClassesForm, ListForm, NotForm, RuleForm}
 use Rattle.kinds.specs.Words.{minWord}
 use Rattle.text.specs.Text.{named, listLine, ruleLine, ruleText, declarations}
 use Rattle.lines.specs.declared.stage.Stage.{Stage}
 use Rattle.lines.specs.declared.stage.Stage.the-variants.{Declaring, Fixing, Ruling}
 use Rattle.lines.specs.Lines.{lines}
 use Rattle.lines.specs.Forms.{Word, atoms, min, vary, fix, isName, formOf}
-use Rattle.lines.specs.Faults.{State, countsOf, next, expects, stageAfter, classesAfter, classWords, declared, numbered, with-rule, filled, stepForm}
+use Rattle.lines.specs.Faults.{SoFar, countsOf, next, expects, stageAfter, classesAfter, classWords, declared, numbered, with-rule, filled, stepForm}
 use Rattle.lines.specs.Said.{onStep, readLines}
 use Rattle.gathering.proofs.HeldState.{Fits}
 use Rattle.reader.proofs.LineText.{WholeLine, lines-cons}
@@ -40,13 +39,13 @@ use Rattle.reader.proofs.LineSteps.{Declares, declare-says, Listed, Add
 use Rattle.reader.proofs.Progress.{state}
 
 -- reading the text leads from one state to the other, whatever follows
-pub record Reads (st : State) (text : List ℕ) (after : State) : Type 0 where
+pub record Reads (st : SoFar) (text : List ℕ) (after : SoFar) : Type 0 where
   pub reads : (k : ℕ) (rest : List ℕ) → (m : ℕ) × (readLines k st (lines (text ++ rest)) ≡ readLines m after (lines rest))
 
-reads-none : {st : State} → Reads st [] st
+reads-none : {st : SoFar} → Reads st [] st
 reads-none = record { reads = λ k rest. (k, refl) }
 
-pub reads-then : {a b c : State} {s t : List ℕ} → Reads a s b → Reads b t c → Reads a (s ++ t) c
+pub reads-then : {a b c : SoFar} {s t : List ℕ} → Reads a s b → Reads b t c → Reads a (s ++ t) c
 reads-then {a} {b} {c} {s} {t} f g = record { reads = both }
   where
     both : (k : ℕ) (rest : List ℕ) → (m : ℕ) × (readLines k a (lines (s ++ t ++ rest)) ≡ readLines m c (lines rest))
@@ -55,7 +54,7 @@ reads-then {a} {b} {c} {s} {t} f g = record { reads = both }
         let q = g .reads (r .0) rest in
         (q .0, ap (λ l. readLines k a (lines l)) (append-assoc s t rest) ∙ r .1 ∙ q .1)
 
-reads-line : {st after : State} (l : List ℕ) → WholeLine l → stepForm st (formOf l) ≡ next after → Reads st l after
+reads-line : {st after : SoFar} (l : List ℕ) → WholeLine l → stepForm st (formOf l) ≡ next after → Reads st l after
 unfolding readLines
 reads-line {st} l w e = record { reads = λ k rest. (suc k, ap (readLines k st) (lines-cons l rest w) ∙ ap (λ p. onStep p k (λ a. readLines (suc k) a (lines rest))) e) }
 
@@ -76,12 +75,12 @@ allowed-name kind x h = go kind (nameClass x) h
 allowed-names : (kind : Kind) (xs : List (List ℕ)) → All (λ x. T (allowed kind x)) xs → All IsName xs
 allowed-names kind xs h = all-imp (λ x. T (allowed kind x)) IsName (allowed-name kind) xs h
 
-reads-declares : {st : State} {w : Word} {xs : List (List ℕ)} → Declares st w xs → Reads st (listLine (wordOf w) xs) (declared st w xs)
+reads-declares : {st : SoFar} {w : Word} {xs : List (List ℕ)} → Declares st w xs → Reads st (listLine (wordOf w) xs) (declared st w xs)
 reads-declares {st} {w} {xs} d =
     let h = allowed-names (st .kind) xs (d .all-allowed) in
     reads-line (listLine (wordOf w) xs) (list-whole w xs h) (ap (stepForm st) (list-form w xs h) ∙ declare-says st w xs d)
 
-reads-rule : {st : State} {hs bs ns : List (List ℕ)} → Adds st hs bs ns → Reads st (ruleLine hs bs ns) (with-rule st (numbered (st .names) hs bs ns))
+reads-rule : {st : SoFar} {hs bs ns : List (List ℕ)} → Adds st hs bs ns → Reads st (ruleLine hs bs ns) (with-rule st (numbered (st .names) hs bs ns))
 reads-rule {st} {hs} {bs} {ns} d =
     let h = allowed-names (st .kind) hs (d .head-listed .all-allowed) in
     let b = allowed-names (st .kind) bs (d .body-listed .all-allowed) in
@@ -105,7 +104,7 @@ listed {kind} {n} {names} xs f h = record {
 }
 
 module _ (kind : Kind) (k : ℕ) (words : List ℕ) (names : List (List ℕ)) (f : NamesForm kind (length names) names) (full : length names ≤ atomLimit kind) where
-  abbrev ruled : List (Rule ℕ) → State
+  abbrev ruled : List (Rule ℕ) → SoFar
   ruled rs = state kind Ruling k words names rs
 
   reads-one : (before : List (Rule ℕ)) (r : Rule ℕ) → RuleForm kind (length names) r
@@ -160,10 +159,10 @@ next-suc a w l = go (decLe w a)
     go (no h) = inr (omega arith)
 
 module _ (k : ℕ) (words : List ℕ) (names : List (List ℕ)) (few : k ≤ classLimit) (same : length words ≡ length names)
-    (roles : All (λ w. RoleForm k (roleOf w)) words) (rising : Rising 0 words)
+    (roles : All (λ w. RoleForm k (roleOf w)) words) (rising : NeverFalling 0 words)
     (f : NamesForm Preference (length names) names) (room : length names ≤ atomLimit Preference) where
   -- the classes up to class word a are read
-  abbrev part : ℕ → Stage → ℕ → State
+  abbrev part : ℕ → Stage → ℕ → SoFar
   part a stage j = state Preference stage j (chosen (upTo a) words words) (chosen (upTo a) words names) []
 
   every-word : (P : ℕ → Type 0) → ((w : ℕ) → ((1 ≤ w) × (w ≤ k)) ⊎ ((w ≡ varying) ⊎ (w ≡ fixed)) → P w) → All P words

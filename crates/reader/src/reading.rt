@@ -93,7 +93,7 @@ fn read_line(
             links,
             marks,
         ),
-        Shape::Broken => Line::Fault(Refusal::Form),
+        Shape::Broken => Line::Fault(Refusal::BrokenForm),
     }
 }
 
@@ -151,7 +151,7 @@ pub fn read_lines(
         return Gather::Whole(gathered);
     }
     Gather::Refused {
-        refusal: Refusal::Form,
+        refusal: Refusal::BrokenForm,
         line: number,
     }
 }

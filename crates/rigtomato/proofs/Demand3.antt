@@ -7,19 +7,18 @@ use lib.Dec.{T, leb, leb→le}
 use lib.ListN.{length, take}
 use Rattle.kinds.specs.declared.limits.Kind.{Kind}
 use Rattle.kinds.specs.declared.limits.Kind.the-variants.{Plain, Preference}
-use Rattle.rules.specs.Lists.{sum}
+use Rattle.rules.specs.Lists.{sum, over}
 use Rattle.rules.specs.Rules.{occurrences}
-use Rattle.stores.specs.Program.{Program, Form}
+use Rattle.stores.specs.Program.{Program, ProgramForm}
 use Rattle.stores.specs.RuleStore.{encode, decode, isOf}
 use Rattle.name_store.specs.NameStore.{encodeNames, names?, NamesForm}
 use Rattle.stores.proofs.RuleStores.{decode-encode}
 use Rattle.writer.specs.declared.Written.{Written}
 use Rattle.writer.specs.declared.Written.the-variants.{Text, Refused as NotWritten}
 use Rattle.text.specs.Text.{textOf}
-use Rattle.output.specs.Emitted.{over}
 use Rattle.writer.specs.Answers.{fitted}
 use Rattle.text.proofs.TextLength.{text-fits}
-use Rattle.lines.specs.Faults.{State}
+use Rattle.lines.specs.Faults.{SoFar}
 use Rattle.lines.specs.Said.{accepted, said, programOf}
 use Rattle.reader.proofs.RoundTrip.{accepted-form, write-read}
 use Rattle.delivery.specs.Answers.{readRules, readNames}
@@ -35,7 +34,7 @@ use Rattle.rigtomato.specs.Demand3.{Handed, delivered, Demand3, Demand3H
 
 -- the translator on the stores of a program of the form
 
-module _ (p : Program) (form : Form p) (names : List (List ℕ)) (fit : NamesForm (p .kind) (p .atoms) names) where
+module _ (p : Program) (form : ProgramForm p) (names : List (List ℕ)) (fit : NamesForm (p .kind) (p .atoms) names) where
   -- any answer but a refusal is for a preference program, and gives its text
   pub record Translated (room size : ℕ) : Type 0 where
     pub kind : p .kind ≡ Preference
@@ -66,13 +65,13 @@ module _ (text rules names out : List ℕ) (h : Handed text rules names out) whe
   read-as : Filled text (length rules) (length names) (h .words) (h .bytes)
   read-as = filled text (length rules) (length names) (h .words) (h .bytes) (h .read)
 
-  abbrev file : State
+  abbrev file : SoFar
   file = read-as .file
 
   abbrev p : Program
   p = programOf file
 
-  form : Form p
+  form : ProgramForm p
   form = accepted-form text file (read-as .lines) .0
 
   fit : NamesForm (p .kind) (p .atoms) (file .names)
@@ -105,10 +104,10 @@ module _ (text rules names out : List ℕ) (h : Handed text rules names out) whe
   plain-fit : NamesForm Plain (translated p .atoms) (translatedNames p (file .names))
   plain-fit = plain-names p kind form (file .names) (subst (λ (c : Kind). NamesForm c (p .atoms) (file .names)) kind fit)
 
-  read-again : (st : State) × (said (textOf (translated p) (translatedNames p (file .names))) ≡ accepted st) × (programOf st ≡ translated p) × (st .names ≡ translatedNames p (file .names))
+  read-again : (st : SoFar) × (said (textOf (translated p) (translatedNames p (file .names))) ≡ accepted st) × (programOf st ≡ translated p) × (st .names ≡ translatedNames p (file .names))
   read-again = write-read (translated p) (translatedNames p (file .names)) (plain-form p kind form) plain-fit (text-fits (plain-form p kind form) plain-fit)
 
-  abbrev plain : State
+  abbrev plain : SoFar
   plain = read-again .0
 
   plain-said : said (delivered h) ≡ accepted plain

@@ -5,8 +5,8 @@ use Rattle.name_store.specs.NameStore.{sameBytes}
 use Rattle.text.specs.Text.{listLine, openText}
 use Rattle.lines.specs.Lines.{lines, linesFrom, lineLength}
 use Rattle.lines.specs.Items.{items, itemsFrom, run, span}
-use Rattle.lines.specs.Forms.{cutNames, cutList, declaredForm, ruleForm, formOf}
-use Rattle.lines.specs.Faults.{twice, numberOf, declare, addRule}
+use Rattle.lines.specs.Forms.{splitNames, splitList, declaredForm, ruleForm, formOf}
+use Rattle.lines.specs.Faults.{twice, nameNumber, declare, addRule}
 use Rattle.lines.specs.Said.{start, readLines, said}
 use Rattle.pairing.specs.Atoms.{declared}
 use Rattle.pairing.specs.Steps.{step1, step2, step3, step4, step5, step6, step7, step8, step9, step10, translation}
@@ -18,7 +18,7 @@ use Rattle.programs.specs.Programs.{printed, statesPrinted}
 use Rattle.rigtomato.specs.Sheet.{fileA, oneClass, lampFirst, darkFixed, nothing, emptyRule, oneRule, listingA, Sheet}
 
 pub sheet : Sheet
-unfolding fileA oneClass lampFirst darkFixed nothing emptyRule oneRule listingA nameClass house? classNumber? allowed sameBytes listLine openText lines linesFrom lineLength items itemsFrom run span cutNames cutList declaredForm ruleForm formOf twice numberOf declare addRule start readLines said declared step1 step2 step3 step4 step5 step6 step7 step8 step9 step10 translation translatedRules preferredWalk candidates search capped preferredNeeds preferredVerdict firstState cappedNext nextVerdict digits stateLine totalLine listing wholeListing printed statesOf statesPrinted
+unfolding fileA oneClass lampFirst darkFixed nothing emptyRule oneRule listingA nameClass house? classNumber? allowed sameBytes listLine openText lines linesFrom lineLength items itemsFrom run span splitNames splitList declaredForm ruleForm formOf twice nameNumber declare addRule start readLines said declared step1 step2 step3 step4 step5 step6 step7 step8 step9 step10 translation translatedRules preferredWalk candidates search capped preferredNeeds preferredVerdict firstState cappedNext nextVerdict digits stateLine totalLine listing wholeListing printed statesOf statesPrinted
 sheet = record {
   a-6 = refl;
   a-1 = refl;

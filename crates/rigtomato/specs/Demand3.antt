@@ -13,7 +13,7 @@ use Rattle.rules.specs.Preferred.{Preferred}
 use Rattle.writer.specs.declared.Written.the-variants.{Text}
 use Rattle.delivery.specs.ReadsAs.{ReadsAs}
 use Rattle.delivery.specs.declared.answers.Read.the-variants.{Accepted}
-use Rattle.lines.specs.Faults.{State}
+use Rattle.lines.specs.Faults.{SoFar}
 use Rattle.lines.specs.Said.{accepted, programOf}
 use Rattle.delivery.specs.Answers.{readAnswer, readRules, readNames}
 use Rattle.pairing.specs.Translated.{translated, translatedNames, numbers, atomsSum, rulesSum, occurrencesSum}
@@ -34,8 +34,8 @@ delivered {text} {rules} {names} {out} h =
 
 pub record Demand3 (text plain-text : List ℕ) : Type 0 where
   -- the lines of the two texts
-  pub file : State
-  pub plain : State
+  pub file : SoFar
+  pub plain : SoFar
   pub file-read : ReadsAs text file
   pub plain-read : ReadsAs plain-text plain
   pub file-kind : file .kind ≡ Preference

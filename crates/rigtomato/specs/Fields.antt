@@ -1,5 +1,5 @@
 -- Document 01's number and values for each case of an answer.
-use Rattle.kinds.specs.Refusals.{numberOf}
+use Rattle.kinds.specs.Refusals.{refusalNumber}
 use Rattle.writer.specs.declared.Written.{Written}
 use Rattle.writer.specs.declared.Written.the-variants.{Text, Refused as NotWritten}
 use Rattle.delivery.specs.declared.answers.Read.{Read}
@@ -15,12 +15,12 @@ use Rattle.rigtomato.specs.declared.fields.VerdictFields.{VerdictFields}
 -- refusal 0: accepted
 abbrev pub readFields : Read → ReadFields
 readFields (Accepted words bytes) = record { refusal = 0; line = 0; words = words; bytes = bytes }
-readFields (NotRead f line) = record { refusal = numberOf f; line = line; words = 0; bytes = 0 }
+readFields (NotRead f line) = record { refusal = refusalNumber f; line = line; words = 0; bytes = 0 }
 
 -- refusal 0: written
 abbrev pub writtenFields : Written → WrittenFields
 writtenFields (Text bytes) = record { refusal = 0; bytes = bytes }
-writtenFields (NotWritten f) = record { refusal = numberOf f; bytes = 0 }
+writtenFields (NotWritten f) = record { refusal = refusalNumber f; bytes = 0 }
 
 -- 0 yes, 1 broken (the rule), 2 beaten (the set), 3 spent, 4 refused (the refusal's number)
 abbrev pub verdictFields : Verdict → VerdictFields
@@ -28,11 +28,11 @@ verdictFields (Yes units) = record { kind = 0; value = 0; units = units }
 verdictFields (Broken rule) = record { kind = 1; value = rule; units = 0 }
 verdictFields (Beaten set units) = record { kind = 2; value = set; units = units }
 verdictFields (Spent units) = record { kind = 3; value = 0; units = units }
-verdictFields (NotJudged f) = record { kind = 4; value = numberOf f; units = 0 }
+verdictFields (NotJudged f) = record { kind = 4; value = refusalNumber f; units = 0 }
 
 -- 0 a state (the set), 1 none, 3 spent, 4 refused (the refusal's number)
 abbrev pub nextFields : NextState → VerdictFields
 nextFields (State set units) = record { kind = 0; value = set; units = units }
 nextFields (Nothing units) = record { kind = 1; value = 0; units = units }
 nextFields (NextSpent units) = record { kind = 3; value = 0; units = units }
-nextFields (NotSearched f) = record { kind = 4; value = numberOf f; units = 0 }
+nextFields (NotSearched f) = record { kind = 4; value = refusalNumber f; units = 0 }

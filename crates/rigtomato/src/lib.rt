@@ -4,7 +4,7 @@ pub mod fields;
 
 ghost use mathlib.Core.Path.{_≡_};
 ghost use lib.ListN.{length};
-ghost use Rattle.output.specs.Emitted.{over};
+ghost use Rattle.rules.specs.Lists.{over};
 ghost use Rattle.writer.specs.Answers.{writeAnswer, writeOutput};
 ghost use Rattle.delivery.specs.Answers.{readAnswer, readRules, readNames};
 ghost use Rattle.translation.specs.Answers.{translateAnswer, translateOutput};

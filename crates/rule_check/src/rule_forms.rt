@@ -8,7 +8,8 @@ ghost use Prim.Native.Nat.{_+_, _≤_};
 ghost use lib.ListN.{length, take, drop};
 ghost use Rattle.kinds.specs.Limits.{atomLimit, ruleLimit, occurrenceLimit};
 ghost use Rattle.rules.specs.Rules.{rule};
-ghost use Rattle.stores.specs.RuleStore.{Below, list?, lists?, not?, ruleCheck, rules?};
+ghost use Rattle.stores.specs.Checking.{Below, ruleCheck};
+ghost use Rattle.stores.specs.RuleStore.{list?, lists?, not?, rules?};
 
 // One list of a rule. An atom that stood in it has `stamp` as its mark.
 fn list_form(

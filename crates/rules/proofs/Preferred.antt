@@ -8,11 +8,11 @@ use native.Mathlib.Omega.{arith}
 use native.Mathlib.Decide.{ℕ-discrete}
 use lib.Dec.{T, eqb, eqb→eq}
 use lib.ListN.{length, getD}
-use Rattle.kinds.specs.Limits.{classLimit}
+use Rattle.kinds.specs.Limits.{classLimit, fixed}
 use Rattle.rules.specs.Lists.{All, Any, every, from}
 use Rattle.rules.specs.Sets.{has, In, Out, ProperSubset, Agree}
 use Rattle.rules.specs.Rules.{Rule, Model, model?}
-use Rattle.rules.specs.Preferred.{fixed, OfClass, Beats, Preferred, ofClass, same?, agree?, within?, spares?, beats?, preferred?}
+use Rattle.rules.specs.Preferred.{OfClass, Beats, Preferred, ofClass, same?, agree?, within?, spares?, beats?, preferred?}
 use Rattle.rules.proofs.Booleans.{stable, bool-ext, eq→eqb, T-and, T-and-l, T-and-r, T-or, T-or-out, T-not-in, T-not-out, T-imp, T-imp-out}
 use Rattle.rules.proofs.Lists.{every-all, every-from, all-from, from-all, all-filter, filter-all, any-from, from-any, any-filter, filter-any, any-or-none}
 use Rattle.rules.proofs.Sets.{has-below, same-set}

@@ -5,16 +5,10 @@ use mathlib.Core.List.{List, [], _∷_}
 use mathlib.Core.Bool.{Bool, true, false, not, _&&_, _||_}
 use lib.Dec.{eqb}
 use lib.ListN.{length, getD}
-use Rattle.kinds.specs.Limits.{classLimit}
+use Rattle.kinds.specs.Limits.{classLimit, fixed}
 use Rattle.rules.specs.Lists.{every, filter, from}
 use Rattle.rules.specs.Sets.{has, In, Out, Agree}
 use Rattle.rules.specs.Rules.{Rule, Model, model?}
-
-abbrev pub varying : ℕ
-varying = 17
-
-abbrev pub fixed : ℕ
-fixed = 18
 
 -- atom a has class word w
 abbrev pub OfClass : List ℕ → ℕ → ℕ → Type 0

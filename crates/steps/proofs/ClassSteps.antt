@@ -9,7 +9,7 @@ use lib.ListN.{length, length-append, length-map}
 use Rattle.rules.specs.Lists.{from}
 use Rattle.rules.specs.Preferred.{ofClass}
 use Rattle.rules.proofs.Lists.{length-from}
-use Rattle.stores.specs.Program.{Rising}
+use Rattle.stores.specs.Program.{NeverFalling}
 use Rattle.pairing.proofs.ListLaws.{shifted}
 use Rattle.text.specs.ClassRuns.{upTo, countWhile}
 use Rattle.output.specs.Emitted.{Emitted, InRange}
@@ -65,7 +65,7 @@ module _ {ws : List ℕ} {o : Offsets} {count : ℕ} {before : List ℕ} {at : �
   pub begins-inside : first ≤ upTo class ws
   begins-inside = omega (arith, h .begins, up-to-rises (class - 1) class (omega arith) ws)
 
-  module _ (rising : Rising 0 ws) (l : class ≤ count) {end : ℕ} (e : end ≡ upTo class ws) where
+  module _ (rising : NeverFalling 0 ws) (l : class ≤ count) {end : ℕ} (e : end ≡ upTo class ws) where
     pub first-end : first ≤ end
     first-end = omega (arith, begins-inside, e)
 

@@ -4,7 +4,7 @@ use mathlib.Core.Path.{_≡_}
 use mathlib.Core.List.{List}
 use lib.ListN.{length}
 use Rattle.kinds.specs.Limits.{classLimit}
-use Rattle.stores.specs.Program.{Rising}
+use Rattle.stores.specs.Program.{NeverFalling}
 use Rattle.steps.specs.FileRules.{FileRules}
 use Rattle.steps.specs.Roles.{FirstMinimised}
 use Rattle.steps.specs.declared.offsets.Offsets.{Offsets}
@@ -32,5 +32,5 @@ pub record ClassesFit (ws : List ℕ) (k m : ℕ) (o : Offsets) : Type 0 where
   pub small : Small o
   pub atoms : length ws ≡ o .n
   pub classes : k ≤ classLimit
-  pub rising : Rising 0 ws
+  pub rising : NeverFalling 0 ws
   pub first : FirstMinimised m ws

@@ -6,7 +6,7 @@ use output::words::emit;
 ghost use Prim.Native.Nat.{_+_, _-_, _≤_};
 ghost use lib.ListN.{length};
 ghost use Rattle.rules.specs.Lists.{from};
-ghost use Rattle.stores.specs.Program.{Rising};
+ghost use Rattle.stores.specs.Program.{NeverFalling};
 ghost use Rattle.output.specs.Emitted.{Emitted, InRange};
 ghost use Rattle.steps.specs.Offsets.{Small};
 ghost use Rattle.steps.specs.Roles.{Low};
@@ -25,7 +25,7 @@ fn step5_class(first: u16, end: u16, class: u16, o: Offsets, out: &mut [u16], at
 }
 
 pub fn step5(classes: &[u16], count: u16, o: Offsets, out: &mut [u16], at: usize) -> usize
-    requires { ⌜ (length (now classes) ≤ 256) × Low (now classes) × Rising 0 (now classes) × (count ≤ 16) × Small o × InRange at (each (words5 (now classes) o) (from 1 (count + 1 - 1))) ⌝ }
+    requires { ⌜ (length (now classes) ≤ 256) × Low (now classes) × NeverFalling 0 (now classes) × (count ≤ 16) × Small o × InRange at (each (words5 (now classes) o) (from 1 (count + 1 - 1))) ⌝ }
     ensures { λ r. ⌜ Emitted (now (out .entry)) at (each (words5 (now (classes .entry)) o) (from 1 (count + 1 - 1))) (now (out .exit)) r ⌝ }
 {
     let mut next = at;

@@ -5,6 +5,6 @@ pub mod RuleStores
 pub mod Marks
 pub mod RulePlace
 pub mod Parts
-pub mod Rising
+pub mod Climbing
 pub mod StoreHeader
 pub mod RuleStoreClauses

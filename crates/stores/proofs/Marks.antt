@@ -12,7 +12,8 @@ use borrow.Author.Tests.{not-true, not-false, lt-ltb, le-ltb, eq-eqb, ne-eqb}
 use Rattle.rules.specs.Lists.{some}
 use Rattle.rules.specs.Rules.{Rule}
 use Rattle.stores.proofs.Parts.{part-cons, part-none}
-use Rattle.stores.specs.RuleStore.{Below, list?, lists?}
+use Rattle.stores.specs.Checking.{Below}
+use Rattle.stores.specs.RuleStore.{list?, lists?}
 
 pub below-more : {s t : ℕ} {marks : List ℕ} → Below s marks → s ≤ t → Below t marks
 below-more b h = record { mark = λ a. omega (arith, b .mark a) }

@@ -14,7 +14,8 @@ use Rattle.kinds.specs.declared.limits.Kind.{Kind}
 use Rattle.kinds.specs.declared.limits.Kind.the-variants.{Plain, Preference}
 use Rattle.rules.specs.Rules.{Rule, rule}
 use Rattle.rules.proofs.Lists.{none-left}
-use Rattle.stores.specs.RuleStore.{Below, rules?, heads, bodies, nots, places, ruleAt, lists?, not?, rule?, ruleCheck}
+use Rattle.stores.specs.Checking.{Below, ruleCheck}
+use Rattle.stores.specs.RuleStore.{rules?, heads, bodies, nots, places, ruleAt, lists?, not?, rule?}
 use Rattle.stores.specs.declared.rule_store.RuleCheck.{RuleCheck}
 use Rattle.stores.specs.declared.rule_store.RuleCheck.the-variants.{Next, Broken}
 use Rattle.stores.proofs.Marks.{below-more}

@@ -14,7 +14,7 @@ use Rattle.kinds.specs.declared.limits.Kind.the-variants.{Plain, Preference}
 use Rattle.rules.specs.Lists.{All, sum, flat}
 use Rattle.rules.specs.Rules.{Rule, occurrences}
 use Rattle.rules.proofs.Booleans.{eq→eqb}
-use Rattle.stores.specs.Program.{Program, Form, ClassesForm, RuleForm}
+use Rattle.stores.specs.Program.{Program, ProgramForm, ClassesForm, RuleForm}
 use Rattle.stores.specs.RuleStore.{kindWord, ruleWords, encode, StoreOf, kindOf, wordCount, places, ruleAt, rulesFrom, decode, classes?, rules?, program?, store?, ruleStore}
 use Rattle.stores.specs.declared.rule_store.RuleStore.the-variants.{Of, Refused}
 use Rattle.stores.proofs.RuleTests.{and-iff, words-law, rule-law, rule-words, occurrences-places, rule-front, past-front}
@@ -128,7 +128,7 @@ program-decoded kind n k r ws h =
       words = λ i. kindWord kind ∷ n ∷ k ∷ rules-count r (drop c ws) i ∷ (ap (λ (l : List ℕ). take c ws ++ l) (here .words) ∙ take-append-drop c ws) i;
     }
 
-program-encoded : (p : Program) → Form p → T (program? (p .kind) (p .atoms) (p .classes) (length (p .rules)) (p .words ++ flat ruleWords (p .rules)))
+program-encoded : (p : Program) → ProgramForm p → T (program? (p .kind) (p .atoms) (p .classes) (length (p .rules)) (p .words ++ flat ruleWords (p .rules)))
 program-encoded p f =
     let t : List ℕ = flat ruleWords (p .rules) in
     let c = wordCount (p .kind) (p .atoms) in
@@ -162,7 +162,7 @@ word-small Preference = omega arith
 three-iff : (a b c : Bool) → T (a && (b && c)) ↔ (T a × T b × T c)
 three-iff a b c = (λ h. let t = and-iff a (b && c) .0 h in let s = and-iff b c .0 (t .1) in (t .0, s .0, s .1), λ h. and-iff a (b && c) .1 (h .0, and-iff b c .1 (h .1, h .2)))
 
-pub decode-encode : (p : Program) → Form p → decode (encode p) ≡ p
+pub decode-encode : (p : Program) → ProgramForm p → decode (encode p) ≡ p
 unfolding encode
 decode-encode p f =
     let t : List ℕ = flat ruleWords (p .rules) in
@@ -184,7 +184,7 @@ decoded (w ∷ n ∷ k ∷ r ∷ ws) h =
     let e : kindWord (kindOf w) ≡ w = kind-word w (leb→le w 1 (t .1)) in
     subst (StoreOf (w ∷ n ∷ k ∷ r ∷ ws)) (sym (decode-header w n k r ws)) (subst (λ (v : ℕ). StoreOf (v ∷ n ∷ k ∷ r ∷ ws) (programFrom (kindOf w) n k r ws)) e s)
 
-pub encoded : (p : Program) → Form p → T (store? (encode p))
+pub encoded : (p : Program) → ProgramForm p → T (store? (encode p))
 unfolding store? encode
 encoded p f =
     let w = kindWord (p .kind) in

@@ -16,7 +16,7 @@ use Rattle.rules.specs.Lists.{All, some}
 use Rattle.rules.specs.Rules.{Rule, occurrences}
 use Rattle.rules.proofs.Booleans.{T-and, T-and-l, T-and-r, T-or, T-or-out, T-not-in, T-not-out, eq→eqb}
 use Rattle.rules.proofs.Lists.{all-imp, all-both}
-use Rattle.stores.specs.Program.{RoleForm, Rising, ListForm, NotForm, RuleForm, roleOf}
+use Rattle.stores.specs.Program.{RoleForm, NeverFalling, ListForm, NotForm, RuleForm, roleOf}
 use Rattle.stores.specs.RuleStore.{ruleWords, heads, bodies, nots, places, ruleAt, role?, words?, list?, lists?, not?, rule?}
 use Rattle.stores.specs.declared.roles.Role.{Role}
 use Rattle.stores.specs.declared.roles.Role.the-variants.{Minimised, Varying, Fixed, Unknown}
@@ -35,7 +35,7 @@ role-law k Varying = (λ h. h, λ h. h)
 role-law k Fixed = (λ h. h, λ h. h)
 role-law k Unknown = (λ h. h, λ h. h)
 
-pub words-law : (k b : ℕ) (ws : List ℕ) → T (words? k b ws) ↔ (All (λ w. RoleForm k (roleOf w)) ws × Rising b ws)
+pub words-law : (k b : ℕ) (ws : List ℕ) → T (words? k b ws) ↔ (All (λ w. RoleForm k (roleOf w)) ws × NeverFalling b ws)
 unfolding words?
 words-law k b [] = (λ h. (tt, tt), λ h. tt)
 words-law k b (w ∷ ws) =
@@ -191,7 +191,7 @@ rule-law kind n used ws = (
 )
 
 -- words that never fall are at least the bound
-pub rising-from : (b : ℕ) (ws : List ℕ) → Rising b ws → (i : ℕ) → i < length ws → b ≤ getD ws i 0
+pub rising-from : (b : ℕ) (ws : List ℕ) → NeverFalling b ws → (i : ℕ) → i < length ws → b ≤ getD ws i 0
 rising-from b [] r i l = absurd (omega arith)
 rising-from b (x ∷ ws) r zero l = r .0
 rising-from b (x ∷ ws) r (suc i) l = omega (arith, rising-from x ws (r .1) i (omega arith), r .0)

@@ -10,7 +10,8 @@ use borrow.Author.Tests.{not-true, not-false, le-leb, lt-leb}
 use Rattle.kinds.specs.Limits.{atomLimit, ruleLimit, classLimit}
 use Rattle.kinds.specs.declared.limits.Kind.{Kind}
 use Rattle.kinds.specs.declared.limits.Kind.the-variants.{Plain, Preference}
-use Rattle.stores.specs.RuleStore.{Below, kindOf, wordCount, words?, classes?, rules?, program?, store?, ruleStore}
+use Rattle.stores.specs.Checking.{Below}
+use Rattle.stores.specs.RuleStore.{kindOf, wordCount, words?, classes?, rules?, program?, store?, ruleStore}
 use Rattle.stores.specs.declared.rule_store.RuleStore.the-variants.{Of, Refused}
 use Rattle.stores.proofs.RuleTests.{T-is}
 use Rattle.stores.proofs.RuleStores.{classes-law, words-count}

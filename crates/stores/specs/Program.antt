@@ -5,12 +5,11 @@ use mathlib.Core.Bool.{_&&_, cond}
 use mathlib.Core.List.{List, [], _∷_}
 use lib.Dec.{leb, eqb}
 use lib.ListN.{length}
-use Rattle.kinds.specs.Limits.{atomLimit, ruleLimit, occurrenceLimit, classLimit}
+use Rattle.kinds.specs.Limits.{atomLimit, ruleLimit, occurrenceLimit, classLimit, varying, fixed}
 use Rattle.kinds.specs.declared.limits.Kind.{Kind}
 use Rattle.kinds.specs.declared.limits.Kind.the-variants.{Plain, Preference}
 use Rattle.rules.specs.Lists.{All, Distinct, sum}
 use Rattle.rules.specs.Rules.{Rule, occurrences}
-use Rattle.rules.specs.Preferred.{varying, fixed}
 use Rattle.stores.specs.declared.roles.Role.{Role}
 use Rattle.stores.specs.declared.roles.Role.the-variants.{Minimised, Varying, Fixed, Unknown}
 
@@ -33,13 +32,13 @@ RoleForm k Fixed = Unit {0}
 RoleForm k Unknown = ⊥
 
 -- never falling, b being the word before
-abbrev pub Rising : ℕ → List ℕ → Type 0
-Rising b [] = Unit {0}
-Rising b (w ∷ ws) = (b ≤ w) × Rising w ws
+abbrev pub NeverFalling : ℕ → List ℕ → Type 0
+NeverFalling b [] = Unit {0}
+NeverFalling b (w ∷ ws) = (b ≤ w) × NeverFalling w ws
 
 abbrev pub ClassesForm : Kind → ℕ → ℕ → List ℕ → Type 0
 ClassesForm Plain n k ws = (k ≡ 0) × (ws ≡ [])
-ClassesForm Preference n k ws = (k ≤ classLimit) × (length ws ≡ n) × All (λ w. RoleForm k (roleOf w)) ws × Rising 0 ws
+ClassesForm Preference n k ws = (k ≤ classLimit) × (length ws ≡ n) × All (λ w. RoleForm k (roleOf w)) ws × NeverFalling 0 ws
 
 -- atom numbers below n, none twice
 abbrev pub ListForm : ℕ → List ℕ → Type 0
@@ -55,7 +54,7 @@ pub record RuleForm (kind : Kind) (n : ℕ) (r : Rule ℕ) : Type 0 where
   pub nots-form : ListForm n (r .nots)
   pub no-nots : NotForm kind (r .nots)
 
-pub record Form (p : Program) : Type 0 where
+pub record ProgramForm (p : Program) : Type 0 where
   pub atoms-fit : p .atoms ≤ atomLimit (p .kind)
   pub rules-fit : length (p .rules) ≤ ruleLimit (p .kind)
   pub occurrences-fit : sum occurrences (p .rules) ≤ occurrenceLimit (p .kind)

@@ -10,11 +10,9 @@ use Rattle.kinds.specs.declared.limits.Kind.{Kind}
 use Rattle.kinds.specs.declared.limits.Kind.the-variants.{Plain, Preference}
 use Rattle.rules.specs.Lists.{some, flat, empty?}
 use Rattle.rules.specs.Rules.{Rule, rule}
-use Rattle.stores.specs.Program.{Program, Form, roleOf}
+use Rattle.stores.specs.Program.{Program, ProgramForm, roleOf}
 use Rattle.stores.specs.declared.roles.Role.{Role}
 use Rattle.stores.specs.declared.roles.Role.the-variants.{Minimised, Varying, Fixed, Unknown}
-use Rattle.stores.specs.declared.rule_store.RuleCheck.{RuleCheck}
-use Rattle.stores.specs.declared.rule_store.RuleCheck.the-variants.{Next, Broken}
 use Rattle.stores.specs.declared.rule_store.RuleStore.{RuleStore}
 use Rattle.stores.specs.declared.rule_store.RuleStore.the-variants.{Of, Refused}
 
@@ -31,7 +29,7 @@ encode p = kindWord (p .kind) ∷ p .atoms ∷ p .classes ∷ length (p .rules) 
 
 -- the words are the rule store of p
 pub record StoreOf (ws : List ℕ) (p : Program) : Type 0 where
-  pub form : Form p
+  pub form : ProgramForm p
   pub words : encode p ≡ ws
 
 -- the program that a store's words say
@@ -91,10 +89,6 @@ abbrev pub classes? : Kind → ℕ → ℕ → List ℕ → Bool
 classes? Plain n k ws = eqb k 0
 classes? Preference n k ws = leb k classLimit && (leb n (length ws) && words? k 0 (take n ws))
 
--- the check keeps a mark for each atom: the stamp of the last list that had it, each list having a higher one
-pub record Below (stamp : ℕ) (marks : List ℕ) : Type 0 where
-  pub mark : (a : ℕ) → getD marks a 0 < stamp
-
 -- atom numbers below n, none among those seen before nor twice
 unfoldable pub list? : ℕ → List ℕ → List ℕ → Bool
 list? n seen [] = true
@@ -113,10 +107,6 @@ rule? kind n used ws =
     leb (3 + places ws) (length ws)
     && (leb (used + places ws) (occurrenceLimit kind)
     && (not? kind (nots ws) && lists? n (ruleAt ws)))
-
--- past the rule that stands at `at`: the place of the next one and the occurrences so far
-unfoldable pub ruleCheck : Kind → ℕ → ℕ → ℕ → List ℕ → RuleCheck
-ruleCheck kind n used at ws = cond (rule? kind n used (drop at ws)) (Next (at + (3 + places (drop at ws))) (used + places (drop at ws))) Broken
 
 unfoldable pub rules? : Kind → ℕ → ℕ → ℕ → List ℕ → Bool
 rules? kind n used zero ws = empty? ws

@@ -11,7 +11,8 @@ use lib.Dec.{leb, eqb}
 use lib.ListN.{length, getD}
 use borrow.Author.Tests.{leb-true, eqb-true}
 use Rattle.rules.specs.Lists.{from}
-use Rattle.rules.specs.Preferred.{varying, fixed, ofClass}
+use Rattle.kinds.specs.Limits.{varying, fixed}
+use Rattle.rules.specs.Preferred.{ofClass}
 use Rattle.rules.proofs.Lists.{all-at}
 use Rattle.stores.specs.Program.{RoleForm, roleOf}
 use Rattle.stores.specs.declared.roles.Role.the-variants.{Minimised, Varying, Fixed, Unknown}

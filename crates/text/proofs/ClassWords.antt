@@ -11,7 +11,7 @@ use borrow.Author.Tests.{le-leb, leb-true, leb-false, eq-eqb, ne-eqb}
 use Rattle.rules.specs.Lists.{keep, filter, from}
 use Rattle.rules.specs.Preferred.{ofClass}
 use Rattle.rules.proofs.Lists.{from-append}
-use Rattle.stores.specs.Program.{Rising}
+use Rattle.stores.specs.Program.{NeverFalling}
 use Rattle.stores.proofs.RuleTests.{rising-from}
 use Rattle.text.specs.ClassRuns.{upTo, countWhile}
 
@@ -87,7 +87,7 @@ within w (x ∷ ws) (suc i) l = go (leb x w) (within w ws i) l
     go true f h = f (omega arith)
     go false f h = absurd (omega arith)
 
-past : (w b : ℕ) (ws : List ℕ) → Rising b ws → (i : ℕ) → upTo w ws ≤ i → i < length ws → w < getD ws i 0
+past : (w b : ℕ) (ws : List ℕ) → NeverFalling b ws → (i : ℕ) → upTo w ws ≤ i → i < length ws → w < getD ws i 0
 unfolding upTo
 past w b [] r i l u = absurd (omega arith)
 past w b (x ∷ ws) r zero l u = go (leb x w) refl l
@@ -102,7 +102,7 @@ past w b (x ∷ ws) r (suc i) l u = go (leb x w) refl (past w x ws (r .1) i) l
     go false e f h = omega (arith, leb-false x w e, rising-from x ws (r .1) i (omega arith))
 
 -- the atoms of class word w, of which none is between v and w
-pub class-run : (v w : ℕ) (ws : List ℕ) → Rising 0 ws → v < w → ((i : ℕ) → i < length ws → v < getD ws i 0 → w ≤ getD ws i 0)
+pub class-run : (v w : ℕ) (ws : List ℕ) → NeverFalling 0 ws → v < w → ((i : ℕ) → i < length ws → v < getD ws i 0 → w ≤ getD ws i 0)
     → ofClass ws w ≡ from (upTo v ws) (upTo w ws - upTo v ws)
 class-run v w ws r l gap =
     filter-run (λ a. eqb (getD ws a 0) w) (length ws) (upTo v ws) (upTo w ws) (up-to-rises v w (omega arith) ws) (up-to-le w ws)

@@ -8,7 +8,7 @@ use mathlib.Core.List.{List, [], _∷_, _++_, append-assoc, append-nil}
 use lib.ListN.{length, getD, take, drop, set, length-append, length-set}
 use lib.Seq.{take-suc, split-at, drop-at, drop-length, getD-set-same, getD-set-other}
 use Rattle.name_store.specs.NameStore.{nameBytes, encodeNames}
-use Rattle.name_store.specs.NameIndex.{place, Placed}
+use Rattle.name_store.specs.NameIndex.{nameStart, Placed}
 use Rattle.name_store.proofs.NamePlaces.{NameHere, stands, length-decode}
 use Rattle.name_store.proofs.NameEntries.{encode-last}
 use Rattle.text.specs.Items.{storedNames, StoredNames}
@@ -19,26 +19,26 @@ encode-append [] ys = refl
 encode-append (x ∷ xs) ys = ap (λ (l : List ℕ). nameBytes x ++ l) (encode-append xs ys) ∙ sym (append-assoc (nameBytes x) (encodeNames xs) (encodeNames ys))
 
 -- the place after a name
-place-next : (names : List (List ℕ)) (i : ℕ) → i < length names → place names (i + 1) ≡ place names i + (1 + length (getD names i []))
+place-next : (names : List (List ℕ)) (i : ℕ) → i < length names → nameStart names (i + 1) ≡ nameStart names i + (1 + length (getD names i []))
 place-next names i l =
     let e : take (i + 1) names ≡ take i names ++ (getD names i [] ∷ []) = ap (λ (k : ℕ). take k names) (add-one i) ∙ take-suc names i [] l in
     omega (arith, ap (λ (x : List (List ℕ)). length (encodeNames x)) e ∙ ap length (encode-last (take i names) (getD names i [])) ∙ length-append (encodeNames (take i names)) (nameBytes (getD names i [])))
 
 -- the name that stands there
-here : (names : List (List ℕ)) (i : ℕ) → i < length names → NameHere (encodeNames names) (place names i) (getD names i [])
+here : (names : List (List ℕ)) (i : ℕ) → i < length names → NameHere (encodeNames names) (nameStart names i) (getD names i [])
 unfolding encodeNames
 here names i l =
     let rest = encodeNames (drop (suc i) names) in
     let e : encodeNames names ≡ encodeNames (take i names) ++ (nameBytes (getD names i []) ++ rest) = ap encodeNames (split-at names i [] l) ∙ encode-append (take i names) (getD names i [] ∷ drop (suc i) names) in
-    stands (encodeNames names) (place names i) (getD names i []) rest (ap (drop (place names i)) e ∙ drop-at (encodeNames (take i names)) (nameBytes (getD names i []) ++ rest) (place names i) refl)
+    stands (encodeNames names) (nameStart names i) (getD names i []) rest (ap (drop (nameStart names i)) e ∙ drop-at (encodeNames (take i names)) (nameBytes (getD names i []) ++ rest) (nameStart names i) refl)
 
 -- the places before i are filled, and `at` is the next
 pub record Placing (bytes before starts : List ℕ) (at i : ℕ) : Type 0 where
   pub stored : StoredNames bytes before
   pub low : i ≤ length before
   pub long : length starts ≡ length before
-  pub counted : at ≡ place (storedNames bytes before) i
-  pub filled : (j : ℕ) → j < i → getD starts j 0 ≡ place (storedNames bytes before) j
+  pub counted : at ≡ nameStart (storedNames bytes before) i
+  pub filled : (j : ℕ) → j < i → getD starts j 0 ≡ nameStart (storedNames bytes before) j
 
 pub places-begin : {bytes before : List ℕ} → StoredNames bytes before → Placing bytes before before 0 0
 unfolding encodeNames
@@ -83,6 +83,6 @@ module _ {bytes before starts : List ℕ} {at i : ℕ} (h : Placing bytes before
           filled = λ j u. go j u (ℕ-discrete j i);
         }
       where
-        go : (j : ℕ) → j < i + 1 → Dec (j ≡ i) → getD (set starts i at) j 0 ≡ place (storedNames bytes before) j
-        go j u (yes e) = ap (λ (k : ℕ). getD (set starts i at) k 0) e ∙ getD-set-same starts i at 0 l ∙ h .counted ∙ ap (place (storedNames bytes before)) (sym e)
+        go : (j : ℕ) → j < i + 1 → Dec (j ≡ i) → getD (set starts i at) j 0 ≡ nameStart (storedNames bytes before) j
+        go j u (yes e) = ap (λ (k : ℕ). getD (set starts i at) k 0) e ∙ getD-set-same starts i at 0 l ∙ h .counted ∙ ap (nameStart (storedNames bytes before)) (sym e)
         go j u (no e) = getD-set-other starts i j at 0 e ∙ h .filled j (omega arith)

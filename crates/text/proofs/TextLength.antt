@@ -7,14 +7,14 @@ use mathlib.Core.Bool.{Bool, true, false}
 use mathlib.Core.List.{List, [], _∷_, _++_}
 use lib.Dec.{T, eqb}
 use lib.ListN.{length, getD, length-append, length-map}
-use Rattle.kinds.specs.Limits.{atomLimit, ruleLimit, occurrenceLimit, textLimit}
+use Rattle.kinds.specs.Limits.{atomLimit, ruleLimit, occurrenceLimit, textLimit, varying, fixed}
 use Rattle.kinds.specs.declared.limits.Kind.{Kind}
 use Rattle.kinds.specs.declared.limits.Kind.the-variants.{Plain, Preference}
 use Rattle.rules.specs.Lists.{All, keep, filter, sum, flat, from}
 use Rattle.rules.specs.Rules.{Rule, occurrences}
-use Rattle.rules.specs.Preferred.{ofClass, varying, fixed}
+use Rattle.rules.specs.Preferred.{ofClass}
 use Rattle.rules.proofs.Lists.{all-imp, length-from}
-use Rattle.stores.specs.Program.{Program, ClassesForm, Form}
+use Rattle.stores.specs.Program.{Program, ClassesForm, ProgramForm}
 use Rattle.names.specs.Names.{allowed}
 use Rattle.name_store.specs.NameStore.{NamesForm}
 use Rattle.name_store.proofs.NameStores.{allowed-short}
@@ -97,7 +97,7 @@ module _ (p : Program) (names : List (List ℕ)) (short : Short names) where
   rules-fit-in Plain r o = omega (arith, rules-length names short (p .rules), r, o)
   rules-fit-in Preference r o = omega (arith, rules-length names short (p .rules), r, o)
 
-pub text-fits : {p : Program} {names : List (List ℕ)} → Form p → NamesForm (p .kind) (p .atoms) names → length (textOf p names) ≤ textLimit
+pub text-fits : {p : Program} {names : List (List ℕ)} → ProgramForm p → NamesForm (p .kind) (p .atoms) names → length (textOf p names) ≤ textLimit
 unfolding textOf
 text-fits {p} {names} f g =
     let short = all-imp (λ x. T (allowed (p .kind) x)) (λ x. length x ≤ 18) (allowed-short (p .kind)) names (g .all-allowed) in

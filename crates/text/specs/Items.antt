@@ -5,7 +5,8 @@ use mathlib.Core.List.{List, [], _∷_, _++_}
 use lib.ListN.{length, getD}
 use Rattle.rules.specs.Lists.{flat, from}
 use Rattle.rules.specs.Rules.{Rule}
-use Rattle.rules.specs.Preferred.{varying, fixed, ofClass}
+use Rattle.kinds.specs.Limits.{varying, fixed}
+use Rattle.rules.specs.Preferred.{ofClass}
 use Rattle.name_store.specs.NameStore.{encodeNames, decodeNames}
 use Rattle.kinds.specs.Words.{close-bracket, line-end, minWord, varyWord, fixWord}
 use Rattle.text.specs.Text.{item, listLine, named, ruleText}

@@ -6,7 +6,8 @@ use Rattle.kinds.specs.declared.limits.Kind.{Kind}
 use Rattle.kinds.specs.declared.limits.Kind.the-variants.{Plain, Preference}
 use Rattle.rules.specs.Lists.{flat, from}
 use Rattle.rules.specs.Rules.{Rule}
-use Rattle.rules.specs.Preferred.{varying, fixed, ofClass}
+use Rattle.kinds.specs.Limits.{varying, fixed}
+use Rattle.rules.specs.Preferred.{ofClass}
 use Rattle.stores.specs.Program.{Program}
 use Rattle.kinds.specs.Words.{space, open-bracket, close-bracket, line-end, atomsWord, minWord, varyWord, fixWord, ruleWord, headWord, bodyWord, notWord}
 

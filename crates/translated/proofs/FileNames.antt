@@ -7,7 +7,7 @@ use lib.ListN.{length, getD, take}
 use lib.Seq.{take-length}
 use Rattle.kinds.specs.declared.limits.Kind.the-variants.{Plain, Preference}
 use Rattle.rules.specs.Lists.{from}
-use Rattle.stores.specs.Program.{Form}
+use Rattle.stores.specs.Program.{ProgramForm}
 use Rattle.stores.specs.RuleStore.{decode}
 use Rattle.name_store.specs.NameStore.{NamesForm, NamesOf, nameBytes, encodeNames, decodeNames}
 use Rattle.pairing.specs.Atoms.{decimal}
@@ -102,7 +102,7 @@ module _ {ws : List ℕ} (h : PreferenceStore ws) where
     -- the store fits the scratch of the translator
     pub names-fit : length (encodeNames (translatedNames (decode ws) names)) ≤ 20900
     names-fit =
-        let f : Form (translated (decode ws)) = plain-form (decode ws) (h .kind) (h .store .form) in
+        let f : ProgramForm (translated (decode ws)) = plain-form (decode ws) (h .kind) (h .store .form) in
         omega (arith, names-length (translatedNames (decode ws) names) (short-of Plain (translatedNames (decode ws) names) (plain .all-allowed)), plain .count, f .atoms-fit)
 
     pub names-range : InRange 0 (encodeNames (translatedNames (decode ws) names))

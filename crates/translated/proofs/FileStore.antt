@@ -13,7 +13,7 @@ use Rattle.kinds.specs.declared.limits.Kind.the-variants.{Preference}
 use Rattle.rules.specs.Lists.{All, filter, flat, from, sum}
 use Rattle.rules.specs.Rules.{Rule, occurrences}
 use Rattle.rules.proofs.Lists.{all-filter, all-from, from-all, length-from}
-use Rattle.stores.specs.Program.{Program, Form, ClassesForm, Rising}
+use Rattle.stores.specs.Program.{Program, ProgramForm, ClassesForm, NeverFalling}
 use Rattle.stores.specs.RuleStore.{ruleWords, encode, decode, wordCount, rulesFrom}
 use Rattle.stores.proofs.RuleTests.{rule-front, past-front}
 use Rattle.stores.proofs.RuleStores.{rules-length}
@@ -150,7 +150,7 @@ module _ {ws : List ℕ} (h : PreferenceStore ws) where
     class = λ a l. leb→le (classWord p a) classLimit (from-all (λ b. T (minimised? p b)) 0 (length (minimisedAtoms p)) minimised-all a (omega arith) (omega arith));
   }
 
-  rising : Rising 0 (p .words)
+  rising : NeverFalling 0 (p .words)
   rising = subst (λ (k : Kind). ClassesForm k (p .atoms) (p .classes) (p .words)) (h .kind) (h .store .form .classes-form) .3
 
   module _ {m q : ℕ} (m-is : m ≡ minimisedCount (classPart ws)) (q-is : q ≡ unfixedCount (classPart ws)) where
@@ -188,7 +188,7 @@ module _ {ws : List ℕ} (h : PreferenceStore ws) where
         small = small;
         atoms = class-count ∙ n-is;
         classes = few-classes;
-        rising = subst (Rising 0) words-at rising;
+        rising = subst (NeverFalling 0) words-at rising;
         first = subst (λ (c : ℕ). FirstMinimised c (classPart ws)) (sym (m-is ∙ minimised-count)) (subst (FirstMinimised (length (minimisedAtoms p))) words-at first-words);
       }
 
@@ -243,7 +243,7 @@ module _ {ws : List ℕ} (h : PreferenceStore ws) where
   pub store-fits : length (encode (translated p)) ≤ 36604
   unfolding encode
   store-fits =
-      let f : Form (translated p) = plain-form p (h .kind) (h .store .form) in
+      let f : ProgramForm (translated p) = plain-form p (h .kind) (h .store .form) in
       omega (arith, rules-length (translated p .rules), f .rules-fit, f .occurrences-fit)
 
   pub store-range : InRange 0 (encode (translated p))

@@ -6,7 +6,7 @@ use mathlib.Core.List.{List}
 use Rattle.kinds.specs.declared.limits.Kind.{Kind}
 use Rattle.kinds.specs.declared.limits.Kind.the-variants.{Preference}
 use Rattle.rules.proofs.Booleans.{is-true}
-use Rattle.stores.specs.Program.{Program, Form}
+use Rattle.stores.specs.Program.{Program, ProgramForm}
 use Rattle.stores.specs.declared.rule_store.RuleStore.the-variants.{Of}
 use Rattle.stores.specs.RuleStore.{encode, ruleStore}
 use Rattle.name_store.specs.NameStore.{encodeNames, names?, NamesForm}
@@ -14,10 +14,10 @@ use Rattle.stores.proofs.RuleStores.{decode-encode, kind-answered}
 use Rattle.name_store.proofs.NameStores.{decode-names, names-law}
 use Rattle.translation.specs.Answers.{translationText, storesTranslation}
 
-pub answered : (p : Program) → Form p → ruleStore (encode p) ≡ Of (p .kind)
+pub answered : (p : Program) → ProgramForm p → ruleStore (encode p) ≡ Of (p .kind)
 answered p form = kind-answered (encode p) p (record { form = form; words = refl })
 
-module _ (p : Program) (form : Form p) (names : List (List ℕ)) (fit : NamesForm (p .kind) (p .atoms) names) where
+module _ (p : Program) (form : ProgramForm p) (names : List (List ℕ)) (fit : NamesForm (p .kind) (p .atoms) names) where
   pub named : p .kind ≡ Preference → names? Preference (p .atoms) (encodeNames names) ≡ true
   named k = is-true _ (names-law Preference (p .atoms) (encodeNames names) .1 (names, record { form = subst (λ (c : Kind). NamesForm c (p .atoms) names) k fit; bytes = refl }))
 

@@ -10,7 +10,7 @@ use lib.ListN.{length, getD, take, drop}
 use lib.Seq.{take-at, length-sets, sets-eq}
 use Rattle.kinds.specs.declared.limits.Kind.the-variants.{Plain, Preference}
 use Rattle.kinds.specs.declared.refusals.Refusal.the-variants.{RuleStore, NameStore}
-use Rattle.stores.specs.Program.{Program, Form}
+use Rattle.stores.specs.Program.{Program, ProgramForm}
 use Rattle.stores.specs.RuleStore.{StoreOf, encode, decode, ruleStore, isOf}
 use Rattle.name_store.specs.NameStore.{NamesForm, NamesOf, encodeNames, decodeNames, names?}
 use Rattle.stores.specs.declared.rule_store.RuleStore.the-variants.{Of, Refused as NoStore}
@@ -48,7 +48,7 @@ module _ {rules names : List ℕ} (h : PreferenceStore rules) (g : NamesOf names
   abbrev named : List (List ℕ)
   named = translatedNames (decode rules) (decodeNames (decode rules .atoms) names)
 
-  form : Form program
+  form : ProgramForm program
   form = plain-form (decode rules) (h .kind) (h .store .form)
 
   names-form : NamesForm Plain (program .atoms) named

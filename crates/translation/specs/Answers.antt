@@ -11,7 +11,7 @@ use Rattle.name_store.specs.NameStore.{names?, decodeNames}
 use Rattle.writer.specs.declared.Written.{Written}
 use Rattle.writer.specs.declared.Written.the-variants.{Refused}
 use Rattle.text.specs.Text.{textOf}
-use Rattle.output.specs.Emitted.{over}
+use Rattle.rules.specs.Lists.{over}
 use Rattle.writer.specs.Answers.{fitted, writtenBytes}
 use Rattle.pairing.specs.Translated.{translated, translatedNames}
 

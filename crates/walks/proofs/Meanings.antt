@@ -13,7 +13,8 @@ use Rattle.rules.specs.Lists.{All, from}
 use Rattle.rules.specs.Sets.{has, ProperSubset, Agree}
 use Rattle.rules.specs.Rules.{Rule, Model, FirstBroken, reduct, model?, firstBroken}
 use Rattle.rules.specs.Stable.{Stable, subset?}
-use Rattle.rules.specs.Preferred.{fixed, OfClass, ofClass, Beats, Preferred, agree?, beats?}
+use Rattle.kinds.specs.Limits.{fixed}
+use Rattle.rules.specs.Preferred.{OfClass, ofClass, Beats, Preferred, agree?, beats?}
 use Rattle.rules.proofs.Lists.{all-from, from-all, all-filter, filter-all}
 use Rattle.rules.proofs.Rules.{model-law, first-broken-le, no-broken-model, model-no-broken, first-broken, first-broken-one}
 use Rattle.rules.proofs.Stable.{subset-law, proper-lt}

@@ -8,7 +8,8 @@ use Rattle.rules.specs.Lists.{filter, from}
 use Rattle.rules.specs.Sets.{has}
 use Rattle.rules.specs.Rules.{Rule, reduct, model?, firstBroken}
 use Rattle.rules.specs.Stable.{subset?}
-use Rattle.rules.specs.Preferred.{fixed, ofClass, agree?, beats?}
+use Rattle.kinds.specs.Limits.{fixed}
+use Rattle.rules.specs.Preferred.{ofClass, agree?, beats?}
 use Rattle.walks.specs.declared.answers.Verdict.{Verdict}
 use Rattle.walks.specs.declared.answers.Verdict.the-variants.{Yes, Broken, Beaten, Spent, Refused}
 use Rattle.walks.specs.declared.answers.NextState.{NextState}

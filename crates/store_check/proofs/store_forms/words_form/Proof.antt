@@ -1,6 +1,6 @@
 use Prim.Native.Nat.{_-_}
 use borrow.Author.Needs.{needs}
-use Rattle.stores.proofs.Rising.{Climbing, begins, ended, wrong-role, falls, climbs}
+use Rattle.stores.proofs.Climbing.{Climbing, begins, ended, wrong-role, falls, climbs}
 use Rattle.store_check.proofs.store_forms.words_form.Statement.{statement}
 use Rattle.store_check.proofs.store_forms.words_form.Tie as tie
 
