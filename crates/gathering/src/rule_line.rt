@@ -53,15 +53,16 @@ fn put_counts(heads: usize, bodies: usize, nots: usize, words: &mut [u16], at: u
 fn keep_rule(
     kind: Kind,
     gathered: Gathered,
-    heads: usize,
-    bodies: usize,
-    nots: usize,
+    shape: RuleShape,
     end: usize,
     words: &mut [u16],
 ) -> Line
-    requires { ⌜ (heads + bodies + nots < 2 ^ 62) × (gathered .counts .rules < 2 ^ 62) × (gathered .counts .occurrences < 2 ^ 62) × (gathered .words < 2 ^ 62) ⌝ }
-    ensures { λ r. ⌜ Kept kind gathered heads bodies nots end (now (words .entry)) (now (words .exit)) r ⌝ }
+    requires { ⌜ (shape .heads + shape .bodies + shape .nots < 2 ^ 62) × (gathered .counts .rules < 2 ^ 62) × (gathered .counts .occurrences < 2 ^ 62) × (gathered .words < 2 ^ 62) ⌝ }
+    ensures { λ r. ⌜ Kept kind gathered (shape .heads) (shape .bodies) (shape .nots) end (now (words .entry)) (now (words .exit)) r ⌝ }
 {
+    let heads = shape.heads;
+    let bodies = shape.bodies;
+    let nots = shape.nots;
     let before = gathered.counts;
     let atoms = before.atoms;
     let rules = before.rules + 1;
@@ -144,13 +145,5 @@ pub fn add_rule(
     if twice {
         return Line::Fault(Refusal::TwiceInList);
     }
-    keep_rule(
-        kind,
-        gathered,
-        shape.heads,
-        shape.bodies,
-        shape.nots,
-        end,
-        words,
-    )
+    keep_rule(kind, gathered, shape, end, words)
 }
