@@ -6,11 +6,11 @@ use mathlib.Core.Bool.{Bool, true, false}
 use mathlib.Core.List.{List, [], _∷_}
 use native.Mathlib.Omega.{arith}
 use lib.Dec.{T}
-use lib.ListN.{length, take}
+use lib.ListN.{length, take, getD}
 use Rattle.rules.specs.Lists.{All, Distinct, filter, keep, from}
 use Rattle.rules.specs.Rules.{Rule}
 use Rattle.rules.specs.Preferred.{Preferred, preferred?}
-use Rattle.rules.proofs.Lists.{all-imp, all-any, all-filter, any-filter, any-imp}
+use Rattle.rules.proofs.Lists.{all-imp, all-any, all-at, all-filter, any-filter, any-imp}
 use Rattle.rules.proofs.Preferred.{preferred-law}
 use Rattle.walks.specs.Walk.{walkOrder, nextVerdict}
 use Rattle.walks.specs.Listings.{preferredSets, Subsequence, ListsPreferred, goOn, listed, ListingStep, Whole, stepAfter, CutShort}
@@ -52,6 +52,12 @@ module _ (ws : List ℕ) (rs : List (Rule ℕ)) where
         only = all-filter (λ s. (s < 2 ^ length ws) × Preferred ws rs s) (preferred? ws rs) (walkOrder (length ws)) (all-walk-order (length ws) (λ s. T (preferred? ws rs s) → (s < 2 ^ length ws) × Preferred ws rs s) .1 (λ s l t. (l, preferred-law ws rs s .0 t)));
         in-order = filter-part (preferred? ws rs) (walkOrder (length ws));
       }
+
+  step-after : (c : ℕ) → c ≤ length (preferredSets ws rs) → ListingStep ws rs (stepAfter 0 (preferredSets ws rs) c)
+  step-after zero l = inl refl
+  step-after (suc c) l =
+      let h = all-at (λ s. (s < 2 ^ length ws) × Preferred ws rs s) 0 (preferredSets ws rs) (lists-preferred .only) c (omega arith) in
+      inr (getD (preferredSets ws rs) c 0, refl, h .0, h .1)
 
   module _ (budget : ℕ) where
     abbrev next : ℕ → NextState
@@ -154,4 +160,4 @@ module _ (ws : List ℕ) (rs : List (Rule ℕ)) where
             unspent d t (inr p) =
                 let x = all-any (λ s. Unspent (suc s)) (λ x. x ≡ p .0) (preferredSets ws rs) (d .later) (lists-preferred .each (p .0) (p .2) (p .3)) in
                 subst Unspent (ap suc (x .2) ∙ sym (p .1)) (x .1)
-        outcome (inr d) = inr (record { count = d .count; inside = d .inside; spent = d .spent; earlier = λ c u l. d .earlier c l u; states = d .same })
+        outcome (inr d) = inr (record { count = d .count; inside = d .inside; step = step-after (d .count) (d .inside); spent = d .spent; earlier = λ c u l. d .earlier c l u; states = d .same })

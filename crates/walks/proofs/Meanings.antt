@@ -8,6 +8,7 @@ use native.Mathlib.Omega.{arith}
 use native.Mathlib.Decide.{decLt}
 use lib.Dec.{T}
 use lib.ListN.{length}
+use Rattle.kinds.specs.declared.refusals.Refusal.{Refusal}
 use Rattle.rules.specs.Lists.{All}
 use Rattle.rules.specs.Sets.{has}
 use Rattle.rules.specs.Rules.{Rule, Model, FirstBroken, reduct, model?, firstBroken}
@@ -39,102 +40,105 @@ broken-law rs m i = (there, back)
         let e : firstBroken rs (has m) ≡ i = first-broken-one rs (has m) i h in
         (λ k. (let l = h .inside in omega (arith, model-no-broken rs (has m) k)), sym e)
 
--- a verdict: the walk where the set is a model, else the rule that is broken
-module _ (rs : List (Rule ℕ)) (m : ℕ) (better : ℕ → Bool) (P : ℕ → Type 0) (law : (s : ℕ) → T (better s) ↔ P s) (l : List ℕ) where
-  abbrev needs : Verdict
-  needs = cond (model? rs (has m)) (search better l 0) (Broken (firstBroken rs (has m)))
+-- v is the answer, whatever the budget, for a set m whose walk is l: yes where m is good, else its first broken rule or the first set that is P
+record Judged (rs : List (Rule ℕ)) (m : ℕ) (P : ℕ → Type 0) (l : List ℕ) (Good : Type 0) (v : Verdict) : Type 0 where
+  answered : Answered v
+  is-yes : (u : ℕ) → v ≡ Yes u ↔ (Good × (u ≡ length l))
+  is-broken : (i : ℕ) → v ≡ Broken i ↔ FirstBroken rs (has m) i
+  is-beaten : (s u : ℕ) → v ≡ Beaten s u ↔ (Model rs (has m) × FirstAt P l s u)
 
-  needs-answered : Answered needs
-  needs-answered = step (model? rs (has m))
+-- the walk where the set is a model, else the rule that is broken
+module _ (rs : List (Rule ℕ)) (m : ℕ) (better : ℕ → Bool) (P : ℕ → Type 0) (law : (s : ℕ) → T (better s) ↔ P s) (l : List ℕ) (Good : Type 0) (good : (Model rs (has m) × All (λ s. P s → ⊥) l) ↔ Good) where
+  abbrev broken : Verdict
+  broken = Broken (firstBroken rs (has m))
+
+  judged : Judged rs m P l Good (cond (model? rs (has m)) (search better l 0) (Broken (firstBroken rs (has m))))
+  judged = step (model? rs (has m)) (model-law rs (has m))
     where
-      step : (b : Bool) → Answered (cond b (search better l 0) (Broken (firstBroken rs (has m))))
-      step true = walked-answered (search better l 0) (search-walked better P law l 0)
-      step false = tt
+      step : (b : Bool) → T b ↔ Model rs (has m) → Judged rs m P l Good (cond b (search better l 0) broken)
+      step true q =
+          let walked = search-walked better P law l 0 in record {
+            answered = walked-answered (search better l 0) walked;
+            is-yes = λ u. let r = search-yes better P law l 0 u in (
+              λ e. let h = r .0 e in (good .0 (q .0 tt, h .0), let k = h .1 in omega arith),
+              λ h. r .1 (good .1 (h .0) .1, let k = h .1 in omega arith),
+            );
+            is-broken = λ i. (
+              λ e. absurd (subst Walked e walked),
+              λ h. absurd (broken-law rs m i .1 h .0 (q .0 tt)),
+            );
+            is-beaten = λ s u. let r = search-beaten better P law l 0 s u in (
+              λ e. let h = r .0 e in (q .0 tt, (h .0, (let k = h .1 in omega arith), h .2)),
+              λ h. r .1 (h .1 .0, (let k = h .1 .1 in omega arith), h .1 .2),
+            );
+          }
+      step false q = record {
+        answered = tt;
+        is-yes = λ u. (λ e. yes-broken (sym e), λ h. absurd (q .1 (good .1 (h .0) .0)));
+        is-broken = λ i. (
+          λ e. broken-law rs m i .0 (q .1, let z : firstBroken rs (has m) ≡ i = cc in sym z),
+          λ h. ap Broken (sym (broken-law rs m i .1 h .1)),
+        );
+        is-beaten = λ s u. (λ e. broken-beaten e, λ h. absurd (q .1 (h .0)));
+      }
 
-  needs-yes : (u : ℕ) → needs ≡ Yes u ↔ (Model rs (has m) × All (λ s. P s → ⊥) l × (u ≡ length l))
-  needs-yes u = step (model? rs (has m)) (model-law rs (has m))
+module _ {rs : List (Rule ℕ)} {m : ℕ} {P : ℕ → Type 0} {l : List ℕ} {Good : Type 0} {v : Verdict} (j : Judged rs m P l Good v) where
+  -- the units needed: all of the walk, or up to the first better set
+  abbrev Units : ℕ → Type 0
+  Units u = (Good × (u ≡ length l)) ⊎ ((s : ℕ) × Model rs (has m) × FirstAt P l s u)
+
+  units-counted : (u : ℕ) → Units u → unitsOf v ≡ u
+  units-counted u (inl h) = ap unitsOf (j .is-yes u .1 h)
+  units-counted u (inr h) = ap unitsOf (j .is-beaten (h .0) u .1 (h .1, h .2))
+
+  units-model : Model rs (has m) → Units (unitsOf v)
+  units-model model = step v refl (j .answered)
     where
-      step : (b : Bool) → T b ↔ Model rs (has m) → cond b (search better l 0) (Broken (firstBroken rs (has m))) ≡ Yes u ↔ (Model rs (has m) × All (λ s. P s → ⊥) l × (u ≡ length l))
-      step true q = let r = search-yes better P law l 0 u in (
-        λ e. let h = r .0 e in (q .0 tt, h .0, let k = h .1 in omega arith),
-        λ h. r .1 (h .1, let k = h .2 in omega arith),
-      )
-      step false q = (λ e. yes-broken (sym e), λ h. absurd (q .1 (h .0)))
+      step : (w : Verdict) → v ≡ w → Answered w → Units (unitsOf w)
+      step (Yes u) e a = inl (j .is-yes u .0 e)
+      step (Broken i) e a = absurd (broken-law rs m i .1 (j .is-broken i .0 e) .0 model)
+      step (Beaten s u) e a = let h = j .is-beaten s u .0 e in inr (s, h .0, h .1)
+      step (Spent u) e a = absurd a
+      step (Refused f) e a = absurd a
 
-  needs-broken : (j : ℕ) → needs ≡ Broken j ↔ ((Model rs (has m) → ⊥) × (j ≡ firstBroken rs (has m)))
-  needs-broken j = step (model? rs (has m)) (model-law rs (has m))
-    where
-      step : (b : Bool) → T b ↔ Model rs (has m) → cond b (search better l 0) (Broken (firstBroken rs (has m))) ≡ Broken j ↔ ((Model rs (has m) → ⊥) × (j ≡ firstBroken rs (has m)))
-      step true q = (λ e. absurd (subst Walked e (search-walked better P law l 0)), λ h. absurd (h .0 (q .0 tt)))
-      step false q = (λ e. (q .1, let z : firstBroken rs (has m) ≡ j = cc in sym z), λ h. ap Broken (sym (h .1)))
+  units-broken : (Model rs (has m) → ⊥) → unitsOf v ≡ 0
+  units-broken h = ap unitsOf (j .is-broken (firstBroken rs (has m)) .1 (broken-law rs m (firstBroken rs (has m)) .0 (h, refl)))
 
-  needs-beaten : (s u : ℕ) → needs ≡ Beaten s u ↔ (Model rs (has m) × FirstAt P l s u)
-  needs-beaten s u = step (model? rs (has m)) (model-law rs (has m))
-    where
-      step : (b : Bool) → T b ↔ Model rs (has m) → cond b (search better l 0) (Broken (firstBroken rs (has m))) ≡ Beaten s u ↔ (Model rs (has m) × FirstAt P l s u)
-      step true q = let r = search-beaten better P law l 0 s u in (
-        λ e. let h = r .0 e in (q .0 tt, (h .0, (let k = h .1 in omega arith), h .2)),
-        λ h. r .1 (h .1 .0, (let k = h .1 .1 in omega arith), h .1 .2),
-      )
-      step false q = (λ e. broken-beaten e, λ h. absurd (q .1 (h .0)))
+  module _ (b : ℕ) where
+    verdict-yes : (u : ℕ) → capped b v ≡ Yes u ↔ (Good × (u ≡ length l) × (u ≤ b))
+    verdict-yes u = let c = capped-same b v (j .answered) (Yes u) tt in let r = j .is-yes u in (
+      λ e. let h = c .0 e in let k = r .0 (h .0) in (k .0, k .1, h .1),
+      λ h. c .1 (r .1 (h .0, h .1), h .2),
+    )
 
-  module _ (Good : Type 0) (good : (Model rs (has m) × All (λ s. P s → ⊥) l) ↔ Good) where
-    -- the units needed: all of the walk, or up to the first better set
-    abbrev Units : ℕ → Type 0
-    Units u = (Good × (u ≡ length l)) ⊎ ((s : ℕ) × Model rs (has m) × FirstAt P l s u)
+    verdict-broken : (i : ℕ) → capped b v ≡ Broken i ↔ FirstBroken rs (has m) i
+    verdict-broken i = let c = capped-same b v (j .answered) (Broken i) tt in (
+      λ e. j .is-broken i .0 (c .0 e .0),
+      λ h. c .1 (j .is-broken i .1 h, omega arith),
+    )
 
-    units-counted : (u : ℕ) → Units u → unitsOf needs ≡ u
-    units-counted u (inl h) = let q = good .1 (h .0) in ap unitsOf (needs-yes u .1 (q .0, q .1, h .1))
-    units-counted u (inr h) = ap unitsOf (needs-beaten (h .0) u .1 (h .1, h .2))
+    verdict-beaten : (s u : ℕ) → capped b v ≡ Beaten s u ↔ (Model rs (has m) × FirstAt P l s u × (u ≤ b))
+    verdict-beaten s u = let c = capped-same b v (j .answered) (Beaten s u) tt in let r = j .is-beaten s u in (
+      λ e. let h = c .0 e in let k = r .0 (h .0) in (k .0, k .1, h .1),
+      λ h. c .1 (r .1 (h .0, h .1), h .2),
+    )
 
-    units-model : Model rs (has m) → Units (unitsOf needs)
-    units-model model = step needs refl needs-answered
+    verdict-spent : (u : ℕ) → capped b v ≡ Spent u ↔ ((u ≡ b) × ((n : ℕ) × Units n × (b < n)))
+    verdict-spent u = let c = capped-spent b v (j .answered) u in (
+      λ e. let h = c .0 e in (h .0, (unitsOf v, units-model (some-model (h .1) (decide (model? rs (has m)))), h .1)),
+      λ h. c .1 (h .0, let k = units-counted (h .1 .0) (h .1 .1) in let l = h .1 .2 in omega arith),
+    )
       where
-        step : (v : Verdict) → needs ≡ v → Answered v → Units (unitsOf v)
-        step (Yes u) e a = let h = needs-yes u .0 e in inl (good .0 (h .0, h .1), h .2)
-        step (Broken i) e a = absurd (needs-broken i .0 e .0 model)
-        step (Beaten s u) e a = let h = needs-beaten s u .0 e in inr (s, h .0, h .1)
-        step (Spent u) e a = absurd a
-        step (Refused f) e a = absurd a
+        some-model : b < unitsOf v → T (model? rs (has m)) ⊎ (T (model? rs (has m)) → ⊥) → Model rs (has m)
+        some-model l (inl t) = model-law rs (has m) .0 t
+        some-model l (inr t) = absurd (omega (arith, units-broken (λ k. t (model-law rs (has m) .1 k))))
 
-    units-broken : (Model rs (has m) → ⊥) → unitsOf needs ≡ 0
-    units-broken h = ap unitsOf (needs-broken (firstBroken rs (has m)) .1 (h, refl))
-
-    module _ (b : ℕ) where
-      verdict-yes : (u : ℕ) → capped b needs ≡ Yes u ↔ (Good × (u ≡ length l) × (u ≤ b))
-      verdict-yes u = let c = capped-same b needs needs-answered (Yes u) tt in let r = needs-yes u in (
-        λ e. let h = c .0 e in let k = r .0 (h .0) in (good .0 (k .0, k .1), k .2, h .1),
-        λ h. let q = good .1 (h .0) in c .1 (r .1 (q .0, q .1, h .1), h .2),
-      )
-
-      verdict-broken : (j : ℕ) → capped b needs ≡ Broken j ↔ FirstBroken rs (has m) j
-      verdict-broken j = let c = capped-same b needs needs-answered (Broken j) tt in let r = needs-broken j in let f = broken-law rs m j in (
-        λ e. f .0 (r .0 (c .0 e .0)),
-        λ h. c .1 (r .1 (f .1 h), omega arith),
-      )
-
-      verdict-beaten : (s u : ℕ) → capped b needs ≡ Beaten s u ↔ (Model rs (has m) × FirstAt P l s u × (u ≤ b))
-      verdict-beaten s u = let c = capped-same b needs needs-answered (Beaten s u) tt in let r = needs-beaten s u in (
-        λ e. let h = c .0 e in let k = r .0 (h .0) in (k .0, k .1, h .1),
-        λ h. c .1 (r .1 (h .0, h .1), h .2),
-      )
-
-      verdict-spent : (u : ℕ) → capped b needs ≡ Spent u ↔ ((u ≡ b) × ((n : ℕ) × Units n × (b < n)))
-      verdict-spent u = let c = capped-spent b needs needs-answered u in (
-        λ e. let h = c .0 e in (h .0, (unitsOf needs, units-model (some-model (h .1) (decide (model? rs (has m)))), h .1)),
-        λ h. c .1 (h .0, let k = units-counted (h .1 .0) (h .1 .1) in let l = h .1 .2 in omega arith),
-      )
-        where
-          some-model : b < unitsOf needs → T (model? rs (has m)) ⊎ (T (model? rs (has m)) → ⊥) → Model rs (has m)
-          some-model l (inl t) = model-law rs (has m) .0 t
-          some-model l (inr t) = absurd (omega (arith, units-broken (λ k. t (model-law rs (has m) .1 k))))
+    verdict-unrefused : (f : Refusal) → capped b v ≡ Refused f → ⊥
+    verdict-unrefused f = never-refused b v (j .answered) f
 
 module _ (ws : List ℕ) (rs : List (Rule ℕ)) (m : ℕ) where
   abbrev Beating : ℕ → Type 0
   Beating s = Beats ws rs s m
-
-  abbrev beating : ℕ → Bool
-  beating s = beats? ws rs s m
 
   -- nothing in the walk beats m: then nothing does, for what beats m agrees with it on the fixed atoms
   unbeaten : (Model rs (has m) × All (λ s. Beating s → ⊥) (preferredWalk ws m)) ↔ Preferred ws rs m
@@ -143,41 +147,38 @@ module _ (ws : List ℕ) (rs : List (Rule ℕ)) (m : ℕ) where
     λ p. (p .model, all-preferred-walk ws m (λ s. Beating s → ⊥) .1 (λ s l a. p .unbeaten s l)),
   )
 
-  pub preferred-answered : Answered (preferredNeeds ws rs m)
+  preferred-judged : Judged rs m (λ s. Beats ws rs s m) (preferredWalk ws m) (Preferred ws rs m) (preferredNeeds ws rs m)
   unfolding preferredNeeds
-  preferred-answered = needs-answered rs m beating Beating (λ s. beats-law ws rs s m) (preferredWalk ws m)
+  preferred-judged = judged rs m (λ s. beats? ws rs s m) Beating (λ s. beats-law ws rs s m) (preferredWalk ws m) (Preferred ws rs m) unbeaten
+
+  pub preferred-answered : Answered (preferredNeeds ws rs m)
+  preferred-answered = preferred-judged .answered
 
   pub yes-law : ((u : ℕ) × (preferredNeeds ws rs m ≡ Yes u)) ↔ Preferred ws rs m
-  unfolding preferredNeeds
-  yes-law =
-      let r = needs-yes rs m beating Beating (λ s. beats-law ws rs s m) (preferredWalk ws m) in (
-        λ h. let k = r (h .0) .0 (h .1) in unbeaten .0 (k .0, k .1),
-        λ p. let q = unbeaten .1 p in (length (preferredWalk ws m), r (length (preferredWalk ws m)) .1 (q .0, q .1, refl)),
-      )
+  yes-law = (λ h. preferred-judged .is-yes (h .0) .0 (h .1) .0, λ p. (length (preferredWalk ws m), preferred-judged .is-yes (length (preferredWalk ws m)) .1 (p, refl)))
 
   -- what a candidate costs
   pub candidate-law : (c : ℕ) → CandidateUnits ws rs m c ↔ (c ≡ suc (unitsOf (preferredNeeds ws rs m)))
-  unfolding preferredNeeds
   candidate-law c = (there, λ e. back e (decide (model? rs (has m))))
     where
       there : CandidateUnits ws rs m c → c ≡ suc (unitsOf (preferredNeeds ws rs m))
-      there (inl h) = let e = h .1 in omega (arith, units-broken rs m beating Beating (λ s. beats-law ws rs s m) (preferredWalk ws m) (Preferred ws rs m) unbeaten (h .0))
-      there (inr h) = let e = h .2 in omega (arith, units-counted rs m beating Beating (λ s. beats-law ws rs s m) (preferredWalk ws m) (Preferred ws rs m) unbeaten (h .0) (h .1))
+      there (inl h) = let e = h .1 in omega (arith, units-broken preferred-judged (h .0))
+      there (inr h) = let e = h .2 in omega (arith, units-counted preferred-judged (h .0) (h .1))
 
       back : c ≡ suc (unitsOf (preferredNeeds ws rs m)) → T (model? rs (has m)) ⊎ (T (model? rs (has m)) → ⊥) → CandidateUnits ws rs m c
-      back e (inl t) = inr (unitsOf (preferredNeeds ws rs m), units-model rs m beating Beating (λ s. beats-law ws rs s m) (preferredWalk ws m) (Preferred ws rs m) unbeaten (model-law rs (has m) .0 t), e)
+      back e (inl t) = inr (unitsOf (preferredNeeds ws rs m), units-model preferred-judged (model-law rs (has m) .0 t), e)
       back e (inr t) =
-          let broken : Model rs (has m) → ⊥ = λ k. t (model-law rs (has m) .1 k) in
-          inl (broken, omega (arith, units-broken rs m beating Beating (λ s. beats-law ws rs s m) (preferredWalk ws m) (Preferred ws rs m) unbeaten broken))
+          let none : Model rs (has m) → ⊥ = λ k. t (model-law rs (has m) .1 k) in
+          inl (none, omega (arith, units-broken preferred-judged none))
 
   pub preferred-means : (budget : ℕ) → PreferredMeans ws rs m budget
-  unfolding preferredVerdict preferredNeeds
+  unfolding preferredVerdict
   preferred-means budget = record {
-    yes = verdict-yes rs m beating Beating (λ s. beats-law ws rs s m) (preferredWalk ws m) (Preferred ws rs m) unbeaten budget;
-    broken = verdict-broken rs m beating Beating (λ s. beats-law ws rs s m) (preferredWalk ws m) (Preferred ws rs m) unbeaten budget;
-    beaten = verdict-beaten rs m beating Beating (λ s. beats-law ws rs s m) (preferredWalk ws m) (Preferred ws rs m) unbeaten budget;
-    spent = verdict-spent rs m beating Beating (λ s. beats-law ws rs s m) (preferredWalk ws m) (Preferred ws rs m) unbeaten budget;
-    never-refused = never-refused budget (preferredNeeds ws rs m) preferred-answered;
+    yes = verdict-yes preferred-judged budget;
+    broken = verdict-broken preferred-judged budget;
+    beaten = verdict-beaten preferred-judged budget;
+    spent = verdict-spent preferred-judged budget;
+    never-refused = verdict-unrefused preferred-judged budget;
   }
 
 module _ (n : ℕ) (rs : List (Rule ℕ)) (m : ℕ) (inside : m < 2 ^ n) where
@@ -185,21 +186,22 @@ module _ (n : ℕ) (rs : List (Rule ℕ)) (m : ℕ) (inside : m < 2 ^ n) where
   abbrev Smaller : ℕ → Type 0
   Smaller s = Model (reduct rs (has m)) (has s)
 
-  abbrev smaller : ℕ → Bool
-  smaller s = model? (reduct rs (has m)) (has s)
-
   minimal : (Model rs (has m) × All (λ s. Smaller s → ⊥) (stableWalk n m)) ↔ Stable rs m
   minimal = (
     λ h. record { model = h .0; minimal = λ s p. all-stable-walk n m inside (λ s. Smaller s → ⊥) .0 (h .1) s p },
     λ p. (p .model, all-stable-walk n m inside (λ s. Smaller s → ⊥) .1 (λ s q. p .minimal s q)),
   )
 
+  stable-judged : Judged rs m (λ s. Model (reduct rs (has m)) (has s)) (stableWalk n m) (Stable rs m) (stableNeeds n rs m)
+  unfolding stableNeeds
+  stable-judged = judged rs m (λ s. model? (reduct rs (has m)) (has s)) Smaller (λ s. model-law (reduct rs (has m)) (has s)) (stableWalk n m) (Stable rs m) minimal
+
   pub stable-means : (budget : ℕ) → StableMeans n rs m budget
-  unfolding stableVerdict stableNeeds
+  unfolding stableVerdict
   stable-means budget = record {
-    yes = verdict-yes rs m smaller Smaller (λ s. model-law (reduct rs (has m)) (has s)) (stableWalk n m) (Stable rs m) minimal budget;
-    broken = verdict-broken rs m smaller Smaller (λ s. model-law (reduct rs (has m)) (has s)) (stableWalk n m) (Stable rs m) minimal budget;
-    beaten = verdict-beaten rs m smaller Smaller (λ s. model-law (reduct rs (has m)) (has s)) (stableWalk n m) (Stable rs m) minimal budget;
-    spent = verdict-spent rs m smaller Smaller (λ s. model-law (reduct rs (has m)) (has s)) (stableWalk n m) (Stable rs m) minimal budget;
-    never-refused = never-refused budget (stableNeeds n rs m) (needs-answered rs m smaller Smaller (λ s. model-law (reduct rs (has m)) (has s)) (stableWalk n m));
+    yes = verdict-yes stable-judged budget;
+    broken = verdict-broken stable-judged budget;
+    beaten = verdict-beaten stable-judged budget;
+    spent = verdict-spent stable-judged budget;
+    never-refused = verdict-unrefused stable-judged budget;
   }

@@ -57,6 +57,7 @@ stepAfter start l (suc c) = suc (getD l c 0)
 pub record CutShort (ws : List ℕ) (rs : List (Rule ℕ)) (budget : ℕ) (l : List ℕ) : Type 0 where
   pub count : ℕ
   pub inside : count ≤ length (preferredSets ws rs)
+  pub step : ListingStep ws rs (stepAfter 0 (preferredSets ws rs) count)
   pub spent : nextVerdict ws rs (stepAfter 0 (preferredSets ws rs) count) budget ≡ NextSpent budget
   pub earlier : (c u : ℕ) → c < count → nextVerdict ws rs (stepAfter 0 (preferredSets ws rs) c) budget ≡ NextSpent u → ⊥
   pub states : l ≡ take count (preferredSets ws rs)
