@@ -1,3 +1,4 @@
 -- The laws of the listing.
+pub mod PreferredPrinted
 pub mod ListedStates
 pub mod StoredStates

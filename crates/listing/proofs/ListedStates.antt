@@ -2,7 +2,7 @@
 use Prim.Native.Nat.{ℕ, zero, suc, _+_, _-_, _*_, _^_, _≤_, _<_}
 use native.Mathlib.Numerals.{add-one}
 use native.Mathlib.Omega.{arith}
-use mathlib.Core.Path.{_≡_, refl, sym, ap, ap₂, _∙_, subst}
+use mathlib.Core.Path.{_≡_, refl, sym, ap, ap₂, _∙_}
 use mathlib.Core.Bool.{Bool, true, false, cond}
 use mathlib.Core.Logic.{⊎-elim}
 use mathlib.Core.List.{List, [], _∷_, _++_, append-assoc}
@@ -12,34 +12,27 @@ use lib.Pow.{pow-mono}
 use types.Run.{OneOf}
 use denote.Enum.Declared.{tagOf}
 use borrow.Author.Tests.{le-leb, leb-true, leb-false}
-use Rattle.kinds.specs.Limits.{streamLimit, walkAtoms, budgetLimit, longestName, longestEntry}
-use Rattle.kinds.specs.declared.limits.Kind.{Kind}
+use Rattle.kinds.specs.Limits.{streamLimit, walkAtoms, longestName, longestEntry}
 use Rattle.kinds.specs.declared.limits.Kind.the-variants.{Preference}
 use Rattle.kinds.specs.declared.refusals.Refusal.{Refusal}
 use Rattle.kinds.specs.declared.refusals.Refusal.the-variants.{Output}
 use Rattle.rules.specs.Lists.{All}
 use Rattle.rules.specs.Sets.{has}
 use Rattle.rules.proofs.Lists.{all-imp}
-use Rattle.stores.specs.Program.{Program, ClassesForm}
-use Rattle.stores.specs.RuleStore.{decode}
 use Rattle.names.specs.Names.{allowed}
-use Rattle.stores.proofs.RuleStores.{of-kind}
 use Rattle.name_store.proofs.NamePlaces.{length-decode}
 use Rattle.name_store.proofs.NameStores.{allowed-short}
 use Rattle.text.specs.Text.{item}
 use Rattle.text.specs.Items.{storedNames}
 use Rattle.output.specs.Emitted.{Emitted, InRange}
 use Rattle.output.proofs.Emitting.{none, then, renamed, same-length}
-use Rattle.walks.specs.Walk.{nextVerdict}
-use Rattle.walks.specs.Answers.{nextAnswer}
 use Rattle.walks.specs.declared.answers.NextState.{NextState}
 use Rattle.walks.specs.declared.answers.NextState.the-variants.{State, Nothing, Spent, Refused}
 use Rattle.walks.proofs.answers.NextState.{the-type}
-use Rattle.walks.proofs.Listing.{next-state}
 use Rattle.printing.specs.Printed.{closing, stateLine, totalLine, spentLine, refusedText}
 use Rattle.printing.specs.Parts.{member, members}
-use Rattle.listing.specs.Listed.{onNext, listing, wholeListing, streamed}
-use Rattle.listing.specs.StoresPrinted.{Listable, lastLine, Limited, storesListing}
+use Rattle.listing.specs.Listed.{onNext, listing, streamed}
+use Rattle.listing.specs.ListedMasks.{Inside, ListedNames, lastLine, Limited}
 use Rattle.printing.proofs.PrintedLines.{member-next, members-end, state-opens, total-short, front-fits, written-front}
 
 -- a state's line is short
@@ -77,53 +70,34 @@ module _ (names : List (List ℕ)) (short : All (λ x. length x ≤ longestName)
         members-short (length names) 0 (length names) (omega arith),
       )
 
--- the next state of a store that can be listed
-
-module _ {rules names starts : List ℕ} (h : Listable rules names starts) where
-  abbrev program : Program
-  program = decode rules
-
-  words-count : length (program .words) ≡ program .atoms
-  words-count =
-      let o = of-kind rules Preference (h .store) in
-      let c : ClassesForm Preference (program .atoms) (program .classes) (program .words) = subst (λ (k : Kind). ClassesForm k (program .atoms) (program .classes) (program .words)) (o .1) (o .0 .form .classes-form) in
-      c .1
-
-  answer-is : (start : ℕ) → start ≤ 2 ^ program .atoms → nextAnswer rules start budgetLimit ≡ nextVerdict (program .words) (program .rules) start budgetLimit
-  unfolding nextAnswer
-  answer-is start l = rw (h .store, le-leb (program .atoms) walkAtoms (h .few), le-leb start (2 ^ program .atoms) l)
-
-  found-at : (start s u : ℕ) → start ≤ 2 ^ program .atoms → nextVerdict (program .words) (program .rules) start budgetLimit ≡ State s u → (start ≤ s) × (s < 2 ^ program .atoms)
-  found-at start s u l e =
-      let k = next-state (program .words) (program .rules) start (rw words-count l) budgetLimit s u .0 e in
-      (k .1 .above, rw words-count at (k .0))
-
+module _ {n : ℕ} {names starts : List ℕ} (h : ListedNames n names starts) where
   all-short : All (λ x. length x ≤ longestName) (storedNames names starts)
   all-short = all-imp (λ x. T (allowed Preference x)) (λ x. length x ≤ longestName) (allowed-short Preference) (storedNames names starts) (h .all-allowed)
 
   pub few-starts : length starts ≤ walkAtoms
   few-starts = omega (arith, h .few, h .count)
 
-  pub state-range : (next s : ℕ) → next ≤ streamLimit → InRange next (stateLine (storedNames names starts) s)
-  state-range next s l = record { below = omega (arith, state-short (storedNames names starts) all-short s (omega (arith, few-starts, length-decode (length starts) names))) }
+  pub few-sets : 2 ^ n ≤ 2 ^ walkAtoms
+  few-sets = pow-mono (h .few)
 
-pub record Listing (rules names starts before now : List ℕ) (next start count : ℕ) : Type 0 where
-  pub able : Listable rules names starts
-  pub inside : start ≤ 2 ^ decode rules .atoms
+  pub state-range : (at s : ℕ) → at ≤ streamLimit → InRange at (stateLine (storedNames names starts) s)
+  state-range at s l = record { below = omega (arith, state-short (storedNames names starts) all-short s (omega (arith, few-starts, length-decode (length starts) names))) }
+
+-- the states up to the start are written, `count` of them
+pub record Listing (next : ℕ → NextState) (top : ℕ) (names : List (List ℕ)) (before now : List ℕ) (at start count : ℕ) : Type 0 where
+  pub inside : start ≤ top
   pub counted : count ≤ start
   pub left : ℕ
-  pub enough : 2 ^ decode rules .atoms < start + left
+  pub enough : top < start + left
   pub written : List ℕ
-  pub so : Emitted before 0 written now next
-  pub all : written ++ listing left (decode rules) (storedNames names starts) start count ≡ storesListing rules names starts
+  pub so : Emitted before 0 written now at
+  pub all : written ++ listing next left names start count ≡ listing next (suc top) names 0 0
 
-pub begins : {rules names starts : List ℕ} (out : List ℕ) → Listable rules names starts → Listing rules names starts out out 0 0 0
-unfolding storesListing wholeListing
-begins {rules} {names} {starts} out h = record {
-  able = h;
+pub begins : (next : ℕ → NextState) (top : ℕ) (names : List (List ℕ)) (out : List ℕ) → Listing next top names out out 0 0 0
+begins next top names out = record {
   inside = omega arith;
   counted = omega arith;
-  left = suc (2 ^ decode rules .atoms);
+  left = suc top;
   enough = omega arith;
   written = [];
   so = none;
@@ -161,17 +135,14 @@ last-short (Nothing u) c = total-short c
 last-short (Spent u) c = omega arith
 last-short (Refused f) c = omega arith
 
-module _ {rules names starts before now : List ℕ} {next start count : ℕ} (h : Listing rules names starts before now next start count) where
+module _ {next : ℕ → NextState} {top : ℕ} {names : List (List ℕ)} {before now : List ℕ} {at start count : ℕ} (h : Listing next top names before now at start count) where
   abbrev rest : ℕ → List ℕ
-  rest left = listing left (decode rules) (storedNames names starts) start count
+  rest left = listing next left names start count
 
   abbrev more : ℕ → List ℕ
-  more s = stateLine (storedNames names starts) s ++ listing (h .left - 1) (decode rules) (storedNames names starts) (suc s) (suc count)
+  more s = stateLine names s ++ listing next (h .left - 1) names (suc s) (suc count)
 
-  abbrev verdict : NextState
-  verdict = nextVerdict (decode rules .words) (decode rules .rules) start budgetLimit
-
-  unfolded : rest (h .left) ≡ onNext verdict more (totalLine count) spentLine
+  unfolded : rest (h .left) ≡ onNext (next start) more (totalLine count) spentLine
   unfolding listing
   unfolded =
       let k = h .inside in
@@ -180,54 +151,48 @@ module _ {rules names starts before now : List ℕ} {next start count : ℕ} (h 
       ap rest e
 
   -- the listing so far already passes the size
-  pub passed : streamLimit < next → Limited (storesListing rules names starts) before now next
+  pub passed : streamLimit < at → Limited (listing next (suc top) names 0 0) before now at
   passed l =
       let e = ap length (sym (h .all)) ∙ length-append (h .written) (rest (h .left)) in
       record { fits = λ k. absurd (omega (arith, e, h .so .place)); past = λ k. l }
 
-  module _ {found : NextState} (e : found ≡ nextAnswer rules start budgetLimit) where
-    found-is : found ≡ verdict
-    found-is = e ∙ answer-is (h .able) start (h .inside)
-
+  module _ {found : NextState} (e : found ≡ next start) where
     -- there is no further state, or the budget is spent
-    pub ended : {now′ : List ℕ} {next′ : ℕ} → OneOf (1 ∷ 2 ∷ 3 ∷ []) (tagOf the-type found) → Emitted now next (lastLine found count) now′ next′ → Limited (storesListing rules names starts) before now′ next′
+    pub ended : {now′ : List ℕ} {at′ : ℕ} → OneOf (1 ∷ 2 ∷ 3 ∷ []) (tagOf the-type found) → Emitted now at (lastLine found count) now′ at′ → Limited (listing next (suc top) names 0 0) before now′ at′
     ended k p =
-        let last : rest (h .left) ≡ lastLine found count = unfolded ∙ ap (λ (v : NextState). onNext v more (totalLine count) spentLine) (sym found-is) ∙ other-lines found more count k in
+        let last : rest (h .left) ≡ lastLine found count = unfolded ∙ ap (λ (v : NextState). onNext v more (totalLine count) spentLine) (sym e) ∙ other-lines found more count k in
         let whole = renamed (then (h .so) p) (ap (λ (l : List ℕ). h .written ++ l) (sym last) ∙ h .all) in
         record { fits = λ l. whole; past = λ l. omega (arith, whole .place) }
 
-    module _ {s u : ℕ} (f : found ≡ State s u) where
-      at-state : (start ≤ s) × (s < 2 ^ decode rules .atoms)
-      at-state = found-at (h .able) start s u (h .inside) (sym found-is ∙ f)
+    module _ (between : Inside next top) {s u : ℕ} (f : found ≡ State s u) where
+      at-state : (start ≤ s) × (s < top)
+      at-state = between start s u (h .inside) (sym e ∙ f)
 
-      pub state-small : s < 2 ^ 60
-      state-small =
-          let k : 2 ^ decode rules .atoms ≤ 2 ^ 60 = pow-mono (h .able .few) in
-          omega (arith, at-state .1)
+      pub state-small : top ≤ 2 ^ walkAtoms → s < 2 ^ walkAtoms
+      state-small l = omega (arith, at-state .1)
 
-      pub count-small : count < 2 ^ 60
-      count-small = omega (arith, state-small, at-state .0, h .counted)
+      pub count-small : top ≤ 2 ^ walkAtoms → count < 2 ^ walkAtoms
+      count-small l = omega (arith, state-small l, at-state .0, h .counted)
 
-      pub falls : 2 ^ decode rules .atoms - (s + 1) < 2 ^ decode rules .atoms - start
+      pub falls : top - (s + 1) < top - start
       falls = omega (arith, at-state .0, at-state .1)
 
-      pub listed : {now′ : List ℕ} {next′ : ℕ} → Emitted now next (stateLine (storedNames names starts) s) now′ next′ → Listing rules names starts before now′ next′ (s + 1) (count + 1)
+      pub listed : {now′ : List ℕ} {at′ : ℕ} → Emitted now at (stateLine names s) now′ at′ → Listing next top names before now′ at′ (s + 1) (count + 1)
       listed p =
           let a = at-state .0 in
           let b = at-state .1 in
           let k = h .enough in
-          let step : rest (h .left) ≡ more s = unfolded ∙ ap (λ (v : NextState). onNext v more (totalLine count) spentLine) (sym found-is ∙ f) in
+          let step : rest (h .left) ≡ more s = unfolded ∙ ap (λ (v : NextState). onNext v more (totalLine count) spentLine) (sym e ∙ f) in
           record {
-            able = h .able;
             inside = omega arith;
             counted = omega (arith, h .counted);
             left = h .left - 1;
             enough = omega arith;
-            written = h .written ++ stateLine (storedNames names starts) s;
+            written = h .written ++ stateLine names s;
             so = then (h .so) p;
             all =
-                ap₂ (λ (x y : ℕ). (h .written ++ stateLine (storedNames names starts) s) ++ listing (h .left - 1) (decode rules) (storedNames names starts) x y) (add-one s) (add-one count)
-                ∙ append-assoc (h .written) (stateLine (storedNames names starts) s) (listing (h .left - 1) (decode rules) (storedNames names starts) (suc s) (suc count))
+                ap₂ (λ (x y : ℕ). (h .written ++ stateLine names s) ++ listing next (h .left - 1) names x y) (add-one s) (add-one count)
+                ∙ append-assoc (h .written) (stateLine names s) (listing next (h .left - 1) names (suc s) (suc count))
                 ∙ ap (λ (l : List ℕ). h .written ++ l) (sym step)
                 ∙ h .all;
           }
@@ -235,7 +200,7 @@ module _ {rules names starts before now : List ℕ} {next start count : ℕ} (h 
   pub length-kept : length now ≡ length before
   length-kept = same-length (h .so)
 
-  pub last-range : (found : NextState) → next ≤ streamLimit → InRange next (lastLine found count)
+  pub last-range : (found : NextState) → at ≤ streamLimit → InRange at (lastLine found count)
   last-range found l = record { below = omega (arith, last-short found count) }
 
 -- the text against the size of an output

@@ -1,96 +1,116 @@
--- What the lister prints on two stores, fault by fault.
-use Prim.Native.Nat.{ℕ, _-_, _≤_, _<_}
+-- What the lister prints on two stores that are known to be of the form.
+use Prim.Native.Nat.{ℕ, suc, _^_, _≤_, _<_}
 use native.Mathlib.Omega.{arith}
-use mathlib.Core.Path.{_≡_, refl, sym, ap, _∙_, subst}
-use mathlib.Core.Bool.{Bool, true, false, not}
-use mathlib.Core.List.{List}
+use mathlib.Core.Path.{_≡_, sym, ap, _∙_, subst}
+use mathlib.Core.List.{List, _++_}
 use lib.Dec.{T}
 use lib.ListN.{length, getD, take, drop}
 use borrow.Author.Tests.{le-leb, lt-leb}
-use Rattle.kinds.specs.Limits.{atomLimit, walkAtoms}
+use Rattle.kinds.specs.Limits.{atomLimit, walkAtoms, budgetLimit}
 use Rattle.kinds.specs.declared.limits.Kind.{Kind}
-use Rattle.kinds.specs.declared.limits.Kind.the-variants.{Plain, Preference}
-use Rattle.kinds.specs.declared.refusals.Refusal.the-variants.{RuleStore as NoStore, NameStore, TooManyAtoms}
-use Rattle.stores.specs.RuleStore.{encode, decode, ruleStore}
-use Rattle.stores.specs.declared.rule_store.RuleStore.{RuleStore}
-use Rattle.stores.specs.declared.rule_store.RuleStore.the-variants.{Of, Refused}
-use Rattle.name_store.specs.NameStore.{names?, decodeNames}
-use Rattle.name_store.specs.NameIndex.{Indexed}
-use Rattle.stores.proofs.RuleStores.{of-kind}
-use Rattle.name_store.proofs.NameStores.{decoded-names}
-use Rattle.name_store.proofs.NameEntries.{length-filled, filled}
-use Rattle.text.specs.Items.{storedNames}
+use Rattle.kinds.specs.declared.limits.Kind.the-variants.{Preference}
+use Rattle.kinds.specs.declared.refusals.Refusal.the-variants.{TooManyAtoms}
+use Rattle.rules.specs.Lists.{All}
+use Rattle.stores.specs.Program.{Program}
+use Rattle.stores.specs.RuleStore.{StoreOf, decode}
+use Rattle.names.specs.Names.{allowed}
+use Rattle.name_store.specs.NameStore.{NamesOf, decodeNames}
+use Rattle.name_store.specs.NameIndex.{Placed}
+use Rattle.text.specs.Items.{storedNames, StoredNames}
+use Rattle.text.proofs.TextParts.{store-header}
+use Rattle.text.proofs.FilledTable.{front-length, front-stored, table-inside, handed-length, handed-placed}
+use Rattle.walks.specs.Walk.{nextVerdict}
+use Rattle.walks.specs.declared.answers.NextState.{NextState}
+use Rattle.masks.specs.FilledMasks.{MasksOf, nextMasks}
+use Rattle.masks.specs.declared.masks.Sizes.{Sizes}
+use Rattle.masks.proofs.FilledMasks.{masks-fit, next-filled}
 use Rattle.printing.specs.Printed.{refusedText}
-use Rattle.listing.specs.Listed.{streamed, statesOf}
-use Rattle.listing.specs.StoresPrinted.{Listable, storesListing, storesStates}
+use Rattle.listing.specs.Listed.{listing, wholeListing, streamed, statesOf}
+use Rattle.listing.specs.ListedMasks.{Inside, ListedNames, ListedStores, ListedMasks, masksListing}
+use Rattle.listing.proofs.PreferredPrinted.{listing-same, next-inside, words-count}
 
-not-true : (b : Bool) → not b ≡ true → b ≡ false
-not-true true e = absurd (let z : _≡_ {A = ℕ} 0 1 = cc in omega arith)
-not-true false e = refl
+-- the masks of a store, as the code hands them on
+module _ {rules names starts care want classes : List ℕ} {z : Sizes} (h : ListedStores rules names starts) (d : MasksOf (decode rules) care want classes z) where
+  abbrev program : Program
+  program = decode rules
 
-not-false : (b : Bool) → not b ≡ false → b ≡ true
-not-false true e = refl
-not-false false e = absurd (let z : _≡_ {A = ℕ} 0 1 = cc in omega arith)
+  abbrev next : ℕ → NextState
+  next t = nextMasks (take (z .rules) care) (take (z .rules) want) (take (z .classes) classes) z t budgetLimit
 
-module _ (rules names : List ℕ) where
-  pub no-store : {store : RuleStore} → store ≡ ruleStore rules → store ≡ Refused → refusedText NoStore 0 ≡ storesStates rules names
-  unfolding storesStates
-  no-store e r = rw (sym e ∙ r)
+  counted : length (program .words) ≡ program .atoms
+  counted = words-count program (h .store .form) (h .kind)
 
-  pub plain-store : {store : RuleStore} {kind : Kind} → store ≡ ruleStore rules → store ≡ Of kind → kind ≡ Plain → refusedText NoStore 0 ≡ storesStates rules names
-  unfolding storesStates
-  plain-store e r k = rw (sym e ∙ r ∙ ap Of k)
+  inside : Inside next (2 ^ z .atoms)
+  inside t s u l e =
+      let k = next-inside program counted t s u (subst (λ (n : ℕ). t ≤ 2 ^ n) (d .atoms-are) l) (sym (next-filled d t budgetLimit) ∙ e) in
+      (k .0, subst (λ (n : ℕ). s < 2 ^ n) (sym (d .atoms-are)) (k .1))
 
-  module _ (h : ruleStore rules ≡ Of Preference) where
-    pub has-atoms-word : 1 < length rules
-    unfolding encode
-    has-atoms-word = omega (arith, ap length (of-kind rules Preference h .0 .words))
+  pub masks-listed : ListedMasks (take (z .rules) care) (take (z .rules) want) (take (z .classes) classes) z names starts
+  masks-listed = record { fit = masks-fit d; inside = inside; named = subst (λ (n : ℕ). ListedNames n names starts) (sym (d .atoms-are)) (h .named) }
 
-    atoms-is : getD rules 1 0 ≡ decode rules .atoms
-    unfolding decode
-    atoms-is = refl
+  pub same-listing : masksListing (take (z .rules) care) (take (z .rules) want) (take (z .classes) classes) z (storedNames names starts) ≡ wholeListing program (storedNames names starts)
+  unfolding wholeListing
+  same-listing =
+      listing-same next (λ t. nextVerdict (program .words) (program .rules) t budgetLimit) (2 ^ z .atoms) inside (λ t l. next-filled d t budgetLimit) (storedNames names starts) (suc (2 ^ z .atoms)) 0 0 (omega arith)
+      ∙ ap (λ (n : ℕ). listing (λ t. nextVerdict (program .words) (program .rules) t budgetLimit) (suc (2 ^ n)) (storedNames names starts) 0 0) (d .atoms-are)
 
-    pub atoms-few : getD rules 1 0 ≤ atomLimit Preference
-    atoms-few =
-        let o = of-kind rules Preference h in
-        subst (λ (k : Kind). getD rules 1 0 ≤ atomLimit k) (o .1) (subst (λ (n : ℕ). n ≤ atomLimit (decode rules .kind)) (sym atoms-is) (o .0 .form .atoms-fit))
+  pub same-streamed : streamed (masksListing (take (z .rules) care) (take (z .rules) want) (take (z .classes) classes) z (storedNames names starts)) ≡ streamed (wholeListing program (storedNames names starts))
+  same-streamed = ap streamed same-listing
 
-    module _ {fits : Bool} (e : fits ≡ names? Preference (getD rules 1 0) names) where
-      test-is : (b : Bool) → fits ≡ b → names? Preference (decode rules .atoms) names ≡ b
-      test-is b f = ap (λ (n : ℕ). names? Preference n names) (sym atoms-is) ∙ sym e ∙ f
+-- two stores of the form
+module _ {rules names : List ℕ} (s : StoreOf rules (decode rules)) (k : decode rules .kind ≡ Preference) (m : NamesOf names Preference (decode rules .atoms) (decodeNames (decode rules .atoms) names)) where
+  pub header : 4 ≤ length rules
+  header = store-header s
 
-      pub no-names : not fits ≡ true → refusedText NameStore 0 ≡ storesStates rules names
-      unfolding storesStates
-      no-names f = rw (h, test-is false (not-true fits f))
+  names-at : NamesOf names Preference (getD rules 1 0) (decodeNames (getD rules 1 0) names)
+  unfolding decode
+  names-at = m
 
-      module _ (f : not fits ≡ false) where
-        pub many-atoms : walkAtoms < getD rules 1 0 → refusedText TooManyAtoms 0 ≡ storesStates rules names
-        unfolding storesStates statesOf
-        many-atoms l = rw (h, test-is true (not-false fits f), lt-leb (decode rules .atoms) walkAtoms (rw atoms-is at l))
+  pub few-atoms : getD rules 1 0 ≤ atomLimit Preference
+  unfolding decode
+  few-atoms = subst (λ (q : Kind). getD rules 1 0 ≤ atomLimit q) k (s .form .atoms-fit)
 
-        module _ {starts heads next : List ℕ} (few : getD rules 1 0 ≤ walkAtoms) (ix : fits ≡ true → Indexed (decodeNames (getD rules 1 0) names) names starts heads next) where
-          abbrev n : ℕ
-          n = getD rules 1 0
+  pub many-atoms : walkAtoms < getD rules 1 0 → refusedText TooManyAtoms 0 ≡ statesOf (decode rules) (decodeNames (decode rules .atoms) names)
+  unfolding statesOf decode
+  many-atoms l = rw (lt-leb (getD rules 1 0) walkAtoms l)
 
-          part-is : take (n - 0) (drop 0 starts) ≡ take n starts
-          part-is = let z : n - 0 ≡ n = omega arith in ap (λ (k : ℕ). take k starts) z
+  -- the table of places: its front is filled, and handed on
+  module _ (few : getD rules 1 0 ≤ walkAtoms) (table : List ℕ) (size : length table ≡ walkAtoms) where
+    pub front-inside : getD rules 1 0 ≤ length table
+    front-inside = omega arith
 
-          index : Indexed (decodeNames n names) names starts heads next
-          index = ix (not-false fits f)
+    pub front-sized : length (take (getD rules 1 0) table) ≡ getD rules 1 0
+    front-sized = front-length names-at few-atoms table front-inside
 
-          names-are : storedNames names (take n starts) ≡ decodeNames n names
-          names-are = ap (λ (k : ℕ). decodeNames k names) (length-filled n index)
+    pub names-stored : StoredNames names (take (getD rules 1 0) table)
+    names-stored = front-stored names-at few-atoms table front-inside
 
-          pub listable : Listable rules names (take (n - 0) (drop 0 starts))
-          unfolding decode
-          listable = subst (Listable rules names) (sym part-is) (record {
-            store = h;
-            few = few;
-            count = length-filled n index;
-            placed = filled n index .placed;
-            all-allowed = rw names-are (decoded-names Preference n names (subst T (sym (test-is true (not-false fits f))) tt) .form .all-allowed);
-          })
+    module _ (places : List ℕ) (e : length places ≡ length (take (getD rules 1 0) table)) where
+      abbrev front : List ℕ
+      front = take (getD rules 1 0) (places ++ drop (getD rules 1 0) table)
 
-          pub listing-of : streamed (storesListing rules names (take (n - 0) (drop 0 starts))) ≡ storesStates rules names
-          unfolding storesListing storesStates statesOf
-          listing-of = rw (part-is, h, test-is true (not-false fits f), le-leb (decode rules .atoms) walkAtoms (rw atoms-is at few), names-are, atoms-is)
+      pub filled-inside : getD rules 1 0 ≤ length (places ++ drop (getD rules 1 0) table)
+      filled-inside = table-inside names-at few-atoms table front-inside places e
+
+      pub handed-sized : length front ≡ getD rules 1 0
+      handed-sized = handed-length names-at few-atoms table front-inside places e
+
+      names-are : storedNames names front ≡ decodeNames (getD rules 1 0) names
+      names-are = ap (λ (c : ℕ). decodeNames c names) handed-sized
+
+      pub stores-listed : Placed (storedNames names (take (getD rules 1 0) table)) names places → ListedStores rules names front
+      unfolding decode
+      stores-listed p = record {
+        store = s;
+        kind = k;
+        named = record {
+          few = few;
+          count = handed-sized;
+          placed = handed-placed names-at few-atoms table front-inside places e p;
+          all-allowed = subst (All (λ x. T (allowed Preference x))) (sym names-are) (names-at .form .all-allowed);
+        };
+      }
+
+      pub states-are : streamed (wholeListing (decode rules) (storedNames names front)) ≡ statesOf (decode rules) (decodeNames (decode rules .atoms) names)
+      unfolding statesOf decode
+      states-are = rw (le-leb (getD rules 1 0) walkAtoms few, names-are)

@@ -1,3 +1,4 @@
--- The listing of a program, and what is printed of two stores.
+-- The listing of a program, what it means, and what is printed of two stores.
 pub mod Listed
-pub mod StoresPrinted
+pub mod PrintedStates
+pub mod ListedMasks

@@ -18,18 +18,14 @@ onNext (Nothing u) more total spent = total
 onNext (Spent u) more total spent = spent
 onNext (Refused f) more total spent = []
 
--- the states from the start on, the largest budget for each next; then their number, `c` of them before, or `(spent)` in its place
-unfoldable pub listing : ℕ → Program → List (List ℕ) → ℕ → ℕ → List ℕ
-listing zero p names start c = []
-listing (suc left) p names start c =
-    onNext (nextVerdict (p .words) (p .rules) start budgetLimit)
-    (λ s. stateLine names s ++ listing left p names (suc s) (suc c))
-    (totalLine c)
-    spentLine
+-- the states from the start on, by what the next one is from each start; then their number, `c` of them before, or `(spent)` in its place
+unfoldable pub listing : (ℕ → NextState) → ℕ → List (List ℕ) → ℕ → ℕ → List ℕ
+listing next zero names start c = []
+listing next (suc left) names start c = onNext (next start) (λ s. stateLine names s ++ listing next left names (suc s) (suc c)) (totalLine c) spentLine
 
--- at most 2^n states, and one more step to see that there is none left
+-- the largest budget for each next state; at most 2^n states, and one more step to see that there is none left
 unfoldable pub wholeListing : Program → List (List ℕ) → List ℕ
-wholeListing p names = listing (suc (2 ^ p .atoms)) p names 0 0
+wholeListing p names = listing (λ t. nextVerdict (p .words) (p .rules) t budgetLimit) (suc (2 ^ p .atoms)) names 0 0
 
 -- a text past the size of an output is refused
 abbrev pub streamed : List ℕ → List ℕ

@@ -3,25 +3,25 @@ use kinds::limits::Kind;
 use kinds::limits::Preference;
 use kinds::limits::Walk;
 use kinds::refusals::Refusal;
-use lister::next::next_state;
-use name_store::index::BUCKETS;
-use name_store::store::index_names;
+use lister::next::next_masks;
+use masks::masks::Sizes;
+use masks::masks::fill_masks;
 use output::bytes::emit;
 use printing::printing::emit_state;
 use printing::printing::emit_total;
 use printing::printing::show;
 use printing::printing::show_refused;
-use store_check::store_forms::check_rules;
-use stores::rule_store::RuleStore;
+use text::atoms::place_names;
 use walks::answers::NextState;
 ghost use mathlib.Core.Path.{_≡_};
 ghost use Rattle.kinds.specs.declared.limits.Kind.the-variants.{Preference as KindPreference};
-ghost use Rattle.stores.specs.RuleStore.{ruleStore};
-ghost use Rattle.stores.specs.declared.rule_store.RuleStore.the-variants.{Of};
+ghost use Rattle.stores.specs.RuleStore.{StoreOf, decode};
+ghost use Rattle.name_store.specs.NameStore.{NamesOf, decodeNames};
 ghost use Rattle.output.specs.Emitted.{Emitted, InRange};
+ghost use Rattle.text.specs.Items.{storedNames};
 ghost use Rattle.printing.specs.Parts.{Shown};
-ghost use Rattle.listing.specs.Listed.{streamed};
-ghost use Rattle.listing.specs.StoresPrinted.{Listable, Limited, lastLine, storesListing, storesStates};
+ghost use Rattle.listing.specs.Listed.{wholeListing, streamed, statesOf};
+ghost use Rattle.listing.specs.ListedMasks.{ListedStores, ListedMasks, Limited, lastLine, masksListing};
 
 // What stands after the states.
 fn emit_last(found: NextState, count: u64, out: &mut [u8], at: usize) -> usize
@@ -36,16 +36,24 @@ fn emit_last(found: NextState, count: u64, out: &mut [u8], at: usize) -> usize
     }
 }
 
-// The listing; it stops where it passes the size of an output.
-fn emit_listing(rules: &[u16], names: &[u8], starts: &[u16], out: &mut [u8]) -> usize
-    requires { ⌜ Listable (now rules) (now names) (now starts) ⌝ }
-    ensures { λ r. ⌜ Limited (storesListing (now (rules .entry)) (now (names .entry)) (now (starts .entry))) (now (out .entry)) (now (out .exit)) r ⌝ }
+// The listing over filled masks; it stops where it passes the size of an output.
+fn emit_listing(
+    care: &[u64],
+    want: &[u64],
+    classes: &[u64],
+    sizes: Sizes,
+    names: &[u8],
+    starts: &[u16],
+    out: &mut [u8],
+) -> usize
+    requires { ⌜ ListedMasks (now care) (now want) (now classes) sizes (now names) (now starts) ⌝ }
+    ensures { λ r. ⌜ Limited (masksListing (now (care .entry)) (now (want .entry)) (now (classes .entry)) sizes (storedNames (now (names .entry)) (now (starts .entry)))) (now (out .entry)) (now (out .exit)) r ⌝ }
 {
     let mut next: usize = 0;
     let mut start: u64 = 0;
     let mut count: u64 = 0;
     while next <= Kind::STREAM {
-        let found = next_state(rules, start, Walk::BUDGET);
+        let found = next_masks(care, want, classes, sizes, start, Walk::BUDGET);
         let NextState::State { set, units } = found else {
             return emit_last(found, count, out, next);
         };
@@ -57,54 +65,58 @@ fn emit_listing(rules: &[u16], names: &[u8], starts: &[u16], out: &mut [u8]) -> 
 }
 
 // The listing, or refusal 9 where it passes the size of an output.
-fn show_listing(rules: &[u16], names: &[u8], starts: &[u16], out: &mut [u8]) -> usize
-    requires { ⌜ Listable (now rules) (now names) (now starts) ⌝ }
-    ensures { λ r. ⌜ Shown (streamed (storesListing (now (rules .entry)) (now (names .entry)) (now (starts .entry)))) (now (out .entry)) (now (out .exit)) r ⌝ }
+fn show_listing(
+    care: &[u64],
+    want: &[u64],
+    classes: &[u64],
+    sizes: Sizes,
+    names: &[u8],
+    starts: &[u16],
+    out: &mut [u8],
+) -> usize
+    requires { ⌜ ListedMasks (now care) (now want) (now classes) sizes (now names) (now starts) ⌝ }
+    ensures { λ r. ⌜ Shown (streamed (masksListing (now (care .entry)) (now (want .entry)) (now (classes .entry)) sizes (storedNames (now (names .entry)) (now (starts .entry))))) (now (out .entry)) (now (out .exit)) r ⌝ }
 {
     let mut scratch = [0u8; Kind::STREAM];
-    let size = emit_listing(rules, names, starts, &mut scratch);
+    let size = emit_listing(care, want, classes, sizes, names, starts, &mut scratch);
     if Kind::STREAM < size {
         return show_refused(Refusal::Output, 0, out);
     }
     show(&scratch[0..size], out)
 }
 
-// The states of a preference store.
-fn preference_states(rules: &[u16], names: &[u8], out: &mut [u8]) -> usize
-    requires { ⌜ ruleStore (now rules) ≡ Of KindPreference ⌝ }
-    ensures { λ r. ⌜ Shown (storesStates (now (rules .entry)) (now (names .entry))) (now (out .entry)) (now (out .exit)) r ⌝ }
+// The listing of a preference store; its masks are filled once. `starts` has the place of each name.
+fn show_store(rules: &[u16], names: &[u8], starts: &[u16], out: &mut [u8]) -> usize
+    requires { ⌜ ListedStores (now rules) (now names) (now starts) ⌝ }
+    ensures { λ r. ⌜ Shown (streamed (wholeListing (decode (now (rules .entry))) (storedNames (now (names .entry)) (now (starts .entry))))) (now (out .entry)) (now (out .exit)) r ⌝ }
+{
+    let mut care = [0u64; Preference::RULES];
+    let mut want = [0u64; Preference::RULES];
+    let mut classes = [0u64; Preference::CLASSES];
+    let sizes = fill_masks(rules, &mut care, &mut want, &mut classes);
+    let count = sizes.rules;
+    let k = sizes.classes;
+    show_listing(
+        &care[..count],
+        &want[..count],
+        &classes[..k],
+        sizes,
+        names,
+        starts,
+        out,
+    )
+}
+
+// What the lister prints on two stores that are known to be of the form.
+pub fn show_states(rules: &[u16], names: &[u8], out: &mut [u8]) -> usize
+    requires { ⌜ StoreOf (now rules) (decode (now rules)) × (decode (now rules) .kind ≡ KindPreference) × NamesOf (now names) KindPreference (decode (now rules) .atoms) (decodeNames (decode (now rules) .atoms) (now names)) ⌝ }
+    ensures { λ r. ⌜ Shown (statesOf (decode (now (rules .entry))) (decodeNames (decode (now (rules .entry)) .atoms) (now (names .entry)))) (now (out .entry)) (now (out .exit)) r ⌝ }
 {
     let atoms = rules[1] as usize;
-    let mut starts = [0u16; Preference::ATOMS];
-    let mut heads = [0u16; BUCKETS];
-    let mut next = [0u16; Preference::ATOMS];
-    let fits = index_names(
-        names,
-        Kind::Preference,
-        atoms,
-        &mut starts,
-        &mut heads,
-        &mut next,
-    );
-    if !fits {
-        return show_refused(Refusal::NameStore, 0, out);
-    }
     if Walk::ATOMS < atoms {
         return show_refused(Refusal::TooManyAtoms, 0, out);
     }
-    show_listing(rules, names, &starts[0..atoms], out)
-}
-
-// What the lister prints on two stores.
-pub fn show_states(rules: &[u16], names: &[u8], out: &mut [u8]) -> usize
-    ensures { λ r. ⌜ Shown (storesStates (now (rules .entry)) (now (names .entry))) (now (out .entry)) (now (out .exit)) r ⌝ }
-{
-    let store = check_rules(rules);
-    let RuleStore::Of(kind) = store else {
-        return show_refused(Refusal::RuleStore, 0, out);
-    };
-    match kind {
-        Kind::Plain => show_refused(Refusal::RuleStore, 0, out),
-        Kind::Preference => preference_states(rules, names, out),
-    }
+    let mut starts = [0u16; Walk::ATOMS];
+    place_names(names, &mut starts[..atoms]);
+    show_store(rules, names, &starts[..atoms], out)
 }

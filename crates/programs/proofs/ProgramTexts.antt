@@ -1,25 +1,24 @@
 -- The two programs: from what the lines of a text say to what is printed.
 use Prim.Native.Nat.{ℕ, _+_, _-_, _*_, _≤_, _<_}
 use native.Mathlib.Omega.{arith}
-use mathlib.Core.Path.{_≡_, refl, sym, ap, ap₂, _∙_}
+use mathlib.Core.Path.{_≡_, refl, sym, ap, ap₂, _∙_, subst}
 use mathlib.Core.Bool.{Bool, true, false, cond}
 use mathlib.Core.List.{List, _++_}
 use lib.Dec.{T, leb}
-use lib.ListN.{length, take, drop, length-append}
-use borrow.Author.Tests.{le-leb, lt-leb, leb-true}
-use Rattle.kinds.specs.Limits.{streamLimit, walkAtoms, atomLimit, ruleLimit, occurrenceLimit, longestName, longestEntry}
+use lib.ListN.{length, getD, take, drop, length-append}
+use borrow.Author.Tests.{le-leb, lt-leb, leb-true, leb-false, eq-eqb, ne-eqb}
+use Rattle.kinds.specs.Limits.{streamLimit, walkAtoms, atomLimit, ruleLimit, occurrenceLimit, longestName, longestEntry, storeWords, storeBytes}
 use Rattle.kinds.specs.declared.limits.Kind.{Kind}
 use Rattle.kinds.specs.declared.limits.Kind.the-variants.{Plain, Preference}
 use Rattle.kinds.specs.declared.refusals.Refusal.{Refusal}
-use Rattle.kinds.specs.declared.refusals.Refusal.the-variants.{TextTooLong, Output, RuleStore, NameStore, TooManyAtoms}
+use Rattle.kinds.specs.declared.refusals.Refusal.the-variants.{TextTooLong, Output, RuleStore, TooManyAtoms}
 use Rattle.rules.specs.Lists.{flat, sum, over}
 use Rattle.rules.specs.Rules.{occurrences}
 use Rattle.rules.proofs.Lists.{all-imp}
 use Rattle.stores.specs.Program.{Program, ProgramForm}
-use Rattle.stores.specs.RuleStore.{encode, decode, ruleWords, ruleStore, isOf, wordCount}
-use Rattle.stores.specs.declared.rule_store.RuleStore.the-variants.{Of}
+use Rattle.stores.specs.RuleStore.{StoreOf, encode, decode, ruleWords, wordCount}
 use Rattle.names.specs.Names.{allowed}
-use Rattle.name_store.specs.NameStore.{encodeNames, names?, NamesForm}
+use Rattle.name_store.specs.NameStore.{encodeNames, decodeNames, NamesForm, NamesOf}
 use Rattle.stores.proofs.RuleStores.{decode-encode, words-count, rules-length}
 use Rattle.name_store.proofs.NameStores.{allowed-short, decode-names, encoded-length}
 use Rattle.writer.specs.declared.Written.{Written}
@@ -27,23 +26,22 @@ use Rattle.writer.specs.declared.Written.the-variants.{Text, Refused as NotWrit
 use Rattle.writer.specs.Answers.{fitted, writtenBytes}
 use Rattle.delivery.specs.declared.answers.Read.{Read}
 use Rattle.delivery.specs.declared.answers.Read.the-variants.{Accepted, Refused as NotRead}
-use Rattle.numbering.specs.Scratch.{scratchWords, scratchBytes}
-use Rattle.lines.specs.Faults.{SoFar}
-use Rattle.lines.specs.Said.{Said, accepted, refused, said, programOf}
-use Rattle.delivery.specs.Answers.{readAnswer, readRules, readNames, ruleWordsOf, nameBytesOf, answerOf}
+use Rattle.lines.specs.Said.{Said, accepted, refused, said}
+use Rattle.delivery.specs.Answers.{readAnswer, readRules, readNames, answerOf}
 use Rattle.reader.proofs.RoundTrip.{accepted-form}
-use Rattle.translation.specs.Answers.{translationText, storesTranslation, translateAnswer, translateOutput}
+use Rattle.translated.specs.PreferenceStore.{PreferenceStore}
+use Rattle.translation.specs.Answers.{translationText, storesTranslation}
 use Rattle.printing.specs.Printed.{refusedText}
 use Rattle.listing.specs.Listed.{wholeListing, streamed, statesOf}
-use Rattle.programs.specs.Programs.{ofKind, onSaid, printed, translatePrinted, statesPrinted, writtenPrinted, storesTranslated}
-use Rattle.listing.specs.StoresPrinted.{storesStates}
+use Rattle.programs.specs.Programs.{ofKind, onSaid, printed, translationOf, translatePrinted, statesPrinted}
+use Rattle.programs.specs.ReadStores.{ReadStores, onStores}
 use Rattle.delivery.proofs.AcceptedTexts.{Filled, never, filled, reads-as, front}
-use Rattle.translation.proofs.ProgramStores.{answered, named, stores-text}
+use Rattle.text.proofs.TextParts.{store-header}
 use Rattle.printing.proofs.PrintedLines.{refused-short}
 
 -- the longest stores
 
-pub words-fit : (p : Program) → ProgramForm p → length (encode p) ≤ scratchWords
+pub words-fit : (p : Program) → ProgramForm p → length (encode p) ≤ storeWords
 unfolding encode
 words-fit p f =
     let a = length-append (p .words) (flat ruleWords (p .rules)) in
@@ -54,88 +52,90 @@ words-fit p f =
     by-kind : (k : Kind) → length (p .words) ≡ wordCount k (p .atoms) → p .atoms ≤ atomLimit k → length (p .rules) ≤ ruleLimit k → sum occurrences (p .rules) ≤ occurrenceLimit k
         → length (p .words ++ flat ruleWords (p .rules)) ≡ length (p .words) + length (flat ruleWords (p .rules))
         → length (flat ruleWords (p .rules)) ≡ 3 * length (p .rules) + sum occurrences (p .rules)
-        → 4 + length (p .words ++ flat ruleWords (p .rules)) ≤ scratchWords
+        → 4 + length (p .words ++ flat ruleWords (p .rules)) ≤ storeWords
     by-kind Plain c n r o a b = omega arith
     by-kind Preference c n r o a b = omega arith
 
-pub bytes-fit : (p : Program) (names : List (List ℕ)) → ProgramForm p → NamesForm (p .kind) (p .atoms) names → length (encodeNames names) ≤ scratchBytes
+pub bytes-fit : (p : Program) (names : List (List ℕ)) → ProgramForm p → NamesForm (p .kind) (p .atoms) names → length (encodeNames names) ≤ storeBytes
 bytes-fit p names f g = by-kind (p .kind) (f .atoms-fit)
   where
     short : length (encodeNames names) ≤ longestEntry * p .atoms
     short = omega (arith, encoded-length names (all-imp (λ x. T (allowed (p .kind) x)) (λ x. length x ≤ longestName) (allowed-short (p .kind)) names (g .all-allowed)), g .count)
 
-    by-kind : (k : Kind) → p .atoms ≤ atomLimit k → length (encodeNames names) ≤ scratchBytes
+    by-kind : (k : Kind) → p .atoms ≤ atomLimit k → length (encodeNames names) ≤ storeBytes
     by-kind Plain l = omega (arith, short)
     by-kind Preference l = omega (arith, short)
 
--- what the translator leaves in its scratch
+-- a text against the room for it
 
-module _ (rules names before : List ℕ) where
-  abbrev translation : List ℕ
-  translation = storesTranslation rules names
-
-  fitted-text : (k : ℕ) → translateAnswer rules names (length before) ≡ Text k → (k ≡ length translation) × (length translation ≤ length before)
-  unfolding translateAnswer
-  fitted-text k e = by-store (isOf Preference (ruleStore rules)) e
+module _ (text before : List ℕ) {answer : Written} (a : answer ≡ fitted text (length before)) where
+  room-for : {k : ℕ} → answer ≡ Text k → (k ≡ length text) × (length text ≤ length before)
+  room-for {k} e = by-room (leb (length text) (length before)) refl (sym a ∙ e)
     where
-      by-room : (b : Bool) → leb (length translation) (length before) ≡ b → _≡_ {A = Written} (cond b (Text (length translation)) (NotWritten Output)) (Text k) → (k ≡ length translation) × (length translation ≤ length before)
-      by-room true f r = ((let z : length translation ≡ k = cc in sym z), leb-true _ _ f)
+      by-room : (b : Bool) → leb (length text) (length before) ≡ b → _≡_ {A = Written} (cond b (Text (length text)) (NotWritten Output)) (Text k) → (k ≡ length text) × (length text ≤ length before)
+      by-room true f r = ((let z : length text ≡ k = cc in sym z), leb-true _ _ f)
       by-room false f r = never (cc)
 
-      by-names : (b : Bool) → _≡_ {A = Written} (cond b (fitted translation (length before)) (NotWritten NameStore)) (Text k) → (k ≡ length translation) × (length translation ≤ length before)
-      by-names true r = by-room (leb (length translation) (length before)) refl r
-      by-names false r = never (cc)
-
-      by-store : (b : Bool) → _≡_ {A = Written} (cond b (cond (names? Preference (decode rules .atoms) names) (fitted translation (length before)) (NotWritten NameStore)) (NotWritten RuleStore)) (Text k) → (k ≡ length translation) × (length translation ≤ length before)
-      by-store true r = by-names (names? Preference (decode rules .atoms) names) r
-      by-store false r = never (cc)
-
-  module _ {answer : Written} (e : answer ≡ translateAnswer rules names (length before)) where
-    module _ {after : List ℕ} {k : ℕ} (w : after ≡ translateOutput rules names before) (r : answer ≡ Text k) where
-      output-is : after ≡ translation ++ drop (length translation) before
-      unfolding translateOutput
-      output-is = w ∙ ap (λ (x : Written). over (writtenBytes x translation) before) (sym e ∙ r)
-
-      pub translation-fits : k - 0 ≤ length after
-      translation-fits =
-          omega (arith, fitted-text k (sym e ∙ r) .0, ap length output-is ∙ length-append translation (drop (length translation) before))
-
-      pub translation-is : length before ≡ streamLimit → take (k - 0) (drop 0 after) ≡ storesTranslated rules names
-      unfolding storesTranslated
-      translation-is room =
-          let z : k - 0 ≡ length translation = omega (arith, fitted-text k (sym e ∙ r) .0) in
-          ap₂ (λ (n : ℕ) (l : List ℕ). take n l) z output-is ∙ front translation before
-          ∙ sym (ap (λ (x : Written). writtenPrinted x translation) (ap (translateAnswer rules names) (sym room) ∙ sym e ∙ r))
-
-pub translation-refused : (rules names : List ℕ) {room : ℕ} {answer : Written} {f : Refusal} → answer ≡ translateAnswer rules names room → room ≡ streamLimit → answer ≡ NotWritten f → refusedText f 0 ≡ storesTranslated rules names
-unfolding storesTranslated
-translation-refused rules names e room r = sym (ap (λ (w : Written). writtenPrinted w (storesTranslation rules names)) (ap (translateAnswer rules names) (sym room) ∙ sym e ∙ r))
-
--- on the stores of a program of the form
-
-module _ (p : Program) (names : List (List ℕ)) (form : ProgramForm p) (fit : NamesForm (p .kind) (p .atoms) names) where
-  pub translated-stores : storesTranslated (encode p) (encodeNames names) ≡ ofKind (p .kind) (streamed (translationText p names))
-  unfolding storesTranslated translateAnswer
-  translated-stores = rw (answered p form, stores-text p form names fit, decode-encode p form) (by-kind (p .kind) refl)
+  no-room : {g : Refusal} → answer ≡ NotWritten g → (g ≡ Output) × (length before < length text)
+  no-room {g} e = by-room (leb (length text) (length before)) refl (sym a ∙ e)
     where
-      by-room : (b : Bool) → writtenPrinted (cond b (Text (length (translationText p names))) (NotWritten Output)) (translationText p names) ≡ cond b (translationText p names) (refusedText Output 0)
-      by-room true = refl
-      by-room false = refl
+      by-room : (b : Bool) → leb (length text) (length before) ≡ b → _≡_ {A = Written} (cond b (Text (length text)) (NotWritten Output)) (NotWritten g) → (g ≡ Output) × (length before < length text)
+      by-room true f r = never (cc)
+      by-room false f r = ((let z : Output ≡ g = cc in sym z), leb-false _ _ f)
 
-      by-kind : (k : Kind) → p .kind ≡ k
-          → writtenPrinted (cond (isOf Preference (Of k)) (cond (names? Preference (p .atoms) (encodeNames names)) (fitted (translationText p names) streamLimit) (NotWritten NameStore)) (NotWritten RuleStore)) (translationText p names)
-          ≡ ofKind k (streamed (translationText p names))
-      by-kind Plain e = refl
-      by-kind Preference e = rw (named p form names fit e) (by-room (leb (length (translationText p names)) streamLimit))
+-- on two stores as they were read
 
-  pub listed-stores : storesStates (encode p) (encodeNames names) ≡ ofKind (p .kind) (statesOf p names)
-  unfolding storesStates
-  listed-stores = rw (answered p form, decode-encode p form, decode-names fit) (by-kind (p .kind) refl)
-    where
-      by-kind : (k : Kind) → p .kind ≡ k
-          → cond (isOf Preference (Of k)) (cond (names? Preference (p .atoms) (encodeNames names)) (statesOf p names) (refusedText NameStore 0)) (refusedText RuleStore 0) ≡ ofKind k (statesOf p names)
-      by-kind Plain e = refl
-      by-kind Preference e = rw (named p form names fit e)
+module _ {rules names : List ℕ} (h : ReadStores rules names) where
+  pub header : 4 ≤ length rules
+  header = store-header (h .store)
+
+  pub plain-refused : (f : Program → List (List ℕ) → List ℕ) → getD rules 0 0 ≡ 0 → refusedText RuleStore 0 ≡ onStores f rules names
+  unfolding onStores decode
+  plain-refused f e = rw (eq-eqb (getD rules 0 0) 0 e)
+
+  module _ (e : getD rules 0 0 ≡ 0 → ⊥) where
+    preference : decode rules .kind ≡ Preference
+    unfolding decode
+    preference = rw (ne-eqb (getD rules 0 0) 0 e)
+
+    pub preference-store : PreferenceStore rules
+    preference-store = record { store = h .store; kind = preference }
+
+    pub preference-names : NamesOf names Preference (decode rules .atoms) (decodeNames (decode rules .atoms) names)
+    preference-names = subst (λ (k : Kind). NamesOf names k (decode rules .atoms) (decodeNames (decode rules .atoms) names)) preference (h .named)
+
+    pub on-preference : (f : Program → List (List ℕ) → List ℕ) → f (decode rules) (decodeNames (decode rules .atoms) names) ≡ onStores f rules names
+    unfolding onStores
+    on-preference f = sym (ap (λ (k : Kind). ofKind k (f (decode rules) (decodeNames (decode rules .atoms) names))) preference)
+
+    -- what the translator leaves in its scratch
+    abbrev translation : List ℕ
+    translation = storesTranslation rules names
+
+    translation-of : (b : Bool) → leb (length translation) streamLimit ≡ b → cond b translation (refusedText Output 0) ≡ onStores translationOf rules names
+    unfolding storesTranslation
+    translation-of b f = ap (λ (x : Bool). cond x translation (refusedText Output 0)) (sym f) ∙ on-preference translationOf
+
+    module _ (before : List ℕ) (room : length before ≡ streamLimit) {answer : Written} (a : answer ≡ fitted translation (length before)) where
+      pub translation-refused : {g : Refusal} → answer ≡ NotWritten g → refusedText g 0 ≡ onStores translationOf rules names
+      translation-refused r =
+          let n = no-room translation before a r in
+          let l = n .1 in
+          ap (λ (x : Refusal). refusedText x 0) (n .0) ∙ translation-of false (lt-leb (length translation) streamLimit (omega arith))
+
+      module _ {after : List ℕ} {k : ℕ} (w : after ≡ over (writtenBytes (fitted translation (length before)) translation) before) (r : answer ≡ Text k) where
+        output-is : after ≡ over translation before
+        output-is = w ∙ ap (λ (x : Written). over (writtenBytes x translation) before) (sym a ∙ r)
+
+        pub translation-fits : k - 0 ≤ length after
+        translation-fits = omega (arith, room-for translation before a r .0, ap length output-is ∙ length-append translation (drop (length translation) before))
+
+        pub translation-is : take (k - 0) (drop 0 after) ≡ onStores translationOf rules names
+        translation-is =
+            let n = room-for translation before a r in
+            let l = n .1 in
+            let z : k - 0 ≡ length translation = omega (arith, n .0) in
+            ap₂ (λ (n : ℕ) (l : List ℕ). take n l) z output-is ∙ front translation before ∙ translation-of true (le-leb (length translation) streamLimit (omega arith))
 
 -- the stores that the reader fills
 
@@ -143,78 +143,91 @@ module _ (text rules names : List ℕ) {answer : Read} (a : answer ≡ readAnswe
   read-as : Filled text (length rules) (length names) w b
   read-as = filled text (length rules) (length names) w b (sym a ∙ e)
 
-  abbrev file : SoFar
-  file = read-as .file
+  abbrev p : Program
+  p = read-as .program
 
-  rules-are : rules′ ≡ over (ruleWordsOf file) rules
-  rules-are = u ∙ reads-as text file (read-as .lines) .rules-filled rules names (read-as .rules-room) (read-as .names-room)
+  abbrev atom-names : List (List ℕ)
+  atom-names = read-as .atom-names
 
-  names-are : names′ ≡ over (nameBytesOf file) names
-  names-are = v ∙ reads-as text file (read-as .lines) .names-filled rules names (read-as .rules-room) (read-as .names-room)
+  rules-are : rules′ ≡ over (encode p) rules
+  rules-are = u ∙ reads-as text p atom-names (read-as .lines) .rules-filled rules names (read-as .rules-room) (read-as .names-room)
+
+  names-are : names′ ≡ over (encodeNames atom-names) names
+  names-are = v ∙ reads-as text p atom-names (read-as .lines) .names-filled rules names (read-as .rules-room) (read-as .names-room)
 
   pub rules-part : w - 0 ≤ length rules′
-  rules-part = omega (arith, read-as .words-are, ap length rules-are ∙ length-append (ruleWordsOf file) (drop (length (ruleWordsOf file)) rules))
+  rules-part = omega (arith, read-as .words-are, ap length rules-are ∙ length-append (encode p) (drop (length (encode p)) rules))
 
   pub names-part : b - 0 ≤ length names′
-  names-part = omega (arith, read-as .bytes-are, ap length names-are ∙ length-append (nameBytesOf file) (drop (length (nameBytesOf file)) names))
+  names-part = omega (arith, read-as .bytes-are, ap length names-are ∙ length-append (encodeNames atom-names) (drop (length (encodeNames atom-names)) names))
 
-  rules-taken : take (w - 0) (drop 0 rules′) ≡ ruleWordsOf file
+  rules-taken : take (w - 0) (drop 0 rules′) ≡ encode p
   rules-taken =
-      let x : w - 0 ≡ length (ruleWordsOf file) = omega (arith, read-as .words-are) in
-      ap₂ (λ (n : ℕ) (l : List ℕ). take n l) x rules-are ∙ front (ruleWordsOf file) rules
+      let x : w - 0 ≡ length (encode p) = omega (arith, read-as .words-are) in
+      ap₂ (λ (n : ℕ) (l : List ℕ). take n l) x rules-are ∙ front (encode p) rules
 
-  names-taken : take (b - 0) (drop 0 names′) ≡ nameBytesOf file
+  names-taken : take (b - 0) (drop 0 names′) ≡ encodeNames atom-names
   names-taken =
-      let y : b - 0 ≡ length (nameBytesOf file) = omega (arith, read-as .bytes-are) in
-      ap₂ (λ (n : ℕ) (l : List ℕ). take n l) y names-are ∙ front (nameBytesOf file) names
+      let y : b - 0 ≡ length (encodeNames atom-names) = omega (arith, read-as .bytes-are) in
+      ap₂ (λ (n : ℕ) (l : List ℕ). take n l) y names-are ∙ front (encodeNames atom-names) names
 
--- a program that prints f of an accepted preference file, and gives it from the stores
+  form : ProgramForm p × NamesForm (p .kind) (p .atoms) atom-names
+  form = accepted-form text p atom-names (read-as .lines)
+
+  same : decode (encode p) ≡ p
+  same = decode-encode p (form .0)
+
+  stores-are : ReadStores (encode p) (encodeNames atom-names)
+  stores-are = record {
+    store = subst (StoreOf (encode p)) (sym same) (record { form = form .0; words = refl });
+    named = subst (λ (q : Program). NamesOf (encodeNames atom-names) (q .kind) (q .atoms) (decodeNames (q .atoms) (encodeNames atom-names))) (sym same)
+        (subst (NamesOf (encodeNames atom-names) (p .kind) (p .atoms)) (sym (decode-names (form .1))) (record { form = form .1; bytes = refl }));
+  }
+
+  pub read-stores : ReadStores (take (w - 0) (drop 0 rules′)) (take (b - 0) (drop 0 names′))
+  read-stores = rw (rules-taken, names-taken) stores-are
+
+  on-program : (f : Program → List (List ℕ) → List ℕ) → onStores f (encode p) (encodeNames atom-names) ≡ ofKind (p .kind) (f p atom-names)
+  unfolding onStores
+  on-program f = rw (same, decode-names (form .1))
+
+  -- a program that prints f of an accepted preference file
+  pub accepted-text : (f : Program → List (List ℕ) → List ℕ) → length text ≤ streamLimit → onStores f (take (w - 0) (drop 0 rules′)) (take (b - 0) (drop 0 names′)) ≡ printed f text
+  unfolding printed
+  accepted-text f l = ap₂ (onStores f) rules-taken names-taken ∙ on-program f ∙ sym (rw (le-leb (length text) streamLimit l, read-as .lines))
 
 module _ (f : Program → List (List ℕ) → List ℕ) (text : List ℕ) where
   pub long-text : streamLimit < length text → refusedText TextTooLong 0 ≡ printed f text
   unfolding printed
   long-text l = rw (lt-leb (length text) streamLimit l)
 
-  module _ (l : length text ≤ streamLimit) where
-    printed-is : (s : Said) → said text ≡ s → printed f text ≡ onSaid s f
-    unfolding printed
-    printed-is s e = rw (le-leb (length text) streamLimit l, e)
-
-    said-refused : (words bytes : ℕ) (g : Refusal) (k : ℕ) → said text ≡ refused g k → readAnswer text words bytes ≡ NotRead g k
+  module _ (l : length text ≤ streamLimit) (rules names : List ℕ) (words : storeWords ≤ length rules) (bytes : storeBytes ≤ length names) {answer : Read} (a : answer ≡ readAnswer text (length rules) (length names)) where
+    said-refused : (g : Refusal) (k : ℕ) → said text ≡ refused g k → readAnswer text (length rules) (length names) ≡ NotRead g k
     unfolding readAnswer
-    said-refused words bytes g k e = ap (λ (s : Said). answerOf s words bytes) e
+    said-refused g k e = ap (λ (s : Said). answerOf s (length rules) (length names)) e
 
-    module _ (rules names : List ℕ) (words : scratchWords ≤ length rules) (bytes : scratchBytes ≤ length names) {answer : Read} (a : answer ≡ readAnswer text (length rules) (length names)) where
-      pub refused-text : {r : Refusal} {line : ℕ} → answer ≡ NotRead r line → refusedText r line ≡ printed f text
-      refused-text {r} {line} e = by-said (said text) refl
-        where
-          by-said : (s : Said) → said text ≡ s → refusedText r line ≡ printed f text
-          by-said (accepted st) q =
-              let form = accepted-form text st q in
-              let k = reads-as text st q .answer rules names (omega (arith, words-fit (programOf st) (form .0))) (omega (arith, bytes-fit (programOf st) (st .names) (form .0) (form .1))) in
-              never (cc)
-          by-said (refused g k) q =
-              let z : NotRead r line ≡ NotRead g k = sym e ∙ a ∙ said-refused (length rules) (length names) g k q in
-              let x : r ≡ g = cc in
-              let y : line ≡ k = cc in
-              ap₂ refusedText x y ∙ sym (printed-is (refused g k) q)
+    printed-refused : (g : Refusal) (k : ℕ) → said text ≡ refused g k → printed f text ≡ refusedText g k
+    unfolding printed
+    printed-refused g k e = rw (le-leb (length text) streamLimit l, e)
 
-      pub accepted-text : {rules′ names′ : List ℕ} {w b : ℕ} → answer ≡ Accepted w b → rules′ ≡ readRules text rules names → names′ ≡ readNames text rules names
-          → (stores : List ℕ → List ℕ → List ℕ)
-          → ((p : Program) (names : List (List ℕ)) → ProgramForm p → NamesForm (p .kind) (p .atoms) names → stores (encode p) (encodeNames names) ≡ ofKind (p .kind) (f p names))
-          → stores (take (w - 0) (drop 0 rules′)) (take (b - 0) (drop 0 names′)) ≡ printed f text
-      accepted-text e u v stores agrees =
-          let st = file text rules names a e u v in
-          let said-so = read-as text rules names a e u v .lines in
-          let form = accepted-form text st said-so in
-          ap₂ stores (rules-taken text rules names a e u v) (names-taken text rules names a e u v)
-          ∙ agrees (programOf st) (st .names) (form .0) (form .1)
-          ∙ sym (printed-is (accepted st) said-so)
+    pub refused-text : {r : Refusal} {line : ℕ} → answer ≡ NotRead r line → refusedText r line ≡ printed f text
+    refused-text {r} {line} e = by-said (said text) refl
+      where
+        by-said : (s : Said) → said text ≡ s → refusedText r line ≡ printed f text
+        by-said (accepted q ns) said-so =
+            let g = accepted-form text q ns said-so in
+            let k = reads-as text q ns said-so .answer rules names (omega (arith, words-fit q (g .0))) (omega (arith, bytes-fit q ns (g .0) (g .1))) in
+            never (cc)
+        by-said (refused g k) said-so =
+            let z : NotRead r line ≡ NotRead g k = sym e ∙ a ∙ said-refused g k said-so in
+            let x : r ≡ g = cc in
+            let y : line ≡ k = cc in
+            ap₂ refusedText x y ∙ sym (printed-refused g k said-so)
 
 -- what is printed is never longer than an output of the programs
 
-sized-short : (text : List ℕ) → length (streamed text) ≤ streamLimit
-sized-short text = go (leb (length text) streamLimit) refl
+streamed-short : (text : List ℕ) → length (streamed text) ≤ streamLimit
+streamed-short text = go (leb (length text) streamLimit) refl
   where
     go : (b : Bool) → leb (length text) streamLimit ≡ b → length (cond b text (refusedText Output 0)) ≤ streamLimit
     go true e = leb-true _ _ e
@@ -229,7 +242,7 @@ printed-short f h text = by-length (leb (length text) streamLimit)
     by-kind Preference p names = h p names
 
     by-said : (s : Said) → length (onSaid s f) ≤ streamLimit
-    by-said (accepted st) = by-kind (st .kind) (programOf st) (st .names)
+    by-said (accepted p names) = by-kind (p .kind) p names
     by-said (refused r line) = omega (arith, refused-short r line)
 
     by-length : (b : Bool) → length (cond b (onSaid (said text) f) (refusedText TextTooLong 0)) ≤ streamLimit
@@ -238,14 +251,14 @@ printed-short f h text = by-length (leb (length text) streamLimit)
 
 pub translate-short : (text : List ℕ) → length (translatePrinted text) ≤ streamLimit
 unfolding translatePrinted
-translate-short text = printed-short (λ p names. streamed (translationText p names)) (λ p names. sized-short (translationText p names)) text
+translate-short text = printed-short translationOf (λ p names. streamed-short (translationText p names)) text
 
 pub states-short : (text : List ℕ) → length (statesPrinted text) ≤ streamLimit
 unfolding statesPrinted statesOf
 states-short text = printed-short statesOf few text
   where
     go : (p : Program) (names : List (List ℕ)) (b : Bool) → length (cond b (streamed (wholeListing p names)) (refusedText TooManyAtoms 0)) ≤ streamLimit
-    go p names true = sized-short (wholeListing p names)
+    go p names true = streamed-short (wholeListing p names)
     go p names false = omega (arith, refused-short TooManyAtoms 0)
 
     few : (p : Program) (names : List (List ℕ)) → length (statesOf p names) ≤ streamLimit

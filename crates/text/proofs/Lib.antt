@@ -1,5 +1,6 @@
 -- The laws of texts and of writing them.
 pub mod PlaceTable
+pub mod FilledTable
 pub mod AtomItems
 pub mod RuleItems
 pub mod RuleLoop

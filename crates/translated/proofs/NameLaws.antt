@@ -17,7 +17,7 @@ use Rattle.rules.proofs.Lists.{all-imp}
 use Rattle.names.specs.Names.{allowed}
 use Rattle.name_store.specs.NameStore.{nameBytes, encodeNames, firstName, decodeNames}
 use Rattle.name_store.proofs.NameStores.{allowed-short}
-use Rattle.pairing.proofs.Decimals.{short, decimal-short}
+use Rattle.pairing.proofs.Decimals.{decimal-short}
 use Rattle.pairing.specs.Loops.{dot}
 use Rattle.output.specs.Emitted.{Emitted, InRange}
 use Rattle.output.proofs.Emitting.{Ahead, Emitting, start, turn, finish, range-here}

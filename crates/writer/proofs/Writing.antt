@@ -6,34 +6,33 @@ use mathlib.Core.Path.{_≡_, sym, ap, _∙_, subst}
 use mathlib.Core.Bool.{Bool, true, false}
 use mathlib.Core.List.{List, _++_}
 use lib.Dec.{T}
-use lib.ListN.{length, getD, take, drop, length-append}
-use lib.Seq.{take-at, length-take-le, sets-eq}
+use lib.ListN.{length, getD, take, drop}
+use lib.Seq.{sets-eq}
 use borrow.Author.Tests.{le-leb, lt-leb}
-use Rattle.kinds.specs.Limits.{atomLimit, longestName}
+use Rattle.kinds.specs.Limits.{atomLimit}
 use Rattle.kinds.specs.declared.limits.Kind.{Kind}
 use Rattle.kinds.specs.declared.limits.Kind.the-variants.{Plain}
 use Rattle.kinds.specs.declared.refusals.Refusal.the-variants.{Output, RuleStore, NameStore}
-use Rattle.rules.proofs.Lists.{all-imp}
 use Rattle.rules.proofs.Booleans.{is-true, is-false}
-use Rattle.names.specs.Names.{allowed}
 use Rattle.stores.specs.RuleStore.{StoreOf, decode, ruleStore, store?}
-use Rattle.name_store.specs.NameStore.{encodeNames, NamesOf, decodeNames, names?}
+use Rattle.name_store.specs.NameStore.{NamesOf, decodeNames, names?}
 use Rattle.name_store.specs.NameIndex.{Placed, Indexed}
 use Rattle.stores.specs.declared.rule_store.RuleStore.the-variants.{Of, Refused as NoStore}
 use Rattle.name_store.proofs.NamePlaces.{length-decode}
 use Rattle.name_store.proofs.NameEntries.{length-filled, filled}
-use Rattle.name_store.proofs.NameStores.{allowed-short, decoded-names, encoded-length}
+use Rattle.name_store.proofs.NameStores.{decoded-names}
 use Rattle.stores.proofs.RuleStores.{store-law, of-kind, refused}
 use Rattle.stores.proofs.StoreHeader.{atoms-small}
 use Rattle.text.specs.Text.{textOf}
 use Rattle.output.specs.Emitted.{Emitted}
-use Rattle.text.specs.Items.{storedNames, StoredNames}
+use Rattle.text.specs.Items.{storedNames}
 use Rattle.text.specs.Sources.{Sources, sourceText}
 use Rattle.writer.specs.Answers.{fitted, storesText, writeAnswer, writeOutput}
 use Rattle.writer.specs.Fitted.{fittedOutput}
 use Rattle.writer.specs.declared.Written.{Written}
 use Rattle.writer.specs.declared.Written.the-variants.{Text, Refused}
 use Rattle.text.proofs.TextLength.{text-fits}
+use Rattle.text.proofs.FilledTable.{handed-length, handed-placed}
 
 -- counted, then refused or written
 module _ {none none′ w : List ℕ} {size : ℕ} (e : Emitted none 0 w none′ size) where
@@ -54,19 +53,10 @@ module _ {rules names : List ℕ} (s : StoreOf rules (decode rules)) (m : NamesO
   unfolding decode
   few-atoms = omega (arith, s .form .atoms-fit, atoms-small (decode rules .kind))
 
-  names-short : length names ≤ 65536
-  names-short =
-      let all = decodeNames (decode rules .atoms) names in
-      let short = all-imp (λ x. T (allowed (decode rules .kind) x)) (λ x. length x ≤ longestName) (allowed-short (decode rules .kind)) all (m .form .all-allowed) in
-      omega (arith, encoded-length all short, ap length (m .bytes), m .form .count, s .form .atoms-fit, atoms-small (decode rules .kind))
-
   module _ (starts : List ℕ) (n : length starts ≡ getD rules 1 0) where
     counts : decode rules .atoms ≡ length starts
     unfolding decode
     counts = sym n
-
-    pub names-stored : StoredNames names starts
-    names-stored = record { whole = subst (λ (c : ℕ). encodeNames (decodeNames c names) ≡ names) counts (m .bytes); short = names-short }
 
     pub text-same : sourceText rules names starts ≡ storesText rules names
     unfolding sourceText storesText
@@ -76,40 +66,33 @@ module _ {rules names : List ℕ} (s : StoreOf rules (decode rules)) (m : NamesO
     unfolding storesText
     sources p = record { store = s; count = sym counts; placed = p; range = record { below = omega (arith, text-fits (s .form) (m .form), ap length text-same) } }
 
+  pub names-at : NamesOf names (decode rules .kind) (getD rules 1 0) (decodeNames (getD rules 1 0) names)
+  unfolding decode
+  names-at = m
+
+  pub few-of-kind : getD rules 1 0 ≤ atomLimit (decode rules .kind)
+  unfolding decode
+  few-of-kind = s .form .atoms-fit
+
   -- the table: its front is filled, and handed on
   module _ (table : List ℕ) (room : atomLimit Plain ≤ length table) where
     pub front-inside : getD rules 1 0 ≤ length table
     front-inside = omega (arith, few-atoms)
 
-    pub front-length : length (take (getD rules 1 0) table) ≡ getD rules 1 0
-    front-length = length-take-le (getD rules 1 0) table front-inside
+    module _ (places : List ℕ) (k : length places ≡ length (take (getD rules 1 0) table)) where
+      abbrev front : List ℕ
+      front = take (getD rules 1 0) (places ++ drop (getD rules 1 0) table)
 
-    pub front-stored : StoredNames names (take (getD rules 1 0) table)
-    front-stored = names-stored (take (getD rules 1 0) table) front-length
+      front-sized : length front ≡ getD rules 1 0
+      front-sized = handed-length names-at few-of-kind table front-inside places k
 
-    module _ (filled : List ℕ) (k : length filled ≡ length (take (getD rules 1 0) table)) where
-      abbrev handed : List ℕ
-      handed = take (getD rules 1 0) (filled ++ drop (getD rules 1 0) table)
+      pub handed-sources : Placed (storedNames names (take (getD rules 1 0) table)) names places → Sources rules names front
+      handed-sources p = sources front front-sized (handed-placed names-at few-of-kind table front-inside places k p)
 
-      filled-handed : filled ≡ handed
-      filled-handed = sym (take-at filled (drop (getD rules 1 0) table) (getD rules 1 0) (k ∙ front-length))
-
-      pub table-inside : getD rules 1 0 ≤ length (filled ++ drop (getD rules 1 0) table)
-      table-inside = omega (arith, length-append filled (drop (getD rules 1 0) table), k, front-length)
-
-      pub handed-length : length handed ≡ getD rules 1 0
-      handed-length = ap length (sym filled-handed) ∙ k ∙ front-length
-
-      pub handed-sources : Placed (storedNames names (take (getD rules 1 0) table)) names filled → Sources rules names handed
-      handed-sources p =
-          sources handed handed-length
-          (subst (λ (f : List ℕ). Placed (storedNames names f) names f) filled-handed
-          (subst (λ (n : ℕ). Placed (decodeNames n names) names filled) (sym k) p))
-
-      pub handed-answer : (before : List ℕ) {r : Written} {after : List ℕ} → (r ≡ fitted (sourceText rules names handed) (length before)) × (after ≡ fittedOutput (sourceText rules names handed) before)
+      pub handed-answer : (before : List ℕ) {r : Written} {after : List ℕ} → (r ≡ fitted (sourceText rules names front) (length before)) × (after ≡ fittedOutput (sourceText rules names front) before)
           → (r ≡ fitted (storesText rules names) (length before)) × (after ≡ fittedOutput (storesText rules names) before)
       handed-answer before h =
-          let e = text-same handed handed-length in
+          let e = text-same front front-sized in
           (h .0 ∙ ap (λ (t : List ℕ). fitted t (length before)) e, h .1 ∙ ap (λ (t : List ℕ). fittedOutput t before) e)
 
 -- the refusals, in their order

@@ -1,4 +1,5 @@
-use Rattle.writer.proofs.Writing.{few-atoms, front-inside, front-length, front-stored, table-inside, handed-length, handed-sources, handed-answer}
+use Rattle.writer.proofs.Writing.{few-atoms, names-at, few-of-kind, front-inside, handed-sources, handed-answer}
+use Rattle.text.proofs.FilledTable.{front-length, front-stored, table-inside, handed-length}
 use mathlib.Core.Path.{sym}
 use Rattle.text.proofs.TextParts.{store-header}
 use native.Mathlib.Omega.{arith}
@@ -16,16 +17,16 @@ slice-relend-prefix-place-names : tie.Need-slice-relend-prefix-place-names
 slice-relend-prefix-place-names c = front-inside (c .before .before .before .before .before .pre .0) (c .before .before .before .before .before .pre .1) (c .before .before .before .before .before .args .table .now) (c .before .before .before .before .before .pre .2)
 
 slice-aggregate-place-names : tie.Need-slice-aggregate-place-names
-slice-aggregate-place-names c = sym (front-length (c .before .before .before .before .before .before .pre .0) (c .before .before .before .before .before .before .pre .1) (c .before .before .before .before .before .before .args .table .now) (c .before .before .before .before .before .before .pre .2))
+slice-aggregate-place-names c = sym (front-length (names-at (c .before .before .before .before .before .before .pre .0) (c .before .before .before .before .before .before .pre .1)) (few-of-kind (c .before .before .before .before .before .before .pre .0) (c .before .before .before .before .before .before .pre .1)) (c .before .before .before .before .before .before .args .table .now) (front-inside (c .before .before .before .before .before .before .pre .0) (c .before .before .before .before .before .before .pre .1) (c .before .before .before .before .before .before .args .table .now) (c .before .before .before .before .before .before .pre .2)))
 
 place-names-requires : tie.Need-place-names-requires
-place-names-requires c κs = front-stored (c .before .before .before .before .before .before .pre .0) (c .before .before .before .before .before .before .pre .1) (c .before .before .before .before .before .before .args .table .now) (c .before .before .before .before .before .before .pre .2)
+place-names-requires c κs = front-stored (names-at (c .before .before .before .before .before .before .pre .0) (c .before .before .before .before .before .before .pre .1)) (few-of-kind (c .before .before .before .before .before .before .pre .0) (c .before .before .before .before .before .before .pre .1)) (c .before .before .before .before .before .before .args .table .now) (front-inside (c .before .before .before .before .before .before .pre .0) (c .before .before .before .before .before .before .pre .1) (c .before .before .before .before .before .before .args .table .now) (c .before .before .before .before .before .before .pre .2))
 
 slice-reshare-prefix-write-text : tie.Need-slice-reshare-prefix-write-text
-slice-reshare-prefix-write-text c = table-inside (c .before .before .before .before .before .before .before .before .before .pre .0) (c .before .before .before .before .before .before .before .before .before .pre .1) (c .before .before .before .before .before .before .before .before .before .args .table .now) (c .before .before .before .before .before .before .before .before .before .pre .2) (c .before .before .place-names .last .1 .0) (c .before .before .place-names .kept .1 .0)
+slice-reshare-prefix-write-text c = table-inside (names-at (c .before .before .before .before .before .before .before .before .before .pre .0) (c .before .before .before .before .before .before .before .before .before .pre .1)) (few-of-kind (c .before .before .before .before .before .before .before .before .before .pre .0) (c .before .before .before .before .before .before .before .before .before .pre .1)) (c .before .before .before .before .before .before .before .before .before .args .table .now) (front-inside (c .before .before .before .before .before .before .before .before .before .pre .0) (c .before .before .before .before .before .before .before .before .before .pre .1) (c .before .before .before .before .before .before .before .before .before .args .table .now) (c .before .before .before .before .before .before .before .before .before .pre .2)) (c .before .before .place-names .last .1 .0) (c .before .before .place-names .kept .1 .0)
 
 slice-aggregate-write-text : tie.Need-slice-aggregate-write-text
-slice-aggregate-write-text c = sym (handed-length (c .before .before .before .before .before .before .before .before .before .before .pre .0) (c .before .before .before .before .before .before .before .before .before .before .pre .1) (c .before .before .before .before .before .before .before .before .before .before .args .table .now) (c .before .before .before .before .before .before .before .before .before .before .pre .2) (c .before .before .before .place-names .last .1 .0) (c .before .before .before .place-names .kept .1 .0))
+slice-aggregate-write-text c = sym (handed-length (names-at (c .before .before .before .before .before .before .before .before .before .before .pre .0) (c .before .before .before .before .before .before .before .before .before .before .pre .1)) (few-of-kind (c .before .before .before .before .before .before .before .before .before .before .pre .0) (c .before .before .before .before .before .before .before .before .before .before .pre .1)) (c .before .before .before .before .before .before .before .before .before .before .args .table .now) (front-inside (c .before .before .before .before .before .before .before .before .before .before .pre .0) (c .before .before .before .before .before .before .before .before .before .before .pre .1) (c .before .before .before .before .before .before .before .before .before .before .args .table .now) (c .before .before .before .before .before .before .before .before .before .before .pre .2)) (c .before .before .before .place-names .last .1 .0) (c .before .before .before .place-names .kept .1 .0))
 
 write-text-requires : tie.Need-write-text-requires
 write-text-requires c κs = handed-sources (c .before .before .before .before .before .before .before .before .before .before .before .pre .0) (c .before .before .before .before .before .before .before .before .before .before .before .pre .1) (c .before .before .before .before .before .before .before .before .before .before .before .args .table .now) (c .before .before .before .before .before .before .before .before .before .before .before .pre .2) (c .before .before .before .before .place-names .last .1 .0) (c .before .before .before .before .place-names .kept .1 .0) (c .before .before .before .before .place-names .ensures)

@@ -1,7 +1,9 @@
+use Rattle.listing.proofs.ListedStates.{Listing, begins, passed, ended, state-small, count-small, falls, listed, state-range, few-starts, few-sets, last-range, length-kept}
 use Rattle.output.proofs.Emitting.{same-length as emitted-length}
+use Rattle.kinds.specs.Limits.{budgetLimit}
+use Rattle.text.specs.Items.{storedNames}
+use Rattle.masks.specs.FilledMasks.{nextMasks}
 use mathlib.Core.Path.{_∙_}
-use Rattle.listing.proofs.ListedStates.{Listing, begins, passed, ended, state-small, count-small, falls, listed, state-range, few-starts, last-range, length-kept}
-use Rattle.stores.specs.RuleStore.{decode}
 use native.Mathlib.Omega.{arith}
 use Prim.Native.Nat.{_-_, _^_}
 use borrow.Author.Needs.{needs}
@@ -9,16 +11,16 @@ use Rattle.listing.proofs.listing.emit_listing.Statement.{statement}
 use Rattle.listing.proofs.listing.emit_listing.Tie as tie
 
 abbrev Inv-loop : tie.InvT-loop
-Inv-loop rules names starts out₀ next₀ start₀ count₀ out next start count = Listing rules names starts out₀ out next start count
+Inv-loop care want classes sizes names starts out₀ next₀ start₀ count₀ out next start count = Listing (λ t. nextMasks care want classes sizes t budgetLimit) (2 ^ sizes .atoms) (storedNames names starts) out₀ out next start count
 
 abbrev μ-loop : tie.MeasureT-loop
-μ-loop rules names starts out₀ next₀ start₀ count₀ out next start count = 2 ^ decode rules .atoms - start
+μ-loop care want classes sizes names starts out₀ next₀ start₀ count₀ out next start count = 2 ^ sizes .atoms - start
 
 loop-holds : tie.Need-loop-holds Inv-loop μ-loop
-loop-holds c = begins _ (c .before .before .before .before .pre)
+loop-holds c = begins _ _ _ _
 
-next-state-requires : tie.Need-next-state-requires Inv-loop μ-loop
-next-state-requires c κs = search needs
+next-masks-requires : tie.Need-next-masks-requires Inv-loop μ-loop
+next-masks-requires c κs = (c .before .before .before .before .before .before .before .before .pre .fit, c .before .loop .inv .inside)
 
 enum-known-found : tie.Need-enum-known-found Inv-loop μ-loop
 enum-known-found c = search needs
@@ -30,22 +32,22 @@ same-length : tie.Need-same-length Inv-loop μ-loop
 same-length c = emitted-length (c .before .before .emit-last .ensures) ∙ length-kept (c .before .before .before .before .before .before .before .loop .inv)
 
 returns : tie.Need-returns Inv-loop μ-loop
-returns c = ended (c .before .before .before .before .before .before .before .loop .inv) (c .before .before .before .before .before .next-state .ensures) (c .before .before .before .before .match .keys2) (c .before .before .emit-last .ensures)
+returns c = ended (c .before .before .before .before .before .before .before .loop .inv) (c .before .before .before .before .before .next-masks .ensures) (c .before .before .before .before .match .keys2) (c .before .before .emit-last .ensures)
 
 emit-state-requires : tie.Need-emit-state-requires Inv-loop μ-loop
-emit-state-requires c κs = (c .before .before .before .before .before .before .loop .inv .able .placed, few-starts (c .before .before .before .before .before .before .loop .inv .able), state-range (c .before .before .before .before .before .before .loop .inv .able) _ _ (c .before .before .before .before .before .loop-test .taken))
+emit-state-requires c κs = (c .before .before .before .before .before .before .before .before .before .before .before .before .before .pre .named .placed, few-starts (c .before .before .before .before .before .before .before .before .before .before .before .before .before .pre .named), state-range (c .before .before .before .before .before .before .before .before .before .before .before .before .before .pre .named) _ _ (c .before .before .before .before .before .loop-test .taken))
 
 add-start : tie.Need-add-start Inv-loop μ-loop
-add-start c = omega (arith, state-small (c .before .before .before .before .before .before .before .before .before .loop .inv) (c .before .before .before .before .before .before .before .next-state .ensures) (c .before .before .before .before .before .found .given .1))
+add-start c = omega (arith, state-small (c .before .before .before .before .before .before .before .before .before .loop .inv) (c .before .before .before .before .before .before .before .next-masks .ensures) (c .before .before .before .before .before .before .before .before .before .before .before .before .before .before .before .before .pre .inside) (c .before .before .before .before .before .found .given .1) (few-sets (c .before .before .before .before .before .before .before .before .before .before .before .before .before .before .before .before .pre .named)))
 
 add-count : tie.Need-add-count Inv-loop μ-loop
-add-count c = omega (arith, count-small (c .before .before .before .before .before .before .before .before .before .loop .inv) (c .before .before .before .before .before .before .before .next-state .ensures) (c .before .before .before .before .before .found .given .1))
+add-count c = omega (arith, count-small (c .before .before .before .before .before .before .before .before .before .loop .inv) (c .before .before .before .before .before .before .before .next-masks .ensures) (c .before .before .before .before .before .before .before .before .before .before .before .before .before .before .before .before .pre .inside) (c .before .before .before .before .before .found .given .1) (few-sets (c .before .before .before .before .before .before .before .before .before .before .before .before .before .before .before .before .pre .named)))
 
 loop-less : tie.Need-loop-less Inv-loop μ-loop
-loop-less c = falls (c .before .before .before .before .before .before .before .before .before .loop .inv) (c .before .before .before .before .before .before .before .next-state .ensures) (c .before .before .before .before .before .found .given .1)
+loop-less c = falls (c .before .before .before .before .before .before .before .before .before .loop .inv) (c .before .before .before .before .before .before .before .next-masks .ensures) (c .before .before .before .before .before .before .before .before .before .before .before .before .before .before .before .before .pre .inside) (c .before .before .before .before .before .found .given .1)
 
 loop-again : tie.Need-loop-again Inv-loop μ-loop
-loop-again c = listed (c .before .before .before .before .before .before .before .before .before .loop .inv) (c .before .before .before .before .before .before .before .next-state .ensures) (c .before .before .before .before .before .found .given .1) (c .before .before .emit-state .ensures)
+loop-again c = listed (c .before .before .before .before .before .before .before .before .before .loop .inv) (c .before .before .before .before .before .before .before .next-masks .ensures) (c .before .before .before .before .before .before .before .before .before .before .before .before .before .before .before .before .pre .inside) (c .before .before .before .before .before .found .given .1) (c .before .before .emit-state .ensures)
 
 same-length-2 : tie.Need-same-length-2 Inv-loop μ-loop
 same-length-2 c = length-kept (c .before .loop .inv)
@@ -60,7 +62,7 @@ emit-listing-spec =
     Inv-loop
     μ-loop
     loop-holds
-    next-state-requires
+    next-masks-requires
     enum-known-found
     emit-last-requires
     same-length

@@ -1,7 +1,7 @@
-use Rattle.programs.proofs.ProgramTexts.{rules-part, names-part, refused-text, accepted-text, listed-stores}
+use Rattle.programs.proofs.ProgramTexts.{rules-part, names-part, read-stores, refused-text, accepted-text}
 use Rattle.printing.proofs.PrintedLines.{shown-renamed}
+use Rattle.listing.specs.Listed.{statesOf}
 use Rattle.programs.specs.Programs.{statesPrinted}
-use Rattle.listing.specs.StoresPrinted.{storesStates}
 use native.Mathlib.Omega.{arith}
 use borrow.Author.Needs.{needs}
 use Rattle.programs.proofs.texts.states_by.Statement.{statement}
@@ -13,26 +13,26 @@ read-requires c κs = search needs
 enum-known-answer : tie.Need-enum-known-answer
 enum-known-answer c = search needs
 
-sub-show-states : tie.Need-sub-show-states
-sub-show-states c = search needs
+sub-show-listed : tie.Need-sub-show-listed
+sub-show-listed c = search needs
 
-part-show-states-start : tie.Need-part-show-states-start
-part-show-states-start c = search needs
+part-show-listed-start : tie.Need-part-show-listed-start
+part-show-listed-start c = search needs
 
-part-show-states-end : tie.Need-part-show-states-end
-part-show-states-end c = omega (arith, rules-part (c .before .before .before .before .before .before .before .before .before .before .before .before .before .before .before .args .text .now) (c .before .before .before .before .before .before .before .before .before .before .before .before .before .before .before .args .rules .now) (c .before .before .before .before .before .before .before .before .before .before .before .before .before .before .before .args .names .now) (c .before .before .before .before .before .before .before .before .read .ensures .0) (c .before .before .answer .given .1) (c .before .before .before .before .before .before .before .before .read .ensures .1 .0) (c .before .before .before .before .before .before .before .before .read .ensures .1 .1))
+part-show-listed-end : tie.Need-part-show-listed-end
+part-show-listed-end c = omega (arith, rules-part (c .before .before .before .before .before .before .before .before .before .before .before .before .before .before .before .args .text .now) (c .before .before .before .before .before .before .before .before .before .before .before .before .before .before .before .args .rules .now) (c .before .before .before .before .before .before .before .before .before .before .before .before .before .before .before .args .names .now) (c .before .before .before .before .before .before .before .before .read .ensures .0) (c .before .before .answer .given .1) (c .before .before .before .before .before .before .before .before .read .ensures .1 .0) (c .before .before .before .before .before .before .before .before .read .ensures .1 .1))
 
-sub-show-states-2 : tie.Need-sub-show-states-2
-sub-show-states-2 c = search needs
+sub-show-listed-2 : tie.Need-sub-show-listed-2
+sub-show-listed-2 c = search needs
 
-part-show-states-start-2 : tie.Need-part-show-states-start-2
-part-show-states-start-2 c = search needs
+part-show-listed-start-2 : tie.Need-part-show-listed-start-2
+part-show-listed-start-2 c = search needs
 
-part-show-states-end-2 : tie.Need-part-show-states-end-2
-part-show-states-end-2 c = omega (arith, names-part (c .before .before .before .before .before .before .before .before .before .before .before .before .before .before .before .before .before .args .text .now) (c .before .before .before .before .before .before .before .before .before .before .before .before .before .before .before .before .before .args .rules .now) (c .before .before .before .before .before .before .before .before .before .before .before .before .before .before .before .before .before .args .names .now) (c .before .before .before .before .before .before .before .before .before .before .read .ensures .0) (c .before .before .before .before .answer .given .1) (c .before .before .before .before .before .before .before .before .before .before .read .ensures .1 .0) (c .before .before .before .before .before .before .before .before .before .before .read .ensures .1 .1))
+part-show-listed-end-2 : tie.Need-part-show-listed-end-2
+part-show-listed-end-2 c = omega (arith, names-part (c .before .before .before .before .before .before .before .before .before .before .before .before .before .before .before .before .before .args .text .now) (c .before .before .before .before .before .before .before .before .before .before .before .before .before .before .before .before .before .args .rules .now) (c .before .before .before .before .before .before .before .before .before .before .before .before .before .before .before .before .before .args .names .now) (c .before .before .before .before .before .before .before .before .before .before .read .ensures .0) (c .before .before .before .before .answer .given .1) (c .before .before .before .before .before .before .before .before .before .before .read .ensures .1 .0) (c .before .before .before .before .before .before .before .before .before .before .read .ensures .1 .1))
 
-show-states-requires : tie.Need-show-states-requires
-show-states-requires c κs = search needs
+show-listed-requires : tie.Need-show-listed-requires
+show-listed-requires c κs = read-stores (c .before .before .before .before .before .before .before .before .before .before .before .before .before .before .before .before .before .before .before .args .text .now) (c .before .before .before .before .before .before .before .before .before .before .before .before .before .before .before .before .before .before .before .args .rules .now) (c .before .before .before .before .before .before .before .before .before .before .before .before .before .before .before .before .before .before .before .args .names .now) (c .before .before .before .before .before .before .before .before .before .before .before .before .read .ensures .0) (c .before .before .before .before .before .before .answer .given .1) (c .before .before .before .before .before .before .before .before .before .before .before .before .read .ensures .1 .0) (c .before .before .before .before .before .before .before .before .before .before .before .before .read .ensures .1 .1)
 
 enum-known-answer-2 : tie.Need-enum-known-answer-2
 enum-known-answer-2 c = search needs
@@ -51,7 +51,7 @@ same-length-3 c = search needs
 
 returns : tie.Need-returns
 unfolding statesPrinted
-returns c = shown-renamed (accepted-text _ (c .before .before .before .before .before .before .before .before .before .before .before .before .before .before .before .before .before .before .before .before .before .before .args .text .now) (c .before .before .before .before .before .before .before .before .before .before .before .before .before .before .before .before .before .before .before .before .before .before .pre .0) (c .before .before .before .before .before .before .before .before .before .before .before .before .before .before .before .before .before .before .before .before .before .before .args .rules .now) (c .before .before .before .before .before .before .before .before .before .before .before .before .before .before .before .before .before .before .before .before .before .before .args .names .now) (c .before .before .before .before .before .before .before .before .before .before .before .before .before .before .before .before .before .before .before .before .before .before .pre .1) (c .before .before .before .before .before .before .before .before .before .before .before .before .before .before .before .before .before .before .before .before .before .before .pre .2) (c .before .before .before .before .before .before .before .before .before .before .before .before .before .before .before .read .ensures .0) (c .before .before .before .before .before .before .before .before .before .answer .given .1) (c .before .before .before .before .before .before .before .before .before .before .before .before .before .before .before .read .ensures .1 .0) (c .before .before .before .before .before .before .before .before .before .before .before .before .before .before .before .read .ensures .1 .1) storesStates listed-stores) (c .before .before .show-states .ensures)
+returns c = shown-renamed (accepted-text (c .before .before .before .before .before .before .before .before .before .before .before .before .before .before .before .before .before .before .before .before .before .before .args .text .now) (c .before .before .before .before .before .before .before .before .before .before .before .before .before .before .before .before .before .before .before .before .before .before .args .rules .now) (c .before .before .before .before .before .before .before .before .before .before .before .before .before .before .before .before .before .before .before .before .before .before .args .names .now) (c .before .before .before .before .before .before .before .before .before .before .before .before .before .before .before .read .ensures .0) (c .before .before .before .before .before .before .before .before .before .answer .given .1) (c .before .before .before .before .before .before .before .before .before .before .before .before .before .before .before .read .ensures .1 .0) (c .before .before .before .before .before .before .before .before .before .before .before .before .before .before .before .read .ensures .1 .1) statesOf (c .before .before .before .before .before .before .before .before .before .before .before .before .before .before .before .before .before .before .before .before .before .before .pre .0)) (c .before .before .show-listed .ensures)
 
 same-length-4 : tie.Need-same-length-4
 same-length-4 c = search needs
@@ -64,7 +64,7 @@ same-length-6 c = search needs
 
 returns-2 : tie.Need-returns-2
 unfolding statesPrinted
-returns-2 c = shown-renamed (refused-text _ (c .before .before .before .before .before .before .before .before .before .before .before .before .before .before .before .before .before .before .args .text .now) (c .before .before .before .before .before .before .before .before .before .before .before .before .before .before .before .before .before .before .pre .0) (c .before .before .before .before .before .before .before .before .before .before .before .before .before .before .before .before .before .before .args .rules .now) (c .before .before .before .before .before .before .before .before .before .before .before .before .before .before .before .before .before .before .args .names .now) (c .before .before .before .before .before .before .before .before .before .before .before .before .before .before .before .before .before .before .pre .1) (c .before .before .before .before .before .before .before .before .before .before .before .before .before .before .before .before .before .before .pre .2) (c .before .before .before .before .before .before .before .before .before .before .before .read .ensures .0) (c .before .before .before .before .before .answer2 .given .1)) (c .before .before .show-refused .ensures)
+returns-2 c = shown-renamed (refused-text statesOf (c .before .before .before .before .before .before .before .before .before .before .before .before .before .before .before .before .before .before .args .text .now) (c .before .before .before .before .before .before .before .before .before .before .before .before .before .before .before .before .before .before .pre .0) (c .before .before .before .before .before .before .before .before .before .before .before .before .before .before .before .before .before .before .args .rules .now) (c .before .before .before .before .before .before .before .before .before .before .before .before .before .before .before .before .before .before .args .names .now) (c .before .before .before .before .before .before .before .before .before .before .before .before .before .before .before .before .before .before .pre .1) (c .before .before .before .before .before .before .before .before .before .before .before .before .before .before .before .before .before .before .pre .2) (c .before .before .before .before .before .before .before .before .before .before .before .read .ensures .0) (c .before .before .before .before .before .answer2 .given .1)) (c .before .before .show-refused .ensures)
 
 pub states-by-spec : {M : Type 1} → statement M
 states-by-spec =
@@ -72,13 +72,13 @@ states-by-spec =
     (tie.spec
     read-requires
     enum-known-answer
-    sub-show-states
-    part-show-states-start
-    part-show-states-end
-    sub-show-states-2
-    part-show-states-start-2
-    part-show-states-end-2
-    show-states-requires
+    sub-show-listed
+    part-show-listed-start
+    part-show-listed-end
+    sub-show-listed-2
+    part-show-listed-start-2
+    part-show-listed-end-2
+    show-listed-requires
     enum-known-answer-2
     show-refused-requires
     same-length

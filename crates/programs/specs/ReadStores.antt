@@ -1,0 +1,14 @@
+-- Two stores as they were read, and what a program prints of them.
+use Prim.Native.Nat.{ℕ}
+use mathlib.Core.List.{List}
+use Rattle.stores.specs.Program.{Program}
+use Rattle.stores.specs.RuleStore.{StoreOf, decode}
+use Rattle.name_store.specs.NameStore.{NamesOf, decodeNames}
+use Rattle.programs.specs.Programs.{ofKind}
+
+pub record ReadStores (rules names : List ℕ) : Type 0 where
+  pub store : StoreOf rules (decode rules)
+  pub named : NamesOf names (decode rules .kind) (decode rules .atoms) (decodeNames (decode rules .atoms) names)
+
+unfoldable pub onStores : (Program → List (List ℕ) → List ℕ) → List ℕ → List ℕ → List ℕ
+onStores f rules names = ofKind (decode rules .kind) (f (decode rules) (decodeNames (decode rules .atoms) names))
