@@ -26,7 +26,7 @@ use Rattle.walks.proofs.Meanings.{preferred-means, stable-means}
 use Rattle.walks.proofs.NextStates.{next-means}
 use Rattle.walks.proofs.Listing.{lists-preferred}
 use Rattle.listing.specs.Listed.{statesOf}
-use Rattle.listing.proofs.PrintedStates.{prints-preferred}
+use Rattle.listing.proofs.PreferredPrinted.{prints-preferred}
 use Rattle.programs.specs.Programs.{printed, statesPrinted}
 use Rattle.rigtomato.specs.Demand2.{Called, Judges, Lists, Demand2}
 
