@@ -4,11 +4,11 @@ use native.Mathlib.Omega.{arith}
 use mathlib.Core.Path.{_≡_, refl, sym, ap, ap₂, _∙_, subst}
 use mathlib.Core.Logic.{_↔_, _⊎_, inl, inr}
 use mathlib.Core.Bool.{Bool, true, false, cond, _&&_}
-use mathlib.Core.List.{List, _++_}
+use mathlib.Core.List.{List, [], _++_}
 use lib.Dec.{T, leb, ltb, leb→le, ltb→lt}
 use lib.ListN.{length, drop}
-use borrow.Author.Tests.{leb-false, ltb-false}
-use Rattle.kinds.specs.Limits.{walkAtoms, budgetLimit}
+use borrow.Author.Tests.{le-leb, lt-leb, leb-false, ltb-false}
+use Rattle.kinds.specs.Limits.{streamLimit, walkAtoms, budgetLimit}
 use Rattle.kinds.specs.declared.limits.Kind.{Kind}
 use Rattle.kinds.specs.declared.limits.Kind.the-variants.{Plain, Preference}
 use Rattle.kinds.specs.declared.refusals.Refusal.{Refusal}
@@ -38,7 +38,12 @@ use Rattle.walks.specs.Walk.{preferredVerdict, stableVerdict, nextVerdict}
 use Rattle.walks.specs.Answers.{guarded, preferredAnswer, stableAnswer, nextAnswer}
 use Rattle.walks.proofs.Meanings.{preferred-means, stable-means}
 use Rattle.walks.proofs.NextStates.{next-means}
-use Rattle.rigtomato.specs.Demand1.{Tested, NoOther, Passes, NoStore, NoStoreOf, NoNames, TooShort, NoRoom, ReadRefuses, StoresRefused, StoresPass, NumbersRefused, Writes, WriteRefuses, TranslateRefuses, CallRefused, VerdictRefuses}
+use Rattle.reader.specs.WrittenText.{WrittenText}
+use Rattle.reader.proofs.RoundTrip.{accepted-iff}
+use Rattle.printing.specs.Printed.{shown}
+use Rattle.listing.specs.Listed.{statesOf}
+use Rattle.programs.specs.Programs.{printed, translatePrinted, statesPrinted}
+use Rattle.rigtomato.specs.Demand1.{Demand1, PrintsInto, PrintRefuses, Tested, NoOther, Passes, NoStore, NoStoreOf, NoNames, TooShort, NoRoom, ReadRefuses, StoresRefused, StoresPass, NumbersRefused, Writes, WriteRefuses, TranslateRefuses, CallRefused, VerdictRefuses}
 
 -- one test of an answer: where it fails, the refusal x
 module _ {A : Type 0} (refuse : Refusal → A) (inj : (x y : Refusal) → refuse x ≡ refuse y → x ≡ y) {Sentence : Type 0} (b : Bool) (law : Sentence ↔ (T b → ⊥)) (x : Refusal) where
@@ -325,4 +330,39 @@ read-refuses text rules names = record {
         ap₂ (λ (v : Read) (s : Said). over (writtenIf v (λ p ns. encodeNames ns) s) names) q e ∙ ap (λ (k : ℕ). encodeNames ns ++ drop k names) (sym (h .2)),
       )
       );
+}
+
+-- the programs
+
+print-refuses : (text : List ℕ) → PrintRefuses text
+unfolding translatePrinted statesPrinted printed statesOf
+print-refuses text = record {
+  too-long = λ l. (rw (lt-leb (length text) streamLimit l), rw (lt-leb (length text) streamLimit l));
+  refused = λ s r line h. let e = said-refused text r line .1 h in (rw (le-leb (length text) streamLimit s, e), rw (le-leb (length text) streamLimit s, e));
+  plain = λ s p names a k. let e = said-accepted text p names .1 a in (rw (le-leb (length text) streamLimit s, e, k), rw (le-leb (length text) streamLimit s, e, k));
+  many-atoms = λ s p names a k m. let e = said-accepted text p names .1 a in rw (le-leb (length text) streamLimit s, e, k, lt-leb (p .atoms) walkAtoms m);
+}
+
+prints-into : (text before : List ℕ) → PrintsInto text before
+unfolding shown
+prints-into text before = record {
+  all = λ l. ap (λ (b : Bool). over (cond b text []) before) (le-leb (length text) (length before) l);
+  nothing = λ l. ap (λ (b : Bool). over (cond b text []) before) (lt-leb (length text) (length before) l);
+}
+
+accepted-texts : (text : List ℕ) → ((p : Program) × (names : List (List ℕ)) × Accepts text p names) ↔ WrittenText text
+accepted-texts text = (
+  λ h. accepted-iff text .0 (h .0, h .1, said-accepted text (h .0) (h .1) .1 (h .2)),
+  λ w. let r = accepted-iff text .1 w in (r .0, r .1, said-accepted text (r .0) (r .1) .0 (r .2)),
+)
+
+pub demand-1 : Demand1
+demand-1 = record {
+  read = read-refuses;
+  accepted = accepted-texts;
+  write = write-refuses;
+  translate = translate-refuses;
+  verdicts = verdict-refuses;
+  programs = print-refuses;
+  printed = prints-into;
 }

@@ -13,7 +13,8 @@ use Rattle.pairing.specs.Steps.{step1, step2, step3, step4, step5, step6, step7
 use Rattle.pairing.specs.Translated.{translatedRules}
 use Rattle.walks.specs.Walk.{walkOrder, preferredWalk, candidates, search, capped, preferredNeeds, preferredVerdict, firstState, cappedNext, nextVerdict}
 use Rattle.walks.specs.Listings.{preferredSets}
-use Rattle.printing.specs.Printed.{digits, stateLine, totalLine}
+use Rattle.kinds.specs.Words.{digits}
+use Rattle.printing.specs.Printed.{stateLine, totalLine}
 use Rattle.listing.specs.Listed.{listing, wholeListing, statesOf}
 use Rattle.programs.specs.Programs.{printed, statesPrinted}
 use Rattle.rigtomato.specs.Sheet.{rulesA, fileA, oneClass, lampFirst, darkFixed, nothing, emptyRule, oneRule, Sheet}
