@@ -8,7 +8,8 @@ use lib.Dec.{T, leb}
 use lib.ListN.{length, drop, length-append, length-replicate}
 use lib.Seq.{sets, length-sets}
 use borrow.Author.Tests.{lt-leb, leb-true, not-false}
-use Rattle.kinds.specs.Limits.{atomLimit, classLimit, longestName, within}
+use Rattle.kinds.specs.Sizes.{longestName}
+use Rattle.kinds.specs.Limits.{atomLimit, classLimit, within}
 use Rattle.kinds.specs.declared.limits.Kind.{Kind}
 use Rattle.kinds.specs.declared.limits.Kind.the-variants.{Plain, Preference}
 use Rattle.kinds.specs.declared.refusals.Refusal.{Refusal}

@@ -1,6 +1,7 @@
 // A line that declares atoms, against what the lines before have given.
 use gathering::gathered::Gathered;
 use gathering::gathered::Line;
+use kinds::limits::ClassWord;
 use kinds::limits::Counts;
 use kinds::limits::Kind;
 use kinds::limits::Preference;
@@ -111,8 +112,8 @@ fn put_class_words(
     match word {
         Keyword::Atoms => at,
         Keyword::Min => put_copies((classes + 1) as u16, count, words, at),
-        Keyword::Vary => put_copies(17, count, words, at),
-        Keyword::Fix => put_copies(18, count, words, at),
+        Keyword::Vary => put_copies(ClassWord::VARYING, count, words, at),
+        Keyword::Fix => put_copies(ClassWord::FIXED, count, words, at),
     }
 }
 

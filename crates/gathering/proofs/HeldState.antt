@@ -7,7 +7,8 @@ use mathlib.Core.List.{List, [], _∷_, _++_, append-assoc, append-nil}
 use lib.Dec.{leb}
 use lib.ListN.{length, take, drop, length-append}
 use lib.Seq.{take-at, drop-at, drop-drop, sets}
-use Rattle.kinds.specs.Limits.{atomLimit, ruleLimit, occurrenceLimit, storeWords, storeBytes, within}
+use Rattle.kinds.specs.Sizes.{storeWords, storeBytes}
+use Rattle.kinds.specs.Limits.{atomLimit, ruleLimit, occurrenceLimit, within}
 use Rattle.kinds.specs.declared.limits.Counts.{Counts}
 use Rattle.kinds.specs.declared.limits.Kind.{Kind}
 use Rattle.kinds.specs.declared.limits.Kind.the-variants.{Plain, Preference}

@@ -9,7 +9,8 @@ use mathlib.Core.Logic.{_≢_}
 use lib.ListN.{length, drop, set, length-append, length-map}
 use lib.Seq.{sets, length-sets, set-comm}
 use borrow.Author.Tests.{lt-ltb, not-false}
-use Rattle.kinds.specs.Limits.{atomLimit, ruleLimit, occurrenceLimit, storeWords, within}
+use Rattle.kinds.specs.Sizes.{storeWords}
+use Rattle.kinds.specs.Limits.{atomLimit, ruleLimit, occurrenceLimit, within}
 use Rattle.kinds.specs.declared.limits.Kind.{Kind}
 use Rattle.kinds.specs.declared.limits.Kind.the-variants.{Plain, Preference}
 use Rattle.kinds.specs.declared.refusals.Refusal.the-variants.{BrokenForm, Name, Undeclared, TwiceInList, Limit, FilledNot}

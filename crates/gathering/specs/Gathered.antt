@@ -6,7 +6,8 @@ use mathlib.Core.List.{List, [], _∷_, _++_}
 use lib.Dec.{leb, ltb}
 use lib.ListN.{length, take, drop}
 use lib.Seq.{sets}
-use Rattle.kinds.specs.Limits.{atomLimit, classLimit, longestEntry, storeWords, storeBytes, within}
+use Rattle.kinds.specs.Sizes.{longestEntry, storeWords, storeBytes}
+use Rattle.kinds.specs.Limits.{atomLimit, classLimit, within}
 use Rattle.kinds.specs.declared.limits.Counts.{Counts}
 use Rattle.kinds.specs.declared.limits.Kind.{Kind}
 use Rattle.kinds.specs.declared.limits.Kind.the-variants.{Plain, Preference}

@@ -1,4 +1,5 @@
 -- The definitions that the contracts of `kinds` cite.
 pub mod Limits
+pub mod Sizes
 pub mod Refusals
 pub mod Words

@@ -1,6 +1,6 @@
 -- The limits of the two kinds of file (document 01, the table of "The two kinds of file").
 use mathlib.Core.Bool.{Bool, _&&_}
-use Prim.Native.Nat.{ℕ, _+_, _*_, _^_}
+use Prim.Native.Nat.{ℕ, _^_}
 use lib.Dec.{leb}
 use Rattle.kinds.specs.declared.limits.Kind.{Kind}
 use Rattle.kinds.specs.declared.limits.Kind.the-variants.{Plain, Preference}
@@ -40,21 +40,6 @@ streamLimit = 65536
 -- bytes of a house name
 abbrev pub nameLimit : ℕ
 nameLimit = 16
-
--- a generated name has two bytes more than the house name in it
-abbrev pub longestName : ℕ
-longestName = nameLimit + 2
-
--- its bytes in a name store, with that of its length
-abbrev pub longestEntry : ℕ
-longestEntry = 1 + longestName
-
--- the largest stores are those of a plain program
-abbrev pub storeWords : ℕ
-storeWords = 4 + 3 * ruleLimit Plain + occurrenceLimit Plain
-
-abbrev pub storeBytes : ℕ
-storeBytes = atomLimit Plain * longestEntry
 
 -- atoms for a verdict or the lister, and the largest budget
 abbrev pub walkAtoms : ℕ

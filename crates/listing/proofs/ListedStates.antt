@@ -12,7 +12,8 @@ use lib.Pow.{pow-mono}
 use types.Run.{OneOf}
 use denote.Enum.Declared.{tagOf}
 use borrow.Author.Tests.{le-leb, leb-true, leb-false}
-use Rattle.kinds.specs.Limits.{streamLimit, walkAtoms, longestName, longestEntry}
+use Rattle.kinds.specs.Sizes.{longestName, longestEntry}
+use Rattle.kinds.specs.Limits.{streamLimit, walkAtoms}
 use Rattle.kinds.specs.declared.limits.Kind.the-variants.{Preference}
 use Rattle.kinds.specs.declared.refusals.Refusal.{Refusal}
 use Rattle.kinds.specs.declared.refusals.Refusal.the-variants.{Output}
@@ -33,7 +34,7 @@ use Rattle.printing.specs.Printed.{closing, stateLine, totalLine, spentLine, re
 use Rattle.printing.specs.Parts.{member, members}
 use Rattle.listing.specs.Listed.{onNext, listing, streamed}
 use Rattle.listing.specs.ListedMasks.{Inside, ListedNames, lastLine, Limited}
-use Rattle.printing.proofs.PrintedLines.{member-next, members-end, state-opens, total-short, front-fits, written-front}
+use Rattle.printing.proofs.PrintedLines.{member-next, members-end, state-opens, total-short, written-front}
 
 -- a state's line is short
 
@@ -220,9 +221,6 @@ module _ {text before after : List ℕ} {size : ℕ} (h : Limited text before af
         go : (b : Bool) → leb (length text) streamLimit ≡ b → length text ≤ streamLimit
         go true e = leb-true (length text) streamLimit e
         go false e = absurd (omega (arith, h .past (leb-false (length text) streamLimit e)))
-
-    pub all-fits : size - 0 ≤ length after
-    all-fits = front-fits (h .fits short) (omega (arith, short))
 
     pub all-is : take (size - 0) (drop 0 after) ≡ streamed text
     all-is = written-front (h .fits short) (omega (arith, short)) ∙ sym (ap (λ (b : Bool). cond b text (refusedText Output 0)) (le-leb (length text) streamLimit short))

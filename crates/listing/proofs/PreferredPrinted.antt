@@ -13,8 +13,8 @@ use Rattle.rules.specs.Lists.{flat}
 use Rattle.rules.specs.Preferred.{Preferred}
 use Rattle.rules.proofs.Lists.{all-at}
 use Rattle.stores.specs.Program.{Program, ProgramForm, ClassesForm}
-use Rattle.walks.specs.Walk.{nextVerdict}
-use Rattle.walks.specs.Listings.{preferredSets, listed, goOn, ListingStep, Whole, stepAfter, CutShort}
+use Rattle.walks.specs.Walk.{nextVerdict, preferredSets}
+use Rattle.walks.specs.Listings.{listed, goOn, ListingStep, Whole, stepAfter, CutShort}
 use Rattle.walks.specs.declared.answers.NextState.{NextState}
 use Rattle.walks.specs.declared.answers.NextState.the-variants.{State, Nothing, Spent, Refused}
 use Rattle.walks.proofs.NextStates.{next-means}

@@ -8,7 +8,8 @@ use Rattle.kinds.specs.Limits.{budgetLimit}
 use Rattle.kinds.specs.declared.limits.Kind.the-variants.{Preference}
 use Rattle.rules.specs.Lists.{flat}
 use Rattle.stores.specs.Program.{Program, ProgramForm}
-use Rattle.walks.specs.Listings.{preferredSets, Whole, CutShort}
+use Rattle.walks.specs.Walk.{preferredSets}
+use Rattle.walks.specs.Listings.{Whole, CutShort}
 use Rattle.printing.specs.Printed.{stateLine, totalLine, spentLine}
 use Rattle.listing.specs.Listed.{wholeListing}
 

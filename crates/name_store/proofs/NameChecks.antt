@@ -8,7 +8,7 @@ use mathlib.Core.Bool.{Bool, true, false, _&&_, cond, not}
 use lib.Dec.{T, leb, eqb, leb→le}
 use lib.ListN.{length, getD, take, drop, set, replicate, length-append, length-drop, length-set, take-append-drop}
 use lib.Seq.{length-take-le, drop-cons, drop-drop}
-use Rattle.kinds.specs.Limits.{longestEntry}
+use Rattle.kinds.specs.Sizes.{longestEntry}
 use Rattle.kinds.specs.declared.limits.Kind.{Kind}
 use Rattle.rules.proofs.Booleans.{T-and-r}
 use Rattle.rules.proofs.Lists.{none-left}

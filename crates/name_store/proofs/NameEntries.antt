@@ -8,7 +8,7 @@ use mathlib.Core.Logic.{_≢_}
 use mathlib.Core.List.{List, [], _∷_, _++_, append-assoc, append-nil}
 use mathlib.Core.Bool.{true, false, cond, not}
 use lib.Dec.{eqb}
-use lib.ListN.{replicate, length-replicate, getD-replicate, take-append-drop, length, getD, take, drop, set, length-append, length-set, List·getD-append}
+use lib.ListN.{replicate, length-replicate, getD-replicate, length, getD, take, drop, set, length-append, length-set, List·getD-append}
 use lib.Seq.{length-take-le, getD-take, drop-append-seam, take-append-le, take-append-seam, getD-append-seam, getD-set-same, getD-set-other, drop-drop}
 use borrow.Author.Tests.{eq-eqb, ne-eqb}
 use Rattle.rules.specs.Lists.{All, Distinct, some}
@@ -53,24 +53,8 @@ placed-names {names} {bytes} p = ap (decodeNames (length names)) (sym (p .stored
 
 -- bytes behind the names may change
 module _ {names : List (List ℕ)} {bytes starts : List ℕ} (bytes′ : List ℕ) (same : take (length (encodeNames names)) bytes′ ≡ take (length (encodeNames names)) bytes) where
-  pub placed-kept : Placed names bytes starts → Placed names bytes′ starts
-  placed-kept p = record {
-    stored =
-        let n = length (encodeNames names) in
-        let front : take n bytes′ ≡ encodeNames names = same ∙ ap (take n) (sym (p .stored)) ∙ take-append-seam (encodeNames names) (drop n bytes) in
-        ap (λ l. l ++ drop n bytes′) (sym front) ∙ take-append-drop n bytes′;
-    room = p .room;
-    start = p .start;
   }
 
-  pub index-kept : {firsts links : List ℕ} → Indexed names bytes starts firsts links → Indexed names bytes′ starts firsts links
-  index-kept ix = record {
-    placed = placed-kept (ix .placed);
-    different = ix .different;
-    firsts-room = ix .firsts-room;
-    links-room = ix .links-room;
-    first = ix .first;
-    link = ix .link;
   }
 
 -- x follows the names in the bytes, and is none of them

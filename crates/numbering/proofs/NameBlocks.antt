@@ -6,7 +6,7 @@ use mathlib.Core.Bool.{Bool, true, false, _||_}
 use mathlib.Core.List.{List, [], _++_, append-nil}
 use lib.ListN.{length, getD, drop, set, replicate, length-set, length-replicate, getD-replicate, drop-of-length-le}
 use borrow.Author.Fill.{fill-none, fill-more}
-use Rattle.kinds.specs.Limits.{longestName}
+use Rattle.kinds.specs.Sizes.{longestName}
 use Rattle.rules.specs.Lists.{All, some}
 use Rattle.rules.proofs.Lists.{all-app-r}
 use Rattle.name_store.specs.NameStore.{encodeNames, decodeNames, among}

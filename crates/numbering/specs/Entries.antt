@@ -4,7 +4,8 @@ use mathlib.Core.Path.{_≡_}
 use mathlib.Core.Bool.{Bool, true, false}
 use mathlib.Core.List.{List, [], _∷_, _++_}
 use lib.ListN.{length, drop}
-use Rattle.kinds.specs.Limits.{atomLimit, longestName, longestEntry, storeBytes}
+use Rattle.kinds.specs.Sizes.{longestName, longestEntry, storeBytes}
+use Rattle.kinds.specs.Limits.{atomLimit}
 use Rattle.kinds.specs.declared.limits.Kind.the-variants.{Plain}
 use Rattle.rules.specs.Lists.{All}
 use Rattle.name_store.specs.NameStore.{encodeNames, among}

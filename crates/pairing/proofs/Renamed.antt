@@ -31,9 +31,6 @@ module _ {A : Type 0} (x y : A → Bool) where
   in-congr : (l : List A) → All Equal l → All (In x) l → All (In y) l
   in-congr l e h = all-zip Equal (In x) (In y) (λ c g k. T-of g k) l e h
 
-  out-congr : (l : List A) → All Equal l → All (Out y) l → All (Out x) l
-  out-congr l e h = all-zip Equal (Out y) (Out x) (λ c g i k. i (T-of g k)) l e h
-
   any-congr : (l : List A) → All Equal l → Any (In x) l → Any (In y) l
   any-congr l e h = any-zip Equal (In x) (In y) (λ c g k. T-of g k) l e h
 

@@ -7,7 +7,8 @@ use mathlib.Core.List.{List, _++_}
 use lib.Dec.{T, leb}
 use lib.ListN.{length, getD, take, drop, length-append}
 use borrow.Author.Tests.{le-leb, lt-leb, leb-true, leb-false, eq-eqb, ne-eqb}
-use Rattle.kinds.specs.Limits.{streamLimit, walkAtoms, atomLimit, ruleLimit, occurrenceLimit, longestName, longestEntry, storeWords, storeBytes}
+use Rattle.kinds.specs.Sizes.{longestName, longestEntry, storeWords, storeBytes}
+use Rattle.kinds.specs.Limits.{streamLimit, walkAtoms, atomLimit, ruleLimit, occurrenceLimit}
 use Rattle.kinds.specs.declared.limits.Kind.{Kind}
 use Rattle.kinds.specs.declared.limits.Kind.the-variants.{Plain, Preference}
 use Rattle.kinds.specs.declared.refusals.Refusal.{Refusal}

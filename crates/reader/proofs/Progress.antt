@@ -6,14 +6,14 @@ use mathlib.Core.Logic.{_≢_}
 use mathlib.Core.Bool.{Bool, true, false, cond}
 use mathlib.Core.List.{List, [], _∷_, _++_, map, append-assoc, append-nil}
 use lib.Dec.{T}
-use lib.ListN.{length, replicate, length-append, length-map}
+use lib.ListN.{length, replicate}
 use Rattle.kinds.specs.Limits.{atomLimit, classLimit, varying, fixed}
 use Rattle.kinds.specs.declared.limits.Kind.{Kind}
 use Rattle.kinds.specs.declared.limits.Kind.the-variants.{Plain, Preference}
 use Rattle.kinds.specs.declared.refusals.Refusal.the-variants.{BrokenForm}
 use Rattle.rules.specs.Lists.{All, flat, from}
 use Rattle.rules.specs.Rules.{Rule, occurrences}
-use Rattle.rules.proofs.Lists.{all-app, all-imp, all-from, all-map, sum-app}
+use Rattle.rules.proofs.Lists.{all-app, all-imp, all-from, all-map}
 use Rattle.names.specs.Names.{allowed}
 use Rattle.name_store.specs.NameStore.{NamesForm}
 use Rattle.stores.specs.Program.{Program, ProgramForm, RoleForm, roleOf, ListForm, NotForm, RuleForm}
@@ -21,8 +21,7 @@ use Rattle.kinds.specs.Words.{atomsWord, minWord, varyWord, fixWord}
 use Rattle.text.specs.Text.{listLine, ruleLine, ruleText, declarations, textOf}
 use Rattle.lines.specs.declared.stage.Stage.{Stage}
 use Rattle.lines.specs.declared.stage.Stage.the-variants.{Declaring, Fixing, Ruling}
-use Rattle.lines.specs.Forms.{Word, atoms, min, vary, fix, declares, rules, broken, formOf, begins, tagOf}
-use Rattle.lines.specs.Forms.{LineForm}
+use Rattle.lines.specs.Forms.{Word, atoms, min, vary, fix, declares, rules, broken, formOf, begins, tagOf, LineForm}
 use Rattle.lines.specs.Faults.{SoFar, Step, next, fault, expects, ruling?, nameNumber, declared, numbered, with-rule, filled, stepForm}
 use Rattle.lines.specs.Said.{accepted, refused, start, onStep, readLines, programOf}
 use Rattle.reader.proofs.LineText.{joined}

@@ -7,7 +7,8 @@ use mathlib.Core.List.{List, [], _++_, append-nil}
 use lib.ListN.{length, take, drop, replicate, take-append-drop}
 use lib.Seq.{length-take-le}
 use borrow.Author.Tests.{lt-leb, le-leb}
-use Rattle.kinds.specs.Limits.{atomLimit, textLimit, storeWords, storeBytes, emptyCounts}
+use Rattle.kinds.specs.Sizes.{storeWords, storeBytes}
+use Rattle.kinds.specs.Limits.{atomLimit, textLimit, emptyCounts}
 use Rattle.kinds.specs.declared.limits.Kind.{Kind}
 use Rattle.kinds.specs.declared.limits.Kind.the-variants.{Plain, Preference}
 use Rattle.kinds.specs.declared.refusals.Refusal.{Refusal}

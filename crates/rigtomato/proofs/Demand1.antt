@@ -246,10 +246,6 @@ read-inj e = (cc, cc)
 never-read : {A : Type 0} {r : Refusal} {line words bytes : ℕ} → NotRead r line ≡ Accepted words bytes → A
 never-read e = absurd (let z : _≡_ {A = ℕ} 0 1 = cc in omega arith)
 
--- what a text says is one thing
-never-both : {A : Type 0} {p : Program} {ns : List (List ℕ)} {r : Refusal} {line : ℕ} → accepted p ns ≡ refused r line → A
-never-both e = absurd (let z : _≡_ {A = ℕ} 0 1 = cc in omega arith)
-
 module _ (text : List ℕ) (words bytes : ℕ) where
   module _ (p : Program) (ns : List (List ℕ)) where
     abbrev fits : Bool

@@ -11,8 +11,7 @@ use Rattle.lines.specs.Said.{start, readLines, said}
 use Rattle.pairing.specs.Atoms.{declared}
 use Rattle.pairing.specs.Steps.{step1, step2, step3, step4, step5, step6, step7, step8, step9, step10, translation}
 use Rattle.pairing.specs.Translated.{translatedRules}
-use Rattle.walks.specs.Walk.{walkOrder, preferredWalk, candidates, search, capped, preferredNeeds, preferredVerdict, firstState, cappedNext, nextVerdict}
-use Rattle.walks.specs.Listings.{preferredSets}
+use Rattle.walks.specs.Walk.{walkOrder, preferredWalk, candidates, search, capped, preferredNeeds, preferredVerdict, firstState, cappedNext, nextVerdict, preferredSets}
 use Rattle.kinds.specs.Words.{digits}
 use Rattle.printing.specs.Printed.{stateLine, totalLine}
 use Rattle.listing.specs.Listed.{listing, wholeListing, statesOf}

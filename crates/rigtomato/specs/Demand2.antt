@@ -10,10 +10,10 @@ use Rattle.kinds.specs.declared.limits.Kind.the-variants.{Plain, Preference}
 use Rattle.stores.specs.Program.{Program}
 use Rattle.stores.specs.RuleStore.{StoreOf}
 use Rattle.faults.specs.EarliestFault.{Accepts}
-use Rattle.walks.specs.Walk.{walkOrder, preferredVerdict, stableVerdict, nextVerdict}
+use Rattle.walks.specs.Walk.{walkOrder, preferredVerdict, stableVerdict, nextVerdict, preferredSets}
 use Rattle.walks.specs.Answers.{preferredAnswer, stableAnswer, nextAnswer}
 use Rattle.walks.specs.Meanings.{EachSetOnce, PreferredMeans, StableMeans, NextMeans}
-use Rattle.walks.specs.Listings.{preferredSets, ListsPreferred}
+use Rattle.walks.specs.Listings.{ListsPreferred}
 use Rattle.listing.specs.Listed.{wholeListing, streamed}
 use Rattle.listing.specs.PrintedStates.{PrintsAll, PrintsSome}
 use Rattle.programs.specs.Programs.{statesPrinted}

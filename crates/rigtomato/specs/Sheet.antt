@@ -10,8 +10,7 @@ use Rattle.rules.specs.Rules.{occurrences}
 use Rattle.lines.specs.Said.{Said, accepted, refused, said}
 use Rattle.walks.specs.declared.answers.Verdict.{Verdict}
 use Rattle.walks.specs.declared.answers.Verdict.the-variants.{Yes, Broken, Beaten, Spent, Refused}
-use Rattle.walks.specs.Walk.{preferredVerdict}
-use Rattle.walks.specs.Listings.{preferredSets}
+use Rattle.walks.specs.Walk.{preferredVerdict, preferredSets}
 use Rattle.pairing.specs.Translated.{translated}
 use Rattle.programs.specs.Programs.{statesPrinted}
 

@@ -220,7 +220,3 @@ kind-answered ws p s = pick-true (store? ws) (store-law ws .1 (p, s)) (kindOf (g
 pub refused : (ws : List ℕ) → ruleStore ws ≡ Refused ↔ (T (store? ws) → ⊥)
 unfolding ruleStore
 refused ws = turned-back (store? ws) (kindOf (getD ws 0 0))
-
--- refused exactly when the words are no program's store
-pub no-program : (ws : List ℕ) → ruleStore ws ≡ Refused ↔ ((p : Program) → StoreOf ws p → ⊥)
-no-program ws = (λ e p s. refused ws .0 e (store-law ws .1 (p, s)), λ h. refused ws .1 (λ t. h (decode ws) (decoded ws t)))

@@ -6,7 +6,8 @@ use mathlib.Core.List.{List, _++_}
 use lib.Dec.{T}
 use lib.ListN.{length, take, drop, length-append}
 use lib.Seq.{take-at, length-take-le}
-use Rattle.kinds.specs.Limits.{atomLimit, longestName}
+use Rattle.kinds.specs.Sizes.{longestName}
+use Rattle.kinds.specs.Limits.{atomLimit}
 use Rattle.kinds.specs.declared.limits.Kind.{Kind}
 use Rattle.rules.proofs.Lists.{all-imp}
 use Rattle.names.specs.Names.{allowed}

@@ -7,7 +7,8 @@ use mathlib.Core.Bool.{Bool, true, false}
 use mathlib.Core.List.{List, [], _∷_, _++_}
 use lib.Dec.{T, eqb}
 use lib.ListN.{length, getD, length-append, length-map}
-use Rattle.kinds.specs.Limits.{atomLimit, ruleLimit, occurrenceLimit, textLimit, varying, fixed, longestName, longestEntry}
+use Rattle.kinds.specs.Sizes.{longestName, longestEntry}
+use Rattle.kinds.specs.Limits.{atomLimit, ruleLimit, occurrenceLimit, textLimit, varying, fixed}
 use Rattle.kinds.specs.declared.limits.Kind.{Kind}
 use Rattle.kinds.specs.declared.limits.Kind.the-variants.{Plain, Preference}
 use Rattle.rules.specs.Lists.{All, keep, filter, sum, flat, from}

@@ -5,7 +5,7 @@ use mathlib.Core.Path.{_≡_, refl, sym, ap, ap₂, _∙_, subst}
 use mathlib.Core.List.{List, [], _∷_, _++_, map}
 use lib.ListN.{length, getD, take}
 use lib.Seq.{take-length}
-use Rattle.kinds.specs.Limits.{storeBytes}
+use Rattle.kinds.specs.Sizes.{storeBytes}
 use Rattle.kinds.specs.declared.limits.Kind.the-variants.{Plain, Preference}
 use Rattle.rules.specs.Lists.{from}
 use Rattle.stores.specs.Program.{ProgramForm}

@@ -6,7 +6,8 @@ use mathlib.Core.Bool.{not}
 use mathlib.Core.List.{List, [], _∷_}
 use lib.Dec.{T, leb→le}
 use lib.ListN.{length, getD, take, drop, length-append}
-use Rattle.kinds.specs.Limits.{classLimit, storeWords}
+use Rattle.kinds.specs.Sizes.{storeWords}
+use Rattle.kinds.specs.Limits.{classLimit}
 use Rattle.kinds.specs.declared.limits.Kind.{Kind}
 use Rattle.rules.specs.Lists.{All, filter, flat, from}
 use Rattle.rules.proofs.Lists.{all-filter, all-from, from-all, length-from, part-rest}

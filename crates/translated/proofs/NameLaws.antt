@@ -10,7 +10,8 @@ use lib.ListN.{length, getD, take, drop, length-append, length-drop}
 use lib.Seq.{take-all, drop-drop, length-take-le, getD-drop, take-append-seam, drop-append-seam}
 use borrow.Author.Tests.{lt-ltb, le-ltb}
 use Rattle.kinds.specs.Words.{decimal}
-use Rattle.kinds.specs.Limits.{classLimit, longestName, longestEntry}
+use Rattle.kinds.specs.Sizes.{longestName, longestEntry}
+use Rattle.kinds.specs.Limits.{classLimit}
 use Rattle.kinds.specs.declared.limits.Kind.{Kind}
 use Rattle.rules.specs.Lists.{All, flat, from}
 use Rattle.rules.proofs.Lists.{all-imp}

@@ -3,7 +3,7 @@ use Prim.Native.Nat.{ℕ, zero, suc, _+_, _-_, _≤_}
 use mathlib.Core.List.{List, _++_}
 use lib.ListN.{length, getD, drop}
 use Rattle.kinds.specs.Words.{bytes, byte, decimal}
-use Rattle.kinds.specs.Limits.{longestName}
+use Rattle.kinds.specs.Sizes.{longestName}
 use Rattle.rules.specs.Lists.{from}
 use Rattle.name_store.specs.NameStore.{nameBytes, decodeNames}
 use Rattle.pairing.specs.Loops.{dot}

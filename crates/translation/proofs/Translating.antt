@@ -8,7 +8,7 @@ use mathlib.Core.List.{List}
 use lib.Dec.{T}
 use lib.ListN.{length, getD, take, drop}
 use lib.Seq.{take-at, length-sets, sets-eq}
-use Rattle.kinds.specs.Limits.{storeWords, storeBytes}
+use Rattle.kinds.specs.Sizes.{storeWords, storeBytes}
 use Rattle.kinds.specs.declared.limits.Kind.the-variants.{Plain, Preference}
 use Rattle.kinds.specs.declared.refusals.Refusal.the-variants.{RuleStore, NameStore}
 use Rattle.stores.specs.Program.{Program, ProgramForm}

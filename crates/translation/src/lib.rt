@@ -12,7 +12,7 @@ use writer::write_checked;
 ghost use mathlib.Core.Path.{_≡_};
 ghost use Prim.Native.Nat.{_≤_};
 ghost use lib.ListN.{length};
-ghost use Rattle.kinds.specs.Limits.{storeWords, storeBytes};
+ghost use Rattle.kinds.specs.Sizes.{storeWords, storeBytes};
 ghost use Rattle.kinds.specs.declared.limits.Kind.the-variants.{Preference};
 ghost use Rattle.rules.specs.Lists.{over};
 ghost use Rattle.stores.specs.RuleStore.{decode};

@@ -12,8 +12,8 @@ use Rattle.rules.specs.Rules.{Rule}
 use Rattle.rules.specs.Preferred.{Preferred, preferred?}
 use Rattle.rules.proofs.Lists.{all-imp, all-any, all-at, all-filter, any-filter, any-imp}
 use Rattle.rules.proofs.Preferred.{preferred-law}
-use Rattle.walks.specs.Walk.{walkOrder, nextVerdict}
-use Rattle.walks.specs.Listings.{preferredSets, Subsequence, ListsPreferred, goOn, listed, ListingStep, Whole, stepAfter, CutShort}
+use Rattle.walks.specs.Walk.{walkOrder, nextVerdict, preferredSets}
+use Rattle.walks.specs.Listings.{Subsequence, ListsPreferred, goOn, listed, ListingStep, Whole, stepAfter, CutShort}
 use Rattle.walks.specs.declared.answers.NextState.{NextState}
 use Rattle.walks.specs.declared.answers.NextState.the-variants.{State, Nothing, Spent as NextSpent, Refused as NextRefused}
 use Rattle.walks.proofs.Filters.{upTo, passed-over, none-left, taken}

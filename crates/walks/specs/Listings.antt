@@ -4,16 +4,12 @@ use mathlib.Core.Path.{_≡_}
 use mathlib.Core.Logic.{_⊎_}
 use mathlib.Core.List.{List, [], _∷_}
 use lib.ListN.{length, getD, take}
-use Rattle.rules.specs.Lists.{All, Any, Distinct, filter}
+use Rattle.rules.specs.Lists.{All, Any, Distinct}
 use Rattle.rules.specs.Rules.{Rule}
-use Rattle.rules.specs.Preferred.{Preferred, preferred?}
-use Rattle.walks.specs.Walk.{walkOrder, nextVerdict}
+use Rattle.rules.specs.Preferred.{Preferred}
+use Rattle.walks.specs.Walk.{walkOrder, preferredSets, nextVerdict}
 use Rattle.walks.specs.declared.answers.NextState.{NextState}
 use Rattle.walks.specs.declared.answers.NextState.the-variants.{State, Nothing, Spent as NextSpent, Refused as NextRefused}
-
--- the preferred sets, in the order of the walks
-unfoldable pub preferredSets : List ℕ → List (Rule ℕ) → List ℕ
-preferredSets ws rs = filter (preferred? ws rs) (walkOrder (length ws))
 
 -- the entries of the first list stand in the second in this order
 abbrev pub Subsequence : List ℕ → List ℕ → Type 0

@@ -9,7 +9,7 @@ use Rattle.rules.specs.Sets.{has}
 use Rattle.rules.specs.Rules.{Rule, reduct, model?, firstBroken}
 use Rattle.rules.specs.Stable.{subset?}
 use Rattle.kinds.specs.Limits.{fixed}
-use Rattle.rules.specs.Preferred.{ofClass, agree?, beats?}
+use Rattle.rules.specs.Preferred.{ofClass, agree?, beats?, preferred?}
 use Rattle.walks.specs.declared.answers.Verdict.{Verdict}
 use Rattle.walks.specs.declared.answers.Verdict.the-variants.{Yes, Broken, Beaten, Spent, Refused}
 use Rattle.walks.specs.declared.answers.NextState.{NextState}
@@ -33,6 +33,10 @@ stableWalk n m = filter (λ s. proper? s m) (walkOrder n)
 -- the sets from the start on
 unfoldable pub candidates : List ℕ → ℕ → List ℕ
 candidates ws start = drop start (walkOrder (length ws))
+
+-- the preferred sets, in the order of the walks
+unfoldable pub preferredSets : List ℕ → List (Rule ℕ) → List ℕ
+preferredSets ws rs = filter (preferred? ws rs) (walkOrder (length ws))
 
 -- the first better set of a walk, one unit a set tried; u units were counted before
 unfoldable pub search : (ℕ → Bool) → List ℕ → ℕ → Verdict

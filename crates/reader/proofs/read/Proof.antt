@@ -1,7 +1,8 @@
 use Prim.Native.Nat.{ℕ, _≤_}
 use mathlib.Core.Path.{refl}
 use lib.ListN.{replicate, length-replicate}
-use Rattle.kinds.specs.Limits.{atomLimit, storeWords, storeBytes}
+use Rattle.kinds.specs.Sizes.{storeWords, storeBytes}
+use Rattle.kinds.specs.Limits.{atomLimit}
 use Rattle.kinds.specs.declared.limits.Kind.the-variants.{Plain}
 use Rattle.name_store.specs.NameIndex.{buckets}
 use Rattle.stores.proofs.StoreHeader.{unmarked}
