@@ -51,12 +51,6 @@ index-empty bytes starts firsts links e = record {
 pub placed-names : {names : List (List ℕ)} {bytes starts : List ℕ} → Placed names bytes starts → decodeNames (length names) bytes ≡ names
 placed-names {names} {bytes} p = ap (decodeNames (length names)) (sym (p .stored)) ∙ decode-front names (drop (length (encodeNames names)) bytes)
 
--- bytes behind the names may change
-module _ {names : List (List ℕ)} {bytes starts : List ℕ} (bytes′ : List ℕ) (same : take (length (encodeNames names)) bytes′ ≡ take (length (encodeNames names)) bytes) where
-  }
-
-  }
-
 -- x follows the names in the bytes, and is none of them
 module _ {names : List (List ℕ)} {bytes starts firsts links : List ℕ} (ix : Indexed names bytes starts firsts links)
     (x rest : List ℕ) (follows : drop (length (encodeNames names)) bytes ≡ nameBytes x ++ rest) (fresh : All (λ y. x ≢ y) names)
