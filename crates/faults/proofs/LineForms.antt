@@ -27,7 +27,7 @@ use Rattle.faults.proofs.NameClasses.{eq-law, house-iff, long-iff, gene
 
 -- a name has no byte that ends a name
 
-abbrev High : List ℕ → Type 0
+abbrev pub High : List ℕ → Type 0
 High x = All (λ b. 46 ≤ b) x
 
 byte-high : (b : ℕ) → NameByte b → 46 ≤ b
@@ -51,7 +51,7 @@ number-high : (y : List ℕ) → ClassNumber y → High y
 number-high y (inl (d, l, e)) = subst High (sym e) (omega arith, tt)
 number-high y (inr (d, l, e)) = subst High (sym e) (omega arith, (omega arith, tt))
 
-name-high : (x : List ℕ) → IsName x → High x
+pub name-high : (x : List ℕ) → IsName x → High x
 name-high x (inl h) = house-high x (h .0)
 name-high x (inr (inl (inl (y, m, h)))) = marked-high x y m (h .0)
 name-high x (inr (inl (inr (inl (y, e, h))))) = subst High (sym e) (omega arith, (omega arith, number-high y h))
@@ -77,7 +77,7 @@ high-byte b l = T-not-in (delimiter? b) (λ t. low (law .0 t))
 name-bytes : (x : List ℕ) → IsName x → NoDelimiter x
 name-bytes x h = all-imp (λ b. 46 ≤ b) (λ b. T (not (delimiter? b))) high-byte x (name-high x h)
 
-name-law : (x : List ℕ) → T (isName (nameClass x)) ↔ IsName x
+pub name-law : (x : List ℕ) → T (isName (nameClass x)) ↔ IsName x
 name-law x = (λ t. there (nameClass x) refl t, back)
   where
     there : (c : NameClass) → nameClass x ≡ c → T (isName c) → IsName x

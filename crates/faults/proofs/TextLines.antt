@@ -68,7 +68,7 @@ lines-from zero s = refl
 lines-from (suc k) [] = refl
 lines-from (suc k) (b ∷ s) = lines-from k s
 
-cut-first : (t : List ℕ) → t ≢ [] → lines t ≡ take (lineLength t) t ∷ lines (drop (lineLength t) t)
+pub cut-first : (t : List ℕ) → t ≢ [] → lines t ≡ take (lineLength t) t ∷ lines (drop (lineLength t) t)
 unfolding lines linesFrom lineLength
 cut-first [] n = absurd (n refl)
 cut-first (b ∷ s) n = let k = cond (eqb b line-end) 0 (lineLength s) in ap (λ l. (b ∷ take k s) ∷ l) (lines-from k s)

@@ -2,8 +2,6 @@
 pub mod Examples
 pub mod LineByLine
 pub mod WholeText
-pub mod LineText
-pub mod NameText
 pub mod FormText
 pub mod NumberedNames
 pub mod ClassParts

@@ -1,11 +1,10 @@
 -- The lines of a text by their places, and the walk over them.
-use Prim.Native.Nat.{ℕ, zero, suc, _+_, _*_, _-_, _≤_, _<_, zero-le}
+use Prim.Native.Nat.{ℕ, suc, _+_, _*_, _-_, _≤_, _<_, zero-le}
 use native.Mathlib.Numerals.{add-one}
 use native.Mathlib.Omega.{arith}
-use mathlib.Core.Path.{_≡_, refl, sym, ap, ap₂, _∙_, subst}
+use mathlib.Core.Path.{_≡_, sym, ap, ap₂, _∙_, subst}
 use mathlib.Core.Bool.{Bool, true, false, cond}
 use mathlib.Core.List.{List, [], _∷_}
-use lib.Dec.{eqb}
 use lib.ListN.{length, take, drop, length-drop, drop-of-length-le}
 use lib.Seq.{drop-drop, length-take-le}
 use Rattle.kinds.specs.declared.limits.Kind.{Kind}
@@ -28,23 +27,14 @@ use Rattle.lines.specs.Said.{Said, accepted, refused, onStep, readLines, start,
 use Rattle.gathering.specs.Gathered.{stateOf, Held, HeldIndex, HeldMarks, LineSays, LineIs, MarksSay, MarksAre}
 use Rattle.reader.specs.Gathering.{startCounts, passedOn, GatherSays, GatherIs}
 use Rattle.lines.proofs.LineBlocks.{line-le}
+use Rattle.faults.proofs.TextLines.{cut-first}
 use Rattle.gathering.proofs.HeldState.{rules-is, held-is}
 use Rattle.reader.proofs.LineSteps.{declare-said}
 
-lines-skip : (k : ℕ) (s : List ℕ) → linesFrom k s ≡ lines (drop k s)
-unfolding lines linesFrom
-lines-skip zero [] = refl
-lines-skip (suc k) [] = refl
-lines-skip zero (b ∷ s) = refl
-lines-skip (suc k) (b ∷ s) = lines-skip k s
-
 first-line : (s : List ℕ) → 1 ≤ length s → (lines s ≡ take (lineLength s) s ∷ lines (drop (lineLength s) s)) × (1 ≤ lineLength s)
-unfolding lines linesFrom lineLength
+unfolding lineLength
 first-line [] h = absurd (omega arith)
-first-line (b ∷ s) h = (ap (λ l. take (suc n) (b ∷ s) ∷ l) (lines-skip n s), omega arith)
-  where
-    n : ℕ
-    n = cond (eqb b 10) 0 (lineLength s)
+first-line (b ∷ s) h = (cut-first (b ∷ s) (λ e. absurd (let z : suc (length s) ≡ 0 = ap length e in omega arith)), omega arith)
 
 -- the line at a place
 module _ (s : List ℕ) (at : ℕ) (l : at < length s) {n : ℕ} (e : n ≡ lineLength (drop at s)) where

@@ -4,7 +4,7 @@ use native.Mathlib.Omega.{arith}
 use mathlib.Core.Path.{_≡_, refl, sym, _∙_, subst}
 use mathlib.Core.Logic.{_⊎_, inl, inr, _↔_}
 use mathlib.Core.Bool.{Bool, true, false, not, _&&_, _||_}
-use mathlib.Core.List.{List, []}
+use mathlib.Core.List.{List, [], _∷_}
 use lib.Dec.{T, leb, leb→le, le→leb}
 use Rattle.kinds.specs.Limits.{classLimit, within}
 use Rattle.kinds.specs.declared.limits.Kind.{Kind}
@@ -12,13 +12,14 @@ use Rattle.kinds.specs.declared.refusals.Refusal.{Refusal}
 use Rattle.kinds.specs.declared.refusals.Refusal.the-variants.{BrokenForm, Name, DeclaredTwice, Undeclared, TwiceInList, Limit, FilledNot}
 use Rattle.rules.specs.Lists.{All, Distinct, some}
 use Rattle.rules.proofs.Booleans.{is-true, stable, T-not-in, T-not-out, T-and, T-and-l, T-and-r, T-or, T-or-out}
-use Rattle.rules.proofs.Lists.{all-imp}
 use Rattle.names.specs.Names.{allowed}
 use Rattle.name_store.specs.NameStore.{among}
 use Rattle.lines.specs.Forms.{Word}
 use Rattle.lines.specs.Faults.{SoFar, countsOf, Step, next, expects, ruling?, classesAfter, twice, refusedName, anyOf, first, declared, declare, numbered, with-rule, filled, addRule}
 use Rattle.gathering.proofs.HeldState.{Fits, within-limits, limits-within}
-use Rattle.reader.proofs.NumberedNames.{Declared, declared-law, some-none, twice-free, free-twice}
+use Rattle.faults.specs.Sentences.{Among}
+use Rattle.faults.proofs.Tests.{among-law}
+use Rattle.reader.proofs.NumberedNames.{different-law}
 
 -- one test after another
 
@@ -37,11 +38,19 @@ holds : (b : Bool) → (T (not b) → ⊥) ↔ T b
 holds b = (λ h. stable b (λ n. h (T-not-in b n)), λ t n. T-not-out b n t)
 
 -- no entry fails a test
-none-fails : {A : Type 0} (p : A → Bool) (l : List A) → (T (some (λ a. not (p a)) l) → ⊥) ↔ All (λ a. T (p a)) l
-none-fails p l = (
-  λ h. all-imp (λ a. T (not (p a)) → ⊥) (λ a. T (p a)) (λ a n. stable (p a) (λ k. n (T-not-in (p a) k))) l (some-none (λ a. not (p a)) l .0 h),
-  λ h. some-none (λ a. not (p a)) l .1 (all-imp (λ a. T (p a)) (λ a. T (not (p a)) → ⊥) (λ a t n. T-not-out (p a) n t) l h),
-)
+none-fails : {A : Type 0} (p : A → Bool) (P : A → Type 0) → ((a : A) → T (p a) ↔ P a) → (l : List A) → (T (some (λ a. not (p a)) l) → ⊥) ↔ All P l
+none-fails p P law [] = (λ h. tt, λ h t. t)
+none-fails p P law (x ∷ l) = step (p x) (law x) (none-fails p P law l)
+  where
+    later : Bool
+    later = some (λ a. not (p a)) l
+
+    step : (b : Bool) → T b ↔ P x → (T later → ⊥) ↔ All P l → (T (not b || later) → ⊥) ↔ (P x × All P l)
+    step true e r = (λ h. (e .0 tt, r .0 h), λ h. r .1 (h .1))
+    step false e r = (λ h. absurd (h tt), λ h. absurd (e .1 (h .0)))
+
+all-allowed-law : (kind : Kind) (xs : List (List ℕ)) → (T (some (refusedName kind) xs) → ⊥) ↔ All (λ x. T (allowed kind x)) xs
+all-allowed-law kind xs = none-fails (allowed kind) (λ x. T (allowed kind x)) (λ x. (λ t. t, λ t. t)) xs
 
 -- a line that declares atoms
 
@@ -84,7 +93,7 @@ module _ (st : SoFar) (w : Word) (xs : List (List ℕ)) where
       let t = holds (fit && fewClasses) .0 (e₄ .0) in (
         record {
           expected = holds (expects (st .kind) (st .stage) w) .0 (e₁ .0);
-          all-allowed = none-fails (allowed (st .kind)) xs .0 (e₂ .0);
+          all-allowed = all-allowed-law (st .kind) xs .0 (e₂ .0);
           not-twice = e₃ .0;
           counts-fit = within-limits (st .kind) (countsOf (declared st w xs)) (is-true fit (T-and-l fit fewClasses t));
           classes-fit = leb→le (classesAfter w (st .classes)) classLimit (T-and-r fit fewClasses t);
@@ -96,7 +105,7 @@ module _ (st : SoFar) (w : Word) (xs : List (List ℕ)) where
   unfolding declare
   declare-says d =
       passes unexpected BrokenForm (first refusedNames Name compared) (holds (expects (st .kind) (st .stage) w) .1 (d .expected))
-      ∙ passes refusedNames Name compared (none-fails (allowed (st .kind)) xs .1 (d .all-allowed))
+      ∙ passes refusedNames Name compared (all-allowed-law (st .kind) xs .1 (d .all-allowed))
       ∙ passes (twice (st .names) xs) DeclaredTwice counted (d .not-twice)
       ∙ passes tooMany Limit (next (declared st w xs)) (holds (fit && fewClasses) .1 (T-and fit fewClasses (subst T (sym (limits-within (d .counts-fit))) tt) (le→leb (classesAfter w (st .classes)) classLimit (d .classes-fit))))
 
@@ -105,7 +114,7 @@ module _ (st : SoFar) (w : Word) (xs : List (List ℕ)) where
 -- a list of different declared names that the kind allows
 pub record Listed (kind : Kind) (names xs : List (List ℕ)) : Type 0 where
   pub all-allowed : All (λ x. T (allowed kind x)) xs
-  pub all-declared : All (Declared names) xs
+  pub all-declared : All (Among names) xs
   pub different : Distinct xs
 
 pub record Adds (st : SoFar) (hs bs ns : List (List ℕ)) : Type 0 where
@@ -130,16 +139,13 @@ none-of p hs bs ns = (
     later h (inl t) = h .0 t
     later h (inr t) = last h (T-or-out (p bs) (p ns) t)
 
-all-declared-law : (names xs : List (List ℕ)) → (T (some (λ x. not (among names x)) xs) → ⊥) ↔ All (Declared names) xs
-all-declared-law names xs = (
-  λ h. all-imp (λ x. T (among names x)) (Declared names) (λ x. declared-law names x .0) xs (none-fails (among names) xs .0 h),
-  λ h. none-fails (among names) xs .1 (all-imp (Declared names) (λ x. T (among names x)) (λ x. declared-law names x .1) xs h),
-)
+all-declared-law : (names xs : List (List ℕ)) → (T (some (λ x. not (among names x)) xs) → ⊥) ↔ All (Among names) xs
+all-declared-law names xs = none-fails (among names) (Among names) (among-law names) xs
 
 listed-law : (kind : Kind) (names xs : List (List ℕ)) → ((T (some (refusedName kind) xs) → ⊥) × (T (some (λ x. not (among names x)) xs) → ⊥) × (T (twice [] xs) → ⊥)) ↔ Listed kind names xs
 listed-law kind names xs = (
-  λ h. record { all-allowed = none-fails (allowed kind) xs .0 (h .0); all-declared = all-declared-law names xs .0 (h .1); different = twice-free [] xs tt (h .2) },
-  λ h. (none-fails (allowed kind) xs .1 (h .all-allowed), all-declared-law names xs .1 (h .all-declared), free-twice [] xs (h .different)),
+  λ h. record { all-allowed = all-allowed-law kind xs .0 (h .0); all-declared = all-declared-law names xs .0 (h .1); different = different-law [] xs tt .0 (h .2) },
+  λ h. (all-allowed-law kind xs .1 (h .all-allowed), all-declared-law names xs .1 (h .all-declared), different-law [] xs tt .1 (h .different)),
 )
 
 module _ (st : SoFar) (hs bs ns : List (List ℕ)) where

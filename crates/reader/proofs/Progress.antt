@@ -22,37 +22,16 @@ use Rattle.text.specs.Text.{listLine, ruleLine, ruleText, declarations, textOf}
 use Rattle.lines.specs.declared.stage.Stage.{Stage}
 use Rattle.lines.specs.declared.stage.Stage.the-variants.{Declaring, Fixing, Ruling}
 use Rattle.lines.specs.Forms.{Word, atoms, min, vary, fix, declares, rules, broken, formOf, begins, tagOf, LineForm}
-use Rattle.lines.specs.Faults.{SoFar, Step, next, fault, expects, ruling?, nameNumber, declared, numbered, with-rule, filled, stepForm}
+use Rattle.lines.specs.Faults.{SoFar, Step, next, fault, ruling?, nameNumber, declared, numbered, with-rule, filled, stepForm}
 use Rattle.lines.specs.Said.{accepted, refused, start, onStep, readLines, programOf}
-use Rattle.reader.proofs.LineText.{joined}
-use Rattle.reader.proofs.FormText.{wordOf, LineOf, form-line}
-use Rattle.reader.proofs.NumberedNames.{Declared, number-below, names-of-numbers, numbers-differ, twice-free}
+use Rattle.faults.specs.LineForms.{HasForm}
+use Rattle.faults.specs.Sentences.{Among, Comes, atoms-line, min-line, vary-line, fix-line}
+use Rattle.faults.proofs.LineForms.{form-iff}
+use Rattle.faults.proofs.Tests.{comes-law}
+use Rattle.reader.proofs.FormText.{wordOf, list-line, rule-line}
+use Rattle.reader.proofs.NumberedNames.{different-law, number-below, names-of-numbers, numbers-differ}
 use Rattle.reader.proofs.ClassParts.{classNames, words-fit, class-kept, class-new, all-replicate, rising-app, role-more, role-new}
 use Rattle.reader.proofs.LineSteps.{Declares, declare-said, Listed, Adds, rule-said}
-
--- the order of the lines
-pub data Turn : Kind → Stage → Word → Type 0 where
-  atoms-turn : Turn Plain Declaring atoms
-  min-turn : Turn Preference Declaring min
-  vary-turn : Turn Preference Declaring vary
-  fix-turn : Turn Preference Fixing fix
-
-turn : (kind : Kind) (stage : Stage) (w : Word) → T (expects kind stage w) → Turn kind stage w
-turn Plain Declaring atoms h = atoms-turn
-turn Plain Declaring min h = absurd h
-turn Plain Declaring vary h = absurd h
-turn Plain Declaring fix h = absurd h
-turn Plain Fixing w h = absurd h
-turn Plain Ruling w h = absurd h
-turn Preference Declaring atoms h = absurd h
-turn Preference Declaring min h = min-turn
-turn Preference Declaring vary h = vary-turn
-turn Preference Declaring fix h = absurd h
-turn Preference Fixing atoms h = absurd h
-turn Preference Fixing min h = absurd h
-turn Preference Fixing vary h = absurd h
-turn Preference Fixing fix h = fix-turn
-turn Preference Ruling w h = absurd h
 
 -- the `min` lines of k classes
 abbrev minLines : ℕ → List ℕ → List (List ℕ) → List ℕ
@@ -108,7 +87,7 @@ names-more : {st : SoFar} {text : List ℕ} {w : Word} {xs : List (List ℕ)} �
 names-more {st} {xs = xs} s d = record {
   count = refl;
   all-allowed = all-app (λ x. T (allowed (st .kind) x)) (st .names) xs (s .names-form .all-allowed) (d .all-allowed);
-  different = twice-free (st .names) xs (s .names-form .different) (d .not-twice);
+  different = different-law (st .names) xs (s .names-form .different) .0 (d .not-twice);
 }
 
 module _ (k : ℕ) (words : List ℕ) (names : List (List ℕ)) (same : length words ≡ length names) (v : ℕ) (xs : List (List ℕ)) where
@@ -216,16 +195,16 @@ module _ {text : List ℕ} (k : ℕ) (words : List ℕ) (names : List (List ℕ)
       }
 
 declare-step : (st : SoFar) (w : Word) (xs : List (List ℕ)) {text : List ℕ} → Reached st text → Declares st w xs → Reached (declared st w xs) (text ++ listLine (wordOf w) xs)
-declare-step st w xs {text} s d = go (turn (st .kind) (st .stage) w (d .expected)) s d
+declare-step st w xs {text} s d = go (comes-law (st .kind) (st .stage) w .0 (d .expected)) s d
   where
-    go : {kind : Kind} {stage : Stage} {v : Word} → Turn kind stage v
+    go : {kind : Kind} {stage : Stage} {v : Word} → Comes kind stage v
         → Reached (state kind stage (st .classes) (st .words) (st .names) (st .program-rules)) text
         → Declares (state kind stage (st .classes) (st .words) (st .names) (st .program-rules)) v xs
         → Reached (declared (state kind stage (st .classes) (st .words) (st .names) (st .program-rules)) v xs) (text ++ listLine (wordOf v) xs)
-    go atoms-turn = atoms-step (st .classes) (st .words) (st .names) (st .program-rules) xs
-    go min-turn = min-step (st .classes) (st .words) (st .names) (st .program-rules) xs
-    go vary-turn = vary-step (st .classes) (st .words) (st .names) (st .program-rules) xs
-    go fix-turn = fix-step (st .classes) (st .words) (st .names) (st .program-rules) xs
+    go atoms-line = atoms-step (st .classes) (st .words) (st .names) (st .program-rules) xs
+    go min-line = min-step (st .classes) (st .words) (st .names) (st .program-rules) xs
+    go vary-line = vary-step (st .classes) (st .words) (st .names) (st .program-rules) xs
+    go fix-line = fix-step (st .classes) (st .words) (st .names) (st .program-rules) xs
 
 -- a rule
 
@@ -240,7 +219,7 @@ no-nots-form Preference f (x ∷ ns) h = absurd (h tt)
 
 list-form : {kind : Kind} {names xs : List (List ℕ)} → Listed kind names xs → ListForm (length names) (map (nameNumber names) xs)
 list-form {kind} {names} {xs} l = (
-  all-map (λ a. a < length names) (nameNumber names) xs (all-imp (Declared names) (λ x. nameNumber names x < length names) (λ x d. number-below x names d) xs (l .all-declared)),
+  all-map (λ a. a < length names) (nameNumber names) xs (all-imp (Among names) (λ x. nameNumber names x < length names) (λ x d. number-below x names d) xs (l .all-declared)),
   numbers-differ names xs (l .all-declared) (l .different),
 )
 
@@ -300,11 +279,11 @@ rule-step st hs bs ns {text} s d = go (st .stage) (d .ruling) s d
 -- every line
 
 line-step : (st : SoFar) (l : List ℕ) {after : SoFar} {text : List ℕ} → Reached st text → stepForm st (formOf l) ≡ next after → Reached after (text ++ l)
-line-step st l {after} {text} s = go (formOf l) (form-line l)
+line-step st l {after} {text} s = go (formOf l) (form-iff l (formOf l) .0 refl)
   where
-    go : (f : LineForm) → LineOf f l → stepForm st f ≡ next after → Reached after (text ++ l)
-    go (declares w xs) h e = let d = declare-said st w xs after e in subst₂ (λ a m. Reached a (text ++ m)) (d .1) (sym (h .0)) (declare-step st w xs s (d .0))
-    go (rules hs bs ns) h e = let d = rule-said st hs bs ns after e in subst₂ (λ a m. Reached a (text ++ m)) (d .1) (sym (h .0)) (rule-step st hs bs ns s (d .0))
+    go : (f : LineForm) → HasForm l f → stepForm st f ≡ next after → Reached after (text ++ l)
+    go (declares w xs) h e = let d = declare-said st w xs after e in subst₂ (λ a m. Reached a (text ++ m)) (d .1) (list-line w xs ∙ sym (h .0)) (declare-step st w xs s (d .0))
+    go (rules hs bs ns) h e = let d = rule-said st hs bs ns after e in subst₂ (λ a m. Reached a (text ++ m)) (d .1) (rule-line hs bs ns ∙ sym (h .0)) (rule-step st hs bs ns s (d .0))
     go broken h e = absurd (let z : _≡_ {A = ℕ} 0 1 = cc in omega arith)
 
 -- what all lines together say: stores of the form, whose text they are
@@ -321,7 +300,7 @@ all-said {st} {text} s r = record { form = s .form; names-form = s .names-form; 
     go Fixing h e = absurd h
     go Ruling h e = e
 
-pub lines-said : (k : ℕ) (st : SoFar) (ls : List (List ℕ)) (text : List ℕ) {p : Program} {names : List (List ℕ)} → Reached st text → readLines k st ls ≡ accepted p names → AllSaid p names (text ++ joined ls)
+pub lines-said : (k : ℕ) (st : SoFar) (ls : List (List ℕ)) (text : List ℕ) {p : Program} {names : List (List ℕ)} → Reached st text → readLines k st ls ≡ accepted p names → AllSaid p names (text ++ flat (λ m. m) ls)
 unfolding readLines
 lines-said k st [] text {p} {names} s e = go (ruling? (st .stage)) (λ t. t) e
   where
@@ -335,10 +314,10 @@ lines-said k st (l ∷ ls) text {p} {names} s e = go (stepForm st (formOf l)) (�
   where
     go : (q : Step)
         → ((after : SoFar) → q ≡ next after → Reached after (text ++ l))
-        → ((after : SoFar) (t : List ℕ) → Reached after t → readLines (suc k) after ls ≡ accepted p names → AllSaid p names (t ++ joined ls))
+        → ((after : SoFar) (t : List ℕ) → Reached after t → readLines (suc k) after ls ≡ accepted p names → AllSaid p names (t ++ flat (λ m. m) ls))
         → onStep q k (λ after. readLines (suc k) after ls) ≡ accepted p names
-        → AllSaid p names (text ++ (l ++ joined ls))
-    go (next after) f rec i = subst (AllSaid p names) (append-assoc text l (joined ls)) (rec after (text ++ l) (f after refl) i)
+        → AllSaid p names (text ++ (l ++ flat (λ m. m) ls))
+    go (next after) f rec i = subst (AllSaid p names) (append-assoc text l (flat (λ m. m) ls)) (rec after (text ++ l) (f after refl) i)
     go (fault r) f rec i = absurd (let z : _≡_ {A = ℕ} 0 1 = cc in omega arith)
 
 pub start-said : (text : List ℕ) → Reached (start text) []

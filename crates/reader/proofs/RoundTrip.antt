@@ -24,7 +24,7 @@ use Rattle.lines.specs.Faults.{SoFar, ruling?}
 use Rattle.lines.specs.Said.{accepted, refused, start, readLines, said, programOf}
 use Rattle.text.proofs.TextLength.{text-fits}
 use Rattle.reader.specs.WrittenText.{WrittenText}
-use Rattle.reader.proofs.LineText.{joined-lines}
+use Rattle.faults.proofs.TextLines.{lines-iff}
 use Rattle.reader.proofs.Progress.{state, AllSaid, lines-said, start-said}
 use Rattle.reader.proofs.WrittenLines.{Reads, counted, reads-then, reads-rules, reads-declarations}
 
@@ -35,7 +35,7 @@ unfolding said
 accepted-text text p names e = go (leb (length text) textLimit) e
   where
     go : (b : Bool) → cond b (readLines 1 (start text) (lines text)) (refused TextTooLong 0) ≡ accepted p names → AllSaid p names text
-    go true i = subst (AllSaid p names) (joined-lines text) (lines-said 1 (start text) (lines text) [] (start-said text) i)
+    go true i = subst (AllSaid p names) (sym (lines-iff text (lines text) .0 refl .0)) (lines-said 1 (start text) (lines text) [] (start-said text) i)
     go false i = absurd (let z : _≡_ {A = ℕ} 0 1 = cc in omega arith)
 
 -- document 01: the writer gives for an accepted text's stores the same text

@@ -26,14 +26,17 @@ use Rattle.text.specs.Text.{named, listLine, ruleLine, ruleText, declarations}
 use Rattle.lines.specs.declared.stage.Stage.{Stage}
 use Rattle.lines.specs.declared.stage.Stage.the-variants.{Declaring, Fixing, Ruling}
 use Rattle.lines.specs.Lines.{lines}
-use Rattle.lines.specs.Forms.{Word, atoms, min, vary, fix, isName, formOf}
+use Rattle.lines.specs.Forms.{Word, atoms, min, vary, fix, LineForm, declares, rules, isName}
 use Rattle.lines.specs.Faults.{SoFar, countsOf, next, expects, stageAfter, classesAfter, classWords, declared, numbered, with-rule, filled, stepForm}
 use Rattle.lines.specs.Said.{onStep, readLines}
 use Rattle.gathering.proofs.HeldState.{Fits}
-use Rattle.reader.proofs.LineText.{WholeLine, lines-cons}
-use Rattle.reader.proofs.NameText.{IsName}
-use Rattle.reader.proofs.FormText.{wordOf, list-form, list-whole, rule-line-form, rule-whole}
-use Rattle.reader.proofs.NumberedNames.{Declared, declared-at, numbers-of-names, names-differ, free-twice}
+use Rattle.faults.specs.TextLines.{EndedLine}
+use Rattle.faults.specs.LineForms.{IsName, HasForm}
+use Rattle.faults.specs.Sentences.{Among}
+use Rattle.faults.proofs.TextLines.{lines-iff}
+use Rattle.faults.proofs.LineForms.{name-law, form-iff}
+use Rattle.reader.proofs.FormText.{wordOf, list-line, list-ended, rule-line, rule-ended}
+use Rattle.reader.proofs.NumberedNames.{different-law, declared-at, numbers-of-names, names-differ}
 use Rattle.reader.proofs.ClassParts.{chosen, is, upTo, classNames, class-chosen, chosen-none, chosen-every, all-chosen, distinct-chosen, length-chosen, chosen-words, Next, chosen-next, role-parts}
 use Rattle.reader.proofs.LineSteps.{Declares, declare-says, Listed, Adds, rule-says}
 use Rattle.reader.proofs.Progress.{state}
@@ -54,13 +57,20 @@ reads-then {a} {b} {c} {s} {t} f g = record { reads = both }
         let q = g .reads (r .0) rest in
         (q .0, ap (λ l. readLines k a (lines l)) (append-assoc s t rest) ∙ r .1 ∙ q .1)
 
-reads-line : {st after : SoFar} (l : List ℕ) → WholeLine l → stepForm st (formOf l) ≡ next after → Reads st l after
+lines-cons : (l rest : List ℕ) → EndedLine l → lines (l ++ rest) ≡ l ∷ lines rest
+lines-cons l rest h =
+    let later = lines-iff rest (lines rest) .0 refl in
+    lines-iff (l ++ rest) (l ∷ lines rest) .1 (ap (λ t. l ++ t) (later .0), inl (h, later .1))
+
+reads-line : {st after : SoFar} (l : List ℕ) (f : LineForm) → EndedLine l → HasForm l f → stepForm st f ≡ next after → Reads st l after
 unfolding readLines
-reads-line {st} l w e = record { reads = λ k rest. (suc k, ap (readLines k st) (lines-cons l rest w) ∙ ap (λ p. onStep p k (λ a. readLines (suc k) a (lines rest))) e) }
+reads-line {st} l f w h e =
+    let s = ap (stepForm st) (form-iff l f .1 h) ∙ e in
+    record { reads = λ k rest. (suc k, ap (readLines k st) (lines-cons l rest w) ∙ ap (λ p. onStep p k (λ a. readLines (suc k) a (lines rest))) s) }
 
 allowed-name : (kind : Kind) (x : List ℕ) → T (allowed kind x) → IsName x
 unfolding allowed
-allowed-name kind x h = go kind (nameClass x) h
+allowed-name kind x h = name-law x .0 (go kind (nameClass x) h)
   where
     go : (k : Kind) (c : NameClass) → T (takes k c) → T (isName c)
     go Plain House t = tt
@@ -78,14 +88,14 @@ allowed-names kind xs h = all-imp (λ x. T (allowed kind x)) IsName (allowed-nam
 reads-declares : {st : SoFar} {w : Word} {xs : List (List ℕ)} → Declares st w xs → Reads st (listLine (wordOf w) xs) (declared st w xs)
 reads-declares {st} {w} {xs} d =
     let h = allowed-names (st .kind) xs (d .all-allowed) in
-    reads-line (listLine (wordOf w) xs) (list-whole w xs h) (ap (stepForm st) (list-form w xs h) ∙ declare-says st w xs d)
+    reads-line (listLine (wordOf w) xs) (declares w xs) (list-ended w xs h) (list-line w xs, h) (declare-says st w xs d)
 
 reads-rule : {st : SoFar} {hs bs ns : List (List ℕ)} → Adds st hs bs ns → Reads st (ruleLine hs bs ns) (with-rule st (numbered (st .names) hs bs ns))
 reads-rule {st} {hs} {bs} {ns} d =
     let h = allowed-names (st .kind) hs (d .head-listed .all-allowed) in
     let b = allowed-names (st .kind) bs (d .body-listed .all-allowed) in
     let n = allowed-names (st .kind) ns (d .nots-listed .all-allowed) in
-    reads-line (ruleLine hs bs ns) (rule-whole hs bs ns h b n) (ap (stepForm st) (rule-line-form hs bs ns h b n) ∙ rule-says st hs bs ns d)
+    reads-line (ruleLine hs bs ns) (rules hs bs ns) (rule-ended hs bs ns h b n) (rule-line hs bs ns, h, b, n) (rule-says st hs bs ns d)
 
 pub counted : {kind : Kind} {n : ℕ} {names : List (List ℕ)} → NamesForm kind n names → NamesForm kind (length names) names
 counted f = record { count = refl; all-allowed = f .all-allowed; different = f .different }
@@ -99,7 +109,7 @@ not-filled Preference names xs h t = subst (λ l. T (filled Preference (named na
 listed : {kind : Kind} {n : ℕ} {names : List (List ℕ)} (xs : List ℕ) → NamesForm kind n names → ListForm (length names) xs → Listed kind names (named names xs)
 listed {kind} {n} {names} xs f h = record {
   all-allowed = all-map (λ x. T (allowed kind x)) (λ a. getD names a []) xs (all-imp (λ a. a < length names) (λ a. T (allowed kind (getD names a []))) (λ a l. all-at (λ x. T (allowed kind x)) [] names (f .all-allowed) a l) xs (h .0));
-  all-declared = all-map (Declared names) (λ a. getD names a []) xs (all-imp (λ a. a < length names) (λ a. Declared names (getD names a [])) (declared-at names) xs (h .0));
+  all-declared = all-map (Among names) (λ a. getD names a []) xs (all-imp (λ a. a < length names) (λ a. Among names (getD names a [])) (declared-at names) xs (h .0));
   different = names-differ names (f .different) xs (h .0) (h .1);
 }
 
@@ -144,7 +154,7 @@ reads-atoms : (names : List (List ℕ)) → NamesForm Plain (length names) names
 reads-atoms names f room = reads-declares {w = atoms} (record {
   expected = tt;
   all-allowed = f .all-allowed;
-  not-twice = free-twice [] names (f .different);
+  not-twice = different-law [] names tt .1 (f .different);
   counts-fit = record { atoms = room; rules = omega arith; occurrences = omega arith };
   classes-fit = omega arith;
 })
@@ -180,7 +190,7 @@ module _ (k : ℕ) (words : List ℕ) (names : List (List ℕ)) (few : k ≤ cla
       let d : Declares (part a stage j) w xs = record {
         expected = ok;
         all-allowed = all-chosen (λ x. T (allowed Preference x)) (is b) words names (f .all-allowed);
-        not-twice = free-twice old xs (subst Distinct e (distinct-chosen (upTo b) words names (f .different)));
+        not-twice = different-law old xs (distinct-chosen (upTo a) words names (f .different)) .1 (subst Distinct e (distinct-chosen (upTo b) words names (f .different)));
         counts-fit = record { atoms = omega (arith, ap length e, length-chosen (upTo b) words names); rules = omega arith; occurrences = omega arith };
         classes-fit = fits;
       } in
