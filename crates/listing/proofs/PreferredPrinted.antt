@@ -14,11 +14,11 @@ use Rattle.rules.specs.Preferred.{Preferred}
 use Rattle.rules.proofs.Lists.{all-at}
 use Rattle.stores.specs.Program.{Program, ProgramForm, ClassesForm}
 use Rattle.walks.specs.Walk.{nextVerdict, preferredSets}
-use Rattle.walks.specs.Listings.{listed, goOn, ListingStep, Whole, stepAfter, CutShort}
+use Rattle.walks.specs.Listings.{listed, goOn, Whole, stepAfter, CutShort}
 use Rattle.walks.specs.declared.answers.NextState.{NextState}
 use Rattle.walks.specs.declared.answers.NextState.the-variants.{State, Nothing, Spent, Refused}
 use Rattle.walks.proofs.NextStates.{next-means}
-use Rattle.walks.proofs.Listing.{lists-preferred, listing as listing-means}
+use Rattle.walks.proofs.Listing.{lists-preferred, listing as listing-means, step-after}
 use Rattle.printing.specs.Printed.{stateLine, totalLine, spentLine}
 use Rattle.listing.specs.Listed.{onNext, listing, wholeListing}
 use Rattle.listing.specs.ListedMasks.{Inside}
@@ -109,11 +109,6 @@ module _ (p : Program) (count : length (p .words) ≡ p .atoms) (names : List (L
   set-at : (i : ℕ) → i < length sets → (getD sets i 0 < 2 ^ length (p .words)) × Preferred (p .words) (p .rules) (getD sets i 0)
   set-at i l = all-at (λ s. (s < 2 ^ length (p .words)) × Preferred (p .words) (p .rules) s) 0 sets (lists-preferred (p .words) (p .rules) .only) i l
 
-  -- the step after the first preferred sets
-  last-step : (i : ℕ) → i ≤ length sets → ListingStep (p .words) (p .rules) (stepAfter 0 sets i)
-  last-step zero l = inl refl
-  last-step (suc i) l = let h = set-at i (omega arith) in inr (getD sets i 0, refl, h .0, h .1)
-
   prints-all : Whole (p .words) (p .rules) budgetLimit (listed next steps 0) → PrintsAll p names
   prints-all w =
       let h = subst (λ (l : List ℕ). Lines next (2 ^ p .atoms) (next-inside p count) names (wholeListing p names) l 0 0) (w .states) all-lines in
@@ -125,7 +120,7 @@ module _ (p : Program) (count : length (p .words) ≡ p .atoms) (names : List (L
       total : (v : NextState) → next (stepAfter 0 sets (length sets)) ≡ v → ((s u : ℕ) → v ≡ State s u → ⊥) → ending v (0 + length sets) ≡ totalLine (length sets)
       total (State s u) e never = absurd (never s u refl)
       total (Nothing u) e never = let z : 0 + length sets ≡ length sets = omega arith in ap totalLine z
-      total (Spent u) e never = absurd (w .unspent (stepAfter 0 sets (length sets)) u (last-step (length sets) (omega arith)) e)
+      total (Spent u) e never = absurd (w .unspent (stepAfter 0 sets (length sets)) u (step-after (p .words) (p .rules) (length sets) (omega arith)) e)
       total (Refused f) e never = absurd (next-means (p .words) (p .rules) (stepAfter 0 sets (length sets)) (step-inside (length sets) (omega arith)) budgetLimit .never-refused f e)
         where
           step-inside : (i : ℕ) → i ≤ length sets → stepAfter 0 sets i ≤ 2 ^ length (p .words)

@@ -23,7 +23,8 @@ use Rattle.translated.specs.NameBytes.{FileNames, dottedBytes, generated
 use Rattle.translated.specs.PreferenceStore.{PreferenceStore}
 use Rattle.steps.specs.Roles.{minimisedCount, unfixedCount}
 use Rattle.steps.specs.StepWords.{each}
-use Rattle.translated.proofs.NameLaws.{short-of, first-names, first-decoded, names-length, dotted-run, ends-run}
+use Rattle.name_store.proofs.NameStores.{encoded-length}
+use Rattle.translated.proofs.NameLaws.{short-of, first-names, first-decoded, dotted-run, ends-run}
 use Rattle.translated.proofs.StoreWords.{flat-append}
 use Rattle.translated.proofs.FileStore.{classPart, atoms-at, classes-at, minimised-count, unfixed-count, few-minimised, few-unfixed}
 
@@ -104,7 +105,7 @@ module _ {ws : List ℕ} (h : PreferenceStore ws) where
     pub names-fit : length (encodeNames (translatedNames (decode ws) names)) ≤ storeBytes
     names-fit =
         let f : ProgramForm (translated (decode ws)) = plain-form (decode ws) (h .kind) (h .store .form) in
-        omega (arith, names-length (translatedNames (decode ws) names) (short-of Plain (translatedNames (decode ws) names) (plain .all-allowed)), plain .count, f .atoms-fit)
+        omega (arith, encoded-length (translatedNames (decode ws) names) (short-of Plain (translatedNames (decode ws) names) (plain .all-allowed)), plain .count, f .atoms-fit)
 
     pub names-range : InRange 0 (encodeNames (translatedNames (decode ws) names))
     names-range = record { below = omega (arith, names-fit) }

@@ -1,5 +1,5 @@
 -- The names of the translation, name by name.
-use Prim.Native.Nat.{ℕ, zero, suc, _+_, _-_, _*_, _≤_, _<_}
+use Prim.Native.Nat.{ℕ, zero, suc, _+_, _-_, _≤_, _<_}
 use native.Mathlib.Omega.{arith}
 use native.Mathlib.Nat.{add-zero}
 use mathlib.Core.Path.{_≡_, refl, sym, ap, ap₂, _∙_, subst}
@@ -10,7 +10,7 @@ use lib.ListN.{length, getD, take, drop, length-append, length-drop}
 use lib.Seq.{take-all, drop-drop, length-take-le, getD-drop, take-append-seam, drop-append-seam}
 use borrow.Author.Tests.{lt-ltb, le-ltb}
 use Rattle.kinds.specs.Words.{decimal}
-use Rattle.kinds.specs.Sizes.{longestName, longestEntry}
+use Rattle.kinds.specs.Sizes.{longestName}
 use Rattle.kinds.specs.Limits.{classLimit}
 use Rattle.kinds.specs.declared.limits.Kind.{Kind}
 use Rattle.rules.specs.Lists.{All, flat, from}
@@ -106,18 +106,17 @@ module _ {letter count : ℕ} {bytes before : List ℕ} {at : ℕ} {now : List �
 
 -- a store of short names
 
-pub Short : List (List ℕ) → Type 0
+abbrev pub Short : List (List ℕ) → Type 0
 Short names = All (λ x. length x ≤ longestName) names
 
 pub short-of : (kind : Kind) (names : List (List ℕ)) → All (λ x. T (allowed kind x)) names → Short names
-unfolding Short
 short-of kind names h = all-imp (λ x. T (allowed kind x)) (λ x. length x ≤ longestName) (λ x t. allowed-short kind x t) names h
 
 rest-bytes : (x bs : List ℕ) → drop (1 + length x) (nameBytes x ++ bs) ≡ bs
 rest-bytes x bs = sym (drop-drop (length x) 1 (nameBytes x ++ bs)) ∙ drop-append-seam x bs
 
 pub first-names : (names : List (List ℕ)) → Short names → (c : ℕ) → c ≤ length names → FileNames c (encodeNames names)
-unfolding Short encodeNames
+unfolding encodeNames
 first-names names h zero l = tt
 first-names [] h (suc c) l = absurd (omega arith)
 first-names (x ∷ names) h (suc c) l = (
@@ -132,11 +131,6 @@ first-decoded [] (suc c) l = absurd (omega arith)
 first-decoded (x ∷ names) (suc c) l =
     ap₂ (λ (y : List ℕ) (ys : List (List ℕ)). y ∷ ys) (take-append-seam x (flat nameBytes names))
     (ap (decodeNames c) (rest-bytes x (flat nameBytes names)) ∙ first-decoded names c (omega arith))
-
-pub names-length : (names : List (List ℕ)) → Short names → length (encodeNames names) ≤ longestEntry * length names
-unfolding Short encodeNames
-names-length [] h = omega arith
-names-length (x ∷ names) h = omega (arith, length-append x (flat nameBytes names), names-length names (h .1), h .0)
 
 -- the runs of names
 

@@ -53,7 +53,8 @@ module _ (ws : List ℕ) (rs : List (Rule ℕ)) where
         in-order = filter-part (preferred? ws rs) (walkOrder (length ws));
       }
 
-  step-after : (c : ℕ) → c ≤ length (preferredSets ws rs) → ListingStep ws rs (stepAfter 0 (preferredSets ws rs) c)
+  -- the step after the first preferred sets
+  pub step-after : (c : ℕ) → c ≤ length (preferredSets ws rs) → ListingStep ws rs (stepAfter 0 (preferredSets ws rs) c)
   step-after zero l = inl refl
   step-after (suc c) l =
       let h = all-at (λ s. (s < 2 ^ length ws) × Preferred ws rs s) 0 (preferredSets ws rs) (lists-preferred .only) c (omega arith) in
