@@ -4,6 +4,7 @@ use mathlib.Core.List.{List, [], _∷_}
 use mathlib.Core.Bool.{true, false}
 use Prim.Native.Nat.{ℕ}
 use lib.ListN.{replicate}
+use Rattle.kinds.specs.Words.{bytes}
 use Rattle.kinds.specs.declared.limits.Kind.the-variants.{Plain, Preference}
 use Rattle.names.specs.declared.forms.NameClass.the-variants.{House, Generated, TooLong, Wrong}
 use Rattle.name_store.specs.declared.index.Found.the-variants.{At, Missing}
@@ -24,27 +25,27 @@ unfolding nameClass house?
 lengths = (refl, refl, refl, refl)
 
 -- E.0, E.16, E.17, E.01
-pub class-numbers : (nameClass (69 ∷ 46 ∷ 48 ∷ []) ≡ Generated)
-    × (nameClass (69 ∷ 46 ∷ 49 ∷ 54 ∷ []) ≡ Generated)
-    × (nameClass (69 ∷ 46 ∷ 49 ∷ 55 ∷ []) ≡ Wrong)
-    × (nameClass (69 ∷ 46 ∷ 48 ∷ 49 ∷ []) ≡ Wrong)
+pub class-numbers : (nameClass (bytes "E.0") ≡ Generated)
+    × (nameClass (bytes "E.16") ≡ Generated)
+    × (nameClass (bytes "E.17") ≡ Wrong)
+    × (nameClass (bytes "E.01") ≡ Wrong)
 unfolding nameClass house? classNumber?
 class-numbers = (refl, refl, refl, refl)
 
 -- U, U.a, 1a, the empty name, aB
-pub forms : (nameClass (85 ∷ []) ≡ Generated)
-    × (nameClass (85 ∷ 46 ∷ 97 ∷ []) ≡ Wrong)
-    × (nameClass (49 ∷ 97 ∷ []) ≡ Wrong)
+pub forms : (nameClass (bytes "U") ≡ Generated)
+    × (nameClass (bytes "U.a") ≡ Wrong)
+    × (nameClass (bytes "1a") ≡ Wrong)
     × (nameClass [] ≡ Wrong)
-    × (nameClass (97 ∷ 66 ∷ []) ≡ Wrong)
+    × (nameClass (bytes "aB") ≡ Wrong)
 unfolding nameClass house? classNumber?
 forms = (refl, refl, refl, refl, refl)
 
 -- a generated name, and `a`, in either kind
-pub kinds : (allowed Plain (85 ∷ []) ≡ true)
-    × (allowed Preference (85 ∷ []) ≡ false)
-    × (allowed Plain (97 ∷ []) ≡ true)
-    × (allowed Preference (97 ∷ []) ≡ true)
+pub kinds : (allowed Plain (bytes "U") ≡ true)
+    × (allowed Preference (bytes "U") ≡ false)
+    × (allowed Plain (bytes "a") ≡ true)
+    × (allowed Preference (bytes "a") ≡ true)
 unfolding allowed nameClass house?
 kinds = (refl, refl, refl, refl)
 
@@ -59,7 +60,7 @@ unfolding names? namesFrom? sameBytes allowed nameClass house?
 stores = (refl, refl, refl, refl, refl, refl)
 
 -- `bc` is number 1 of `a` and `bc`, `b` is none
-pub numbers : (found (98 ∷ 99 ∷ []) (decodeNames 2 (1 ∷ 97 ∷ 2 ∷ 98 ∷ 99 ∷ [])) ≡ At 1)
-    × (found (98 ∷ []) (decodeNames 2 (1 ∷ 97 ∷ 2 ∷ 98 ∷ 99 ∷ [])) ≡ Missing)
+pub numbers : (found (bytes "bc") (decodeNames 2 (1 ∷ 97 ∷ 2 ∷ 98 ∷ 99 ∷ [])) ≡ At 1)
+    × (found (bytes "b") (decodeNames 2 (1 ∷ 97 ∷ 2 ∷ 98 ∷ 99 ∷ [])) ≡ Missing)
 unfolding foundFrom decodeNames sameBytes
 numbers = (refl, refl)

@@ -2,7 +2,7 @@
 use mathlib.Core.Path.{_≡_, refl}
 use mathlib.Core.List.{[], _∷_}
 use lib.ListN.{length}
-use Rattle.kinds.specs.Words.{digits}
+use Rattle.kinds.specs.Words.{digits, bytes}
 use Rattle.kinds.specs.declared.limits.Kind.the-variants.{Preference}
 use Rattle.rules.specs.Lists.{sum}
 use Rattle.rules.specs.Rules.{rule, occurrences}
@@ -41,17 +41,17 @@ unfolding translatedRules translation step1 step2 step3 step4 step5 step6 step7 
 sample-rules = refl
 
 -- `a` and `b` for the two names
-sample-names : translatedNames sample ((97 ∷ []) ∷ (98 ∷ []) ∷ []) ≡ (
-    (97 ∷ [])
-    ∷ (98 ∷ [])
-    ∷ (78 ∷ 46 ∷ 97 ∷ [])
-    ∷ (78 ∷ 46 ∷ 98 ∷ [])
-    ∷ (83 ∷ 46 ∷ 97 ∷ [])
-    ∷ (83 ∷ 46 ∷ 98 ∷ [])
-    ∷ (68 ∷ 46 ∷ 97 ∷ [])
-    ∷ (69 ∷ 46 ∷ 48 ∷ [])
-    ∷ (69 ∷ 46 ∷ 49 ∷ [])
-    ∷ (85 ∷ [])
+sample-names : translatedNames sample (bytes "a" ∷ bytes "b" ∷ []) ≡ (
+    bytes "a"
+    ∷ bytes "b"
+    ∷ bytes "N.a"
+    ∷ bytes "N.b"
+    ∷ bytes "S.a"
+    ∷ bytes "S.b"
+    ∷ bytes "D.a"
+    ∷ bytes "E.0"
+    ∷ bytes "E.1"
+    ∷ bytes "U"
     ∷ [])
 unfolding translatedNames declared digits
 sample-names = refl

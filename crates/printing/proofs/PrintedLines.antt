@@ -14,7 +14,7 @@ use Rattle.kinds.specs.declared.refusals.Refusal.{Refusal}
 use Rattle.kinds.specs.Refusals.{refusalNumber}
 use Rattle.rules.specs.Lists.{keep, filter, flat, from}
 use Rattle.rules.specs.Sets.{has}
-use Rattle.kinds.specs.Words.{space, digits, decimal}
+use Rattle.kinds.specs.Words.{space, digits, decimal, bytes}
 use Rattle.text.specs.Text.{openText, listLine, item, named}
 use Rattle.output.specs.Emitted.{Emitted, InRange}
 use Rattle.output.proofs.Emitting.{Ahead}
@@ -55,7 +55,7 @@ last-digit x h l =
 
 -- a refusal
 
-pub refused-opens : (f : Refusal) (line : ℕ) {n : ℕ} → n ≡ refusalNumber f → Ahead (refusedText f line) (40 ∷ 114 ∷ 101 ∷ 102 ∷ 117 ∷ 115 ∷ 101 ∷ 100 ∷ 32 ∷ []) (decimal n ++ (space ∷ (decimal line ++ closing)))
+pub refused-opens : (f : Refusal) (line : ℕ) {n : ℕ} → n ≡ refusalNumber f → Ahead (refusedText f line) (bytes "(refused ") (decimal n ++ (space ∷ (decimal line ++ closing)))
 unfolding refusedText
 refused-opens f line e = record { is = rw e }
 
@@ -103,7 +103,7 @@ state-opens names s n e =
     let z : length names ≡ n - 0 = omega arith in
     record { is = ap (λ (c : ℕ). (40 ∷ stateWord) ++ (flat item (named names (filter (has s) (from 0 c))) ++ closing)) z }
 
-pub total-opens : (c : ℕ) → Ahead (totalLine c) (40 ∷ 116 ∷ 111 ∷ 116 ∷ 97 ∷ 108 ∷ 32 ∷ []) (decimal c ++ closing)
+pub total-opens : (c : ℕ) → Ahead (totalLine c) (bytes "(total ") (decimal c ++ closing)
 unfolding totalLine
 total-opens c = record { is = refl }
 

@@ -1,6 +1,7 @@
 use Prim.Native.Nat.{ℕ}
 use mathlib.Core.Path.{_≡_, refl}
 use mathlib.Core.List.{List, [], _∷_}
+use Rattle.kinds.specs.Words.{bytes}
 use Rattle.kinds.specs.declared.limits.Kind.the-variants.{Preference}
 use Rattle.kinds.specs.declared.refusals.Refusal.the-variants.{BrokenForm, Name, DeclaredTwice, Undeclared, TwiceInList, FilledNot}
 use Rattle.rules.specs.Rules.{rule}
@@ -15,10 +16,10 @@ use Rattle.lines.specs.Faults.{SoFar, twice, nameNumber, declare, addRule}
 use Rattle.lines.specs.Said.{accepted, refused, start, readLines, said, programOf}
 
 fileA : List ℕ
-fileA = 40 ∷ 109 ∷ 105 ∷ 110 ∷ 32 ∷ 115 ∷ 101 ∷ 110 ∷ 115 ∷ 111 ∷ 114 ∷ 41 ∷ 10 ∷ 40 ∷ 109 ∷ 105 ∷ 110 ∷ 32 ∷ 108 ∷ 97 ∷ 109 ∷ 112 ∷ 41 ∷ 10 ∷ 40 ∷ 118 ∷ 97 ∷ 114 ∷ 121 ∷ 32 ∷ 100 ∷ 97 ∷ 114 ∷ 107 ∷ 41 ∷ 10 ∷ 40 ∷ 102 ∷ 105 ∷ 120 ∷ 41 ∷ 10 ∷ 40 ∷ 114 ∷ 117 ∷ 108 ∷ 101 ∷ 32 ∷ 40 ∷ 104 ∷ 101 ∷ 97 ∷ 100 ∷ 32 ∷ 115 ∷ 101 ∷ 110 ∷ 115 ∷ 111 ∷ 114 ∷ 32 ∷ 108 ∷ 97 ∷ 109 ∷ 112 ∷ 41 ∷ 32 ∷ 40 ∷ 98 ∷ 111 ∷ 100 ∷ 121 ∷ 41 ∷ 32 ∷ 40 ∷ 110 ∷ 111 ∷ 116 ∷ 41 ∷ 41 ∷ 10 ∷ 40 ∷ 114 ∷ 117 ∷ 108 ∷ 101 ∷ 32 ∷ 40 ∷ 104 ∷ 101 ∷ 97 ∷ 100 ∷ 32 ∷ 100 ∷ 97 ∷ 114 ∷ 107 ∷ 41 ∷ 32 ∷ 40 ∷ 98 ∷ 111 ∷ 100 ∷ 121 ∷ 32 ∷ 108 ∷ 97 ∷ 109 ∷ 112 ∷ 41 ∷ 32 ∷ 40 ∷ 110 ∷ 111 ∷ 116 ∷ 41 ∷ 41 ∷ 10 ∷ []
+fileA = bytes "(min sensor)\n(min lamp)\n(vary dark)\n(fix)\n(rule (head sensor lamp) (body) (not))\n(rule (head dark) (body lamp) (not))\n"
 
 stateA : SoFar
-stateA = record { kind = Preference; stage = Ruling; classes = 2; words = 1 ∷ 2 ∷ 17 ∷ []; names = (115 ∷ 101 ∷ 110 ∷ 115 ∷ 111 ∷ 114 ∷ []) ∷ (108 ∷ 97 ∷ 109 ∷ 112 ∷ []) ∷ (100 ∷ 97 ∷ 114 ∷ 107 ∷ []) ∷ []; program-rules = rule (0 ∷ 1 ∷ []) [] [] ∷ rule (2 ∷ []) (1 ∷ []) [] ∷ [] }
+stateA = record { kind = Preference; stage = Ruling; classes = 2; words = 1 ∷ 2 ∷ 17 ∷ []; names = bytes "sensor" ∷ bytes "lamp" ∷ bytes "dark" ∷ []; program-rules = rule (0 ∷ 1 ∷ []) [] [] ∷ rule (2 ∷ []) (1 ∷ []) [] ∷ [] }
 
 a-said : said fileA ≡ accepted (programOf stateA) (stateA .names)
 unfolding fileA stateA said start readLines lines linesFrom lineLength items itemsFrom run span splitNames splitList declaredForm ruleForm formOf twice nameNumber declare addRule nameClass house? classNumber? allowed sameBytes
@@ -28,15 +29,15 @@ a-text : textOf (programOf stateA) (stateA .names) ≡ fileA
 unfolding fileA stateA textOf listLine openText ruleLine
 a-text = refl
 
-filled : said (40 ∷ 118 ∷ 97 ∷ 114 ∷ 121 ∷ 41 ∷ 10 ∷ 40 ∷ 102 ∷ 105 ∷ 120 ∷ 32 ∷ 97 ∷ 41 ∷ 10 ∷ 40 ∷ 114 ∷ 117 ∷ 108 ∷ 101 ∷ 32 ∷ 40 ∷ 104 ∷ 101 ∷ 97 ∷ 100 ∷ 41 ∷ 32 ∷ 40 ∷ 98 ∷ 111 ∷ 100 ∷ 121 ∷ 41 ∷ 32 ∷ 40 ∷ 110 ∷ 111 ∷ 116 ∷ 32 ∷ 97 ∷ 41 ∷ 41 ∷ 10 ∷ []) ≡ refused FilledNot 3
+filled : said (bytes "(vary)\n(fix a)\n(rule (head) (body) (not a))\n") ≡ refused FilledNot 3
 unfolding said start readLines lines linesFrom lineLength items itemsFrom run span splitNames splitList declaredForm ruleForm formOf twice nameNumber declare addRule nameClass house? classNumber? allowed sameBytes
 filled = refl
 
-declared-twice : said (40 ∷ 109 ∷ 105 ∷ 110 ∷ 32 ∷ 97 ∷ 41 ∷ 10 ∷ 40 ∷ 118 ∷ 97 ∷ 114 ∷ 121 ∷ 32 ∷ 97 ∷ 41 ∷ 10 ∷ []) ≡ refused DeclaredTwice 2
+declared-twice : said (bytes "(min a)\n(vary a)\n") ≡ refused DeclaredTwice 2
 unfolding said start readLines lines linesFrom lineLength items itemsFrom run span splitNames splitList declaredForm ruleForm formOf twice nameNumber declare addRule nameClass house? classNumber? allowed sameBytes
 declared-twice = refl
 
-missing : said (40 ∷ 109 ∷ 105 ∷ 110 ∷ 32 ∷ 97 ∷ 41 ∷ 10 ∷ []) ≡ refused BrokenForm 2
+missing : said (bytes "(min a)\n") ≡ refused BrokenForm 2
 unfolding said start readLines lines linesFrom lineLength items itemsFrom run span splitNames splitList declaredForm ruleForm formOf twice nameNumber declare addRule nameClass house? classNumber? allowed sameBytes
 missing = refl
 
@@ -44,22 +45,22 @@ empty : said ([]) ≡ refused BrokenForm 1
 unfolding said start readLines lines linesFrom lineLength items itemsFrom run span splitNames splitList declaredForm ruleForm formOf twice nameNumber declare addRule nameClass house? classNumber? allowed sameBytes
 empty = refl
 
-noend : said (40 ∷ 118 ∷ 97 ∷ 114 ∷ 121 ∷ 41 ∷ 10 ∷ 40 ∷ 102 ∷ 105 ∷ 120 ∷ 41 ∷ []) ≡ refused BrokenForm 2
+noend : said (bytes "(vary)\n(fix)") ≡ refused BrokenForm 2
 unfolding said start readLines lines linesFrom lineLength items itemsFrom run span splitNames splitList declaredForm ruleForm formOf twice nameNumber declare addRule nameClass house? classNumber? allowed sameBytes
 noend = refl
 
-gen : said (40 ∷ 109 ∷ 105 ∷ 110 ∷ 32 ∷ 78 ∷ 46 ∷ 97 ∷ 41 ∷ 10 ∷ []) ≡ refused Name 1
+gen : said (bytes "(min N.a)\n") ≡ refused Name 1
 unfolding said start readLines lines linesFrom lineLength items itemsFrom run span splitNames splitList declaredForm ruleForm formOf twice nameNumber declare addRule nameClass house? classNumber? allowed sameBytes
 gen = refl
 
-und : said (40 ∷ 97 ∷ 116 ∷ 111 ∷ 109 ∷ 115 ∷ 32 ∷ 69 ∷ 46 ∷ 51 ∷ 32 ∷ 85 ∷ 41 ∷ 10 ∷ 40 ∷ 114 ∷ 117 ∷ 108 ∷ 101 ∷ 32 ∷ 40 ∷ 104 ∷ 101 ∷ 97 ∷ 100 ∷ 32 ∷ 97 ∷ 41 ∷ 32 ∷ 40 ∷ 98 ∷ 111 ∷ 100 ∷ 121 ∷ 41 ∷ 32 ∷ 40 ∷ 110 ∷ 111 ∷ 116 ∷ 41 ∷ 41 ∷ 10 ∷ []) ≡ refused Undeclared 2
+und : said (bytes "(atoms E.3 U)\n(rule (head a) (body) (not))\n") ≡ refused Undeclared 2
 unfolding said start readLines lines linesFrom lineLength items itemsFrom run span splitNames splitList declaredForm ruleForm formOf twice nameNumber declare addRule nameClass house? classNumber? allowed sameBytes
 und = refl
 
-inlist : said (40 ∷ 118 ∷ 97 ∷ 114 ∷ 121 ∷ 32 ∷ 97 ∷ 41 ∷ 10 ∷ 40 ∷ 102 ∷ 105 ∷ 120 ∷ 41 ∷ 10 ∷ 40 ∷ 114 ∷ 117 ∷ 108 ∷ 101 ∷ 32 ∷ 40 ∷ 104 ∷ 101 ∷ 97 ∷ 100 ∷ 41 ∷ 32 ∷ 40 ∷ 98 ∷ 111 ∷ 100 ∷ 121 ∷ 32 ∷ 97 ∷ 32 ∷ 97 ∷ 41 ∷ 32 ∷ 40 ∷ 110 ∷ 111 ∷ 116 ∷ 41 ∷ 41 ∷ 10 ∷ []) ≡ refused TwiceInList 3
+inlist : said (bytes "(vary a)\n(fix)\n(rule (head) (body a a) (not))\n") ≡ refused TwiceInList 3
 unfolding said start readLines lines linesFrom lineLength items itemsFrom run span splitNames splitList declaredForm ruleForm formOf twice nameNumber declare addRule nameClass house? classNumber? allowed sameBytes
 inlist = refl
 
-spacing : said (40 ∷ 118 ∷ 97 ∷ 114 ∷ 121 ∷ 32 ∷ 32 ∷ 97 ∷ 41 ∷ 10 ∷ []) ≡ refused BrokenForm 1
+spacing : said (bytes "(vary  a)\n") ≡ refused BrokenForm 1
 unfolding said start readLines lines linesFrom lineLength items itemsFrom run span splitNames splitList declaredForm ruleForm formOf twice nameNumber declare addRule nameClass house? classNumber? allowed sameBytes
 spacing = refl
