@@ -337,6 +337,8 @@ print-refuses text = record {
   refused = λ s r line h. let e = said-refused text r line .1 h in (rw (le-leb (length text) streamLimit s, e), rw (le-leb (length text) streamLimit s, e));
   plain = λ s p names a k. let e = said-accepted text p names .1 a in (rw (le-leb (length text) streamLimit s, e, k), rw (le-leb (length text) streamLimit s, e, k));
   many-atoms = λ s p names a k m. let e = said-accepted text p names .1 a in rw (le-leb (length text) streamLimit s, e, k, lt-leb (p .atoms) walkAtoms m);
+  translated = λ s p names a k. let e = said-accepted text p names .1 a in rw (le-leb (length text) streamLimit s, e, k);
+  listed = λ s p names a k few. let e = said-accepted text p names .1 a in rw (le-leb (length text) streamLimit s, e, k, le-leb (p .atoms) walkAtoms few);
 }
 
 prints-into : (text before : List ℕ) → PrintsInto text before

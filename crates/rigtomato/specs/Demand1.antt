@@ -20,11 +20,12 @@ use Rattle.reader.specs.WrittenText.{WrittenText}
 use Rattle.writer.specs.declared.Written.{Written}
 use Rattle.writer.specs.declared.Written.the-variants.{Text, Refused as NotWritten}
 use Rattle.writer.specs.Answers.{storesText, writeAnswer, writeOutput}
-use Rattle.translation.specs.Answers.{storesTranslation, translateAnswer, translateOutput}
+use Rattle.translation.specs.Answers.{translationText, storesTranslation, translateAnswer, translateOutput}
 use Rattle.walks.specs.declared.answers.Verdict.the-variants.{Refused as NotJudged}
 use Rattle.walks.specs.declared.answers.NextState.the-variants.{Refused as NotSearched}
 use Rattle.walks.specs.Answers.{preferredAnswer, stableAnswer, nextAnswer}
 use Rattle.printing.specs.Printed.{refusedText, shown}
+use Rattle.listing.specs.Listed.{wholeListing, streamed}
 use Rattle.programs.specs.Programs.{translatePrinted, statesPrinted}
 
 -- tested in this order: refusal x where its sentence holds, else what the later ones say
@@ -113,7 +114,8 @@ pub record PrintsInto (text before : List ℕ) : Type 0 where
   pub all : length text ≤ length before → over (shown text before) before ≡ text ++ drop (length text) before
   pub nothing : length before < length text → over (shown text before) before ≡ before
 
--- what they print where they refuse: a text past their limit, one that the reader refuses, a plain program; the lister over 60 atoms
+-- what they print: a refusal for a text past their limit, for one that the reader refuses, for a plain program, and of the lister over 60 atoms;
+-- else the translation or the listing, and refusal 9 where that passes their output
 pub record PrintRefuses (text : List ℕ) : Type 0 where
   pub too-long : streamLimit < length text → (translatePrinted text ≡ refusedText TextTooLong 0) × (statesPrinted text ≡ refusedText TextTooLong 0)
   pub refused : length text ≤ streamLimit → (r : Refusal) (line : ℕ) → Refuses text r line → (translatePrinted text ≡ refusedText r line) × (statesPrinted text ≡ refusedText r line)
@@ -121,6 +123,10 @@ pub record PrintRefuses (text : List ℕ) : Type 0 where
       → (translatePrinted text ≡ refusedText RuleStore 0) × (statesPrinted text ≡ refusedText RuleStore 0)
   pub many-atoms : length text ≤ streamLimit → (p : Program) (names : List (List ℕ)) → Accepts text p names → p .kind ≡ Preference → walkAtoms < p .atoms
       → statesPrinted text ≡ refusedText TooManyAtoms 0
+  pub translated : length text ≤ streamLimit → (p : Program) (names : List (List ℕ)) → Accepts text p names → p .kind ≡ Preference
+      → translatePrinted text ≡ streamed (translationText p names)
+  pub listed : length text ≤ streamLimit → (p : Program) (names : List (List ℕ)) → Accepts text p names → p .kind ≡ Preference → p .atoms ≤ walkAtoms
+      → statesPrinted text ≡ streamed (wholeListing p names)
 
 pub record Demand1 : Type 0 where
   pub read : (text rules names : List ℕ) → ReadRefuses text rules names
