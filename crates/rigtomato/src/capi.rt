@@ -1,18 +1,18 @@
 // The entry points under their C names; a slice crosses as a pointer and a length.
-use crate::fields::ReadFields;
-use crate::fields::VerdictFields;
-use crate::fields::WrittenFields;
-use crate::fields::next_fields;
-use crate::fields::read_fields;
-use crate::fields::verdict_fields;
-use crate::fields::written_fields;
+use fields::ReadFields;
+use fields::VerdictFields;
+use fields::WrittenFields;
+use fields::next_fields;
+use fields::read_fields;
+use fields::verdict_fields;
+use fields::written_fields;
 ghost use mathlib.Core.Path.{_≡_};
 ghost use lib.ListN.{length};
 ghost use Rattle.writer.specs.Answers.{writeAnswer, writeOutput};
 ghost use Rattle.delivery.specs.Answers.{readAnswer, readRules, readNames};
 ghost use Rattle.translation.specs.Answers.{translateAnswer, translateOutput};
 ghost use Rattle.walks.specs.Answers.{preferredAnswer, stableAnswer, nextAnswer};
-ghost use Rattle.rigtomato.specs.Fields.{readFields, writtenFields, verdictFields, nextFields};
+ghost use Rattle.fields.specs.Fields.{readFields, writtenFields, verdictFields, nextFields};
 
 #[no_mangle]
 pub extern "C" fn rigtomato_read(text: &[u8], rules: &mut [u16], names: &mut [u8]) -> ReadFields

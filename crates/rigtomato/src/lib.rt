@@ -1,6 +1,5 @@
 // The public entry points (document 01). None asks anything of its caller.
 pub mod capi;
-pub mod fields;
 
 ghost use mathlib.Core.Path.{_≡_};
 ghost use lib.ListN.{length};

@@ -1,5 +1,5 @@
 use mathlib.Core.Path.{ap, _∙_}
-use Rattle.rigtomato.specs.Fields.{nextFields}
+use Rattle.fields.specs.Fields.{nextFields}
 use borrow.Author.Needs.{needs}
 use Rattle.rigtomato.proofs.capi.rigtomato_next_state.Statement.{statement}
 use Rattle.rigtomato.proofs.capi.rigtomato_next_state.Tie as tie

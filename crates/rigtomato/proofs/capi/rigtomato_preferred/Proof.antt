@@ -1,5 +1,5 @@
 use mathlib.Core.Path.{ap, _∙_}
-use Rattle.rigtomato.specs.Fields.{verdictFields}
+use Rattle.fields.specs.Fields.{verdictFields}
 use borrow.Author.Needs.{needs}
 use Rattle.rigtomato.proofs.capi.rigtomato_preferred.Statement.{statement}
 use Rattle.rigtomato.proofs.capi.rigtomato_preferred.Tie as tie

@@ -1,5 +1,5 @@
 use mathlib.Core.Path.{ap, _∙_}
-use Rattle.rigtomato.specs.Fields.{readFields}
+use Rattle.fields.specs.Fields.{readFields}
 use borrow.Author.Needs.{needs}
 use Rattle.rigtomato.proofs.capi.rigtomato_read.Statement.{statement}
 use Rattle.rigtomato.proofs.capi.rigtomato_read.Tie as tie

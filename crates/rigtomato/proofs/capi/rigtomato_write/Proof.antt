@@ -1,5 +1,5 @@
 use mathlib.Core.Path.{ap, _∙_}
-use Rattle.rigtomato.specs.Fields.{writtenFields}
+use Rattle.fields.specs.Fields.{writtenFields}
 use borrow.Author.Needs.{needs}
 use Rattle.rigtomato.proofs.capi.rigtomato_write.Statement.{statement}
 use Rattle.rigtomato.proofs.capi.rigtomato_write.Tie as tie

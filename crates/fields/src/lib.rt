@@ -5,7 +5,7 @@ use walks::answers::NextState;
 use walks::answers::Verdict;
 use writer::Written;
 ghost use mathlib.Core.Path.{_≡_};
-ghost use Rattle.rigtomato.specs.Fields.{readFields, writtenFields, verdictFields, nextFields};
+ghost use Rattle.fields.specs.Fields.{readFields, writtenFields, verdictFields, nextFields};
 
 // refusal 0: accepted
 #[repr(C)]

@@ -1,10 +1,10 @@
 use mathlib.Core.Path.{sym, ap, _∙_}
 use Prim.Native.Nat.{ℕ}
 use borrow.Author.Needs.{needs}
-use Rattle.rigtomato.specs.Fields.{writtenFields}
-use Rattle.rigtomato.specs.declared.fields.WrittenFields.{WrittenFields}
-use Rattle.rigtomato.proofs.fields.written_fields.Statement.{statement}
-use Rattle.rigtomato.proofs.fields.written_fields.Tie as tie
+use Rattle.fields.specs.Fields.{writtenFields}
+use Rattle.fields.specs.declared.WrittenFields.{WrittenFields}
+use Rattle.fields.proofs.written_fields.Statement.{statement}
+use Rattle.fields.proofs.written_fields.Tie as tie
 
 enum-known-answer : tie.Need-enum-known-answer
 enum-known-answer c = search needs

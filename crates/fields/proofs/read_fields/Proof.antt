@@ -1,10 +1,10 @@
 use mathlib.Core.Path.{sym, ap, _∙_}
 use Prim.Native.Nat.{ℕ}
 use borrow.Author.Needs.{needs}
-use Rattle.rigtomato.specs.Fields.{readFields}
-use Rattle.rigtomato.specs.declared.fields.ReadFields.{ReadFields}
-use Rattle.rigtomato.proofs.fields.read_fields.Statement.{statement}
-use Rattle.rigtomato.proofs.fields.read_fields.Tie as tie
+use Rattle.fields.specs.Fields.{readFields}
+use Rattle.fields.specs.declared.ReadFields.{ReadFields}
+use Rattle.fields.proofs.read_fields.Statement.{statement}
+use Rattle.fields.proofs.read_fields.Tie as tie
 
 enum-known-answer : tie.Need-enum-known-answer
 enum-known-answer c = search needs

@@ -8,9 +8,9 @@ use Rattle.walks.specs.declared.answers.Verdict.{Verdict}
 use Rattle.walks.specs.declared.answers.Verdict.the-variants.{Yes, Broken, Beaten, Spent, Refused as NotJudged}
 use Rattle.walks.specs.declared.answers.NextState.{NextState}
 use Rattle.walks.specs.declared.answers.NextState.the-variants.{State, Nothing, Spent as NextSpent, Refused as NotSearched}
-use Rattle.rigtomato.specs.declared.fields.ReadFields.{ReadFields}
-use Rattle.rigtomato.specs.declared.fields.WrittenFields.{WrittenFields}
-use Rattle.rigtomato.specs.declared.fields.VerdictFields.{VerdictFields}
+use Rattle.fields.specs.declared.ReadFields.{ReadFields}
+use Rattle.fields.specs.declared.WrittenFields.{WrittenFields}
+use Rattle.fields.specs.declared.VerdictFields.{VerdictFields}
 
 -- refusal 0: accepted
 abbrev pub readFields : Read → ReadFields

@@ -1,10 +1,10 @@
 use mathlib.Core.Path.{sym, ap, _∙_}
 use Prim.Native.Nat.{ℕ}
 use borrow.Author.Needs.{needs}
-use Rattle.rigtomato.specs.Fields.{nextFields}
-use Rattle.rigtomato.specs.declared.fields.VerdictFields.{VerdictFields}
-use Rattle.rigtomato.proofs.fields.next_fields.Statement.{statement}
-use Rattle.rigtomato.proofs.fields.next_fields.Tie as tie
+use Rattle.fields.specs.Fields.{nextFields}
+use Rattle.fields.specs.declared.VerdictFields.{VerdictFields}
+use Rattle.fields.proofs.next_fields.Statement.{statement}
+use Rattle.fields.proofs.next_fields.Tie as tie
 
 enum-known-answer : tie.Need-enum-known-answer
 enum-known-answer c = search needs

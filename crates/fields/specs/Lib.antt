@@ -1,0 +1,2 @@
+-- The answers as fields of numbers.
+pub mod Fields
