@@ -14,7 +14,7 @@ use Rattle.name_store.specs.NameStore.{encodeNames}
 use Rattle.stores.specs.RuleStore.{kindWord, encode}
 use Rattle.rules.specs.Lists.{over}
 use Rattle.output.specs.Emitted.{Emitted, InRange}
-use Rattle.delivery.specs.declared.answers.Read.the-variants.{Accepted, Refused}
+use Rattle.answers.specs.declared.Read.the-variants.{Accepted, Refused}
 use Rattle.gathering.specs.declared.gathered.Gathered.{Gathered}
 use Rattle.lines.specs.Faults.{SoFar}
 use Rattle.lines.specs.Said.{programOf}

@@ -1,3 +1,2 @@
 -- The laws of the delivery.
 pub mod Delivering
-pub mod AcceptedTexts

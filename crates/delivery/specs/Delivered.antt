@@ -7,11 +7,11 @@ use Rattle.kinds.specs.declared.limits.Kind.{Kind}
 use Rattle.stores.specs.RuleStore.{kindWord, encode}
 use Rattle.name_store.specs.NameStore.{encodeNames}
 use Rattle.rules.specs.Lists.{over}
-use Rattle.delivery.specs.declared.answers.Read.{Read}
+use Rattle.answers.specs.declared.Read.{Read}
 use Rattle.gathering.specs.declared.gathered.Gathered.{Gathered}
 use Rattle.lines.specs.Faults.{SoFar}
 use Rattle.lines.specs.Said.{accepted, programOf}
-use Rattle.delivery.specs.Answers.{answerOf, writtenIf}
+use Rattle.answers.specs.Reading.{answerOf, writtenIf}
 
 abbrev pub headerWords : Kind → Gathered → List ℕ
 headerWords kind g = kindWord kind ∷ g .counts .atoms ∷ g .classes ∷ g .counts .rules ∷ []

@@ -1,4 +1,2 @@
--- The reader's answer, and what it leaves in the two outputs.
+-- What the scratch stores leave in the two outputs.
 pub mod Delivered
-pub mod Answers
-pub mod ReadsAs

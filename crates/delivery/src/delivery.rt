@@ -1,5 +1,5 @@
 // The gathered stores into the two lent outputs, where both have room.
-use crate::answers::Read;
+use answers::Read;
 use gathering::gathered::Gathered;
 use kinds::limits::Kind;
 use kinds::refusals::Refusal;

@@ -1,3 +1,2 @@
-// The scratch stores into the two lent outputs, and what the reader answers.
-pub mod answers;
+// The scratch stores into the two lent outputs.
 pub mod delivery;

@@ -1,9 +1,9 @@
 -- Document 01's number and values for each case of an answer.
 use Rattle.kinds.specs.Refusals.{refusalNumber}
-use Rattle.writer.specs.declared.Written.{Written}
-use Rattle.writer.specs.declared.Written.the-variants.{Text, Refused as NotWritten}
-use Rattle.delivery.specs.declared.answers.Read.{Read}
-use Rattle.delivery.specs.declared.answers.Read.the-variants.{Accepted, Refused as NotRead}
+use Rattle.answers.specs.declared.Written.{Written}
+use Rattle.answers.specs.declared.Written.the-variants.{Text, Refused as NotWritten}
+use Rattle.answers.specs.declared.Read.{Read}
+use Rattle.answers.specs.declared.Read.the-variants.{Accepted, Refused as NotRead}
 use Rattle.walks.specs.declared.answers.Verdict.{Verdict}
 use Rattle.walks.specs.declared.answers.Verdict.the-variants.{Yes, Broken, Beaten, Spent, Refused as NotJudged}
 use Rattle.walks.specs.declared.answers.NextState.{NextState}

@@ -1,9 +1,9 @@
 // The answers as fields of numbers, for C.
-use delivery::answers::Read;
+use answers::Read;
+use answers::Written;
 use kinds::refusals::Refusal;
 use walks::answers::NextState;
 use walks::answers::Verdict;
-use writer::Written;
 ghost use mathlib.Core.Path.{_≡_};
 ghost use Rattle.fields.specs.Fields.{readFields, writtenFields, verdictFields, nextFields};
 

@@ -30,10 +30,11 @@ use Rattle.output.proofs.Emitting.{none, then, renamed, same-length}
 use Rattle.walks.specs.declared.answers.NextState.{NextState}
 use Rattle.walks.specs.declared.answers.NextState.the-variants.{State, Nothing, Spent, Refused}
 use Rattle.walks.proofs.answers.NextState.{the-type}
-use Rattle.printing.specs.Printed.{closing, stateLine, totalLine, spentLine, refusedText}
+use Rattle.answers.specs.Printed.{closing, stateLine, totalLine, spentLine, refusedText}
 use Rattle.printing.specs.Parts.{member, members}
-use Rattle.listing.specs.Listed.{onNext, listing, streamed}
-use Rattle.listing.specs.ListedMasks.{Inside, ListedNames, lastLine, Limited}
+use Rattle.answers.specs.Listed.{onNext, listing, streamed}
+use Rattle.answers.specs.NextInside.{Inside}
+use Rattle.listing.specs.ListedMasks.{ListedNames, lastLine, Limited}
 use Rattle.printing.proofs.PrintedLines.{member-next, members-end, state-opens, total-short, written-front}
 
 -- a state's line is short

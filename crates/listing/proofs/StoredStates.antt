@@ -24,10 +24,11 @@ use Rattle.walks.specs.declared.answers.NextState.{NextState}
 use Rattle.masks.specs.FilledMasks.{MasksOf, nextMasks}
 use Rattle.masks.specs.declared.masks.Sizes.{Sizes}
 use Rattle.masks.proofs.FilledMasks.{masks-fit, next-filled}
-use Rattle.printing.specs.Printed.{refusedText}
-use Rattle.listing.specs.Listed.{listing, wholeListing, streamed, statesOf}
-use Rattle.listing.specs.ListedMasks.{Inside, ListedNames, ListedStores, ListedMasks, masksListing}
-use Rattle.listing.proofs.PreferredPrinted.{listing-same, next-inside, words-count}
+use Rattle.answers.specs.Printed.{refusedText}
+use Rattle.answers.specs.Listed.{listing, wholeListing, streamed, statesOf}
+use Rattle.answers.specs.NextInside.{Inside}
+use Rattle.listing.specs.ListedMasks.{ListedNames, ListedStores, ListedMasks, masksListing}
+use Rattle.answers.proofs.PreferredPrinted.{listing-same, next-inside, words-count}
 
 -- the masks of a store, as the code hands them on
 module _ {rules names starts care want classes : List ℕ} {z : Sizes} (h : ListedStores rules names starts) (d : MasksOf (decode rules) care want classes z) where

@@ -1,4 +1,2 @@
--- The listing of a program, what it means, and what is printed of two stores.
-pub mod Listed
-pub mod PrintedStates
+-- The listing over filled masks.
 pub mod ListedMasks

@@ -13,15 +13,11 @@ use Rattle.name_store.specs.NameIndex.{Placed}
 use Rattle.output.specs.Emitted.{Emitted}
 use Rattle.text.specs.Items.{storedNames}
 use Rattle.walks.specs.declared.answers.NextState.{NextState}
-use Rattle.walks.specs.declared.answers.NextState.the-variants.{State}
 use Rattle.masks.specs.FilledMasks.{MasksFit, nextMasks}
 use Rattle.masks.specs.declared.masks.Sizes.{Sizes}
-use Rattle.printing.specs.Printed.{totalLine, spentLine}
-use Rattle.listing.specs.Listed.{onNext, listing}
-
--- a next state stands at its start or after it, below the top
-abbrev pub Inside : (ℕ → NextState) → ℕ → Type 0
-Inside next top = (t s u : ℕ) → t ≤ top → next t ≡ State s u → (t ≤ s) × (s < top)
+use Rattle.answers.specs.Printed.{totalLine, spentLine}
+use Rattle.answers.specs.Listed.{onNext, listing}
+use Rattle.answers.specs.NextInside.{Inside}
 
 -- the names of a preference program of n atoms, at most 60, and the table of their places
 pub record ListedNames (n : ℕ) (names starts : List ℕ) : Type 0 where

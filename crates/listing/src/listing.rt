@@ -20,7 +20,7 @@ ghost use Rattle.name_store.specs.NameStore.{NamesOf, decodeNames};
 ghost use Rattle.output.specs.Emitted.{Emitted, InRange};
 ghost use Rattle.text.specs.Items.{storedNames};
 ghost use Rattle.printing.specs.Parts.{Shown};
-ghost use Rattle.listing.specs.Listed.{wholeListing, streamed, statesOf};
+ghost use Rattle.answers.specs.Listed.{wholeListing, streamed, statesOf};
 ghost use Rattle.listing.specs.ListedMasks.{ListedStores, ListedMasks, Limited, lastLine, masksListing};
 
 // What stands after the states.

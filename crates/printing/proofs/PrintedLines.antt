@@ -18,7 +18,7 @@ use Rattle.kinds.specs.Words.{space, digits, decimal, bytes}
 use Rattle.text.specs.Text.{openText, listLine, item, named}
 use Rattle.output.specs.Emitted.{Emitted, InRange}
 use Rattle.output.proofs.Emitting.{Ahead}
-use Rattle.printing.specs.Printed.{closing, refusedText, stateWord, stateLine, totalLine, shown}
+use Rattle.answers.specs.Printed.{closing, refusedText, stateWord, stateLine, totalLine, shown}
 use Rattle.printing.specs.Parts.{member, members, Shown}
 
 -- decimal digits

@@ -1,3 +1,2 @@
--- The lines that the two programs print.
-pub mod Printed
+-- Parts of the lines that the two programs print.
 pub mod Parts

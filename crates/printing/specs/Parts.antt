@@ -7,7 +7,7 @@ use lib.ListN.{length, getD}
 use Rattle.rules.specs.Lists.{filter, flat, from, over}
 use Rattle.rules.specs.Sets.{has}
 use Rattle.text.specs.Text.{item, named}
-use Rattle.printing.specs.Printed.{shown}
+use Rattle.answers.specs.Printed.{shown}
 
 -- the name of atom a, if the state has it
 unfoldable pub member : List (List ℕ) → ℕ → ℕ → List ℕ

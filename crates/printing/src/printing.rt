@@ -11,7 +11,7 @@ ghost use Rattle.rules.specs.Sets.{has};
 ghost use Rattle.name_store.specs.NameIndex.{Placed};
 ghost use Rattle.output.specs.Emitted.{Emitted, InRange};
 ghost use Rattle.text.specs.Items.{storedNames};
-ghost use Rattle.printing.specs.Printed.{refusedText, stateLine, totalLine};
+ghost use Rattle.answers.specs.Printed.{refusedText, stateLine, totalLine};
 ghost use Rattle.printing.specs.Parts.{member, members, Shown};
 
 pub fn emit_decimal(x: u64, out: &mut [u8], at: usize) -> usize

@@ -22,21 +22,21 @@ use Rattle.names.specs.Names.{allowed}
 use Rattle.name_store.specs.NameStore.{encodeNames, decodeNames, NamesForm, NamesOf}
 use Rattle.stores.proofs.RuleStores.{decode-encode, words-count, rules-length}
 use Rattle.name_store.proofs.NameStores.{allowed-short, decode-names, encoded-length}
-use Rattle.writer.specs.declared.Written.{Written}
-use Rattle.writer.specs.declared.Written.the-variants.{Text, Refused as NotWritten}
-use Rattle.writer.specs.Answers.{fitted, writtenBytes}
-use Rattle.delivery.specs.declared.answers.Read.{Read}
-use Rattle.delivery.specs.declared.answers.Read.the-variants.{Accepted, Refused as NotRead}
+use Rattle.answers.specs.declared.Written.{Written}
+use Rattle.answers.specs.declared.Written.the-variants.{Text, Refused as NotWritten}
+use Rattle.answers.specs.Writing.{fitted, writtenBytes}
+use Rattle.answers.specs.declared.Read.{Read}
+use Rattle.answers.specs.declared.Read.the-variants.{Accepted, Refused as NotRead}
 use Rattle.lines.specs.Said.{Said, accepted, refused, said}
-use Rattle.delivery.specs.Answers.{readAnswer, readRules, readNames, answerOf}
+use Rattle.answers.specs.Reading.{readAnswer, readRules, readNames, answerOf}
 use Rattle.reader.proofs.RoundTrip.{accepted-form}
 use Rattle.translated.specs.PreferenceStore.{PreferenceStore}
-use Rattle.translation.specs.Answers.{translationText, storesTranslation}
-use Rattle.printing.specs.Printed.{refusedText}
-use Rattle.listing.specs.Listed.{wholeListing, streamed, statesOf}
-use Rattle.programs.specs.Programs.{ofKind, onSaid, printed, translationOf, translatePrinted, statesPrinted}
+use Rattle.answers.specs.Translating.{translationText, storesTranslation}
+use Rattle.answers.specs.Printed.{refusedText}
+use Rattle.answers.specs.Listed.{wholeListing, streamed, statesOf}
+use Rattle.answers.specs.Programs.{ofKind, onSaid, printed, translationOf, translatePrinted, statesPrinted}
 use Rattle.programs.specs.ReadStores.{ReadStores, onStores}
-use Rattle.delivery.proofs.AcceptedTexts.{Filled, never, filled, reads-as, front}
+use Rattle.answers.proofs.AcceptedTexts.{Filled, never, filled, reads-as, front}
 use Rattle.text.proofs.TextParts.{store-header}
 use Rattle.printing.proofs.PrintedLines.{refused-short}
 

@@ -1,3 +1,2 @@
--- What the two programs print on a text.
-pub mod Programs
+-- Two stores as they were read.
 pub mod ReadStores

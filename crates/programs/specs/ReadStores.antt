@@ -4,7 +4,7 @@ use mathlib.Core.List.{List}
 use Rattle.stores.specs.Program.{Program}
 use Rattle.stores.specs.RuleStore.{StoreOf, decode}
 use Rattle.name_store.specs.NameStore.{NamesOf, decodeNames}
-use Rattle.programs.specs.Programs.{ofKind}
+use Rattle.answers.specs.Programs.{ofKind}
 
 pub record ReadStores (rules names : List ℕ) : Type 0 where
   pub store : StoreOf rules (decode rules)

@@ -1,5 +1,6 @@
 // The two programs over slices: a text in, what is printed out (document 01, "Sheets of known states").
-use delivery::answers::Read;
+use answers::Read;
+use answers::Written;
 use kinds::limits::Kind;
 use kinds::limits::Plain;
 use kinds::refusals::Refusal;
@@ -8,14 +9,13 @@ use printing::printing::show;
 use printing::printing::show_refused;
 use reader::read;
 use translation::translate_checked;
-use writer::Written;
 ghost use Prim.Native.Nat.{_≤_};
 ghost use lib.ListN.{length};
 ghost use Rattle.kinds.specs.Sizes.{storeWords, storeBytes};
 ghost use Rattle.kinds.specs.Limits.{streamLimit};
 ghost use Rattle.printing.specs.Parts.{Shown};
-ghost use Rattle.listing.specs.Listed.{statesOf};
-ghost use Rattle.programs.specs.Programs.{translationOf, translatePrinted, statesPrinted};
+ghost use Rattle.answers.specs.Listed.{statesOf};
+ghost use Rattle.answers.specs.Programs.{translationOf, translatePrinted, statesPrinted};
 ghost use Rattle.programs.specs.ReadStores.{ReadStores, onStores};
 
 // What the translator prints on two stores as they were read.

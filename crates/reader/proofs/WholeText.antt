@@ -17,15 +17,15 @@ use Rattle.name_store.specs.NameStore.{encodeNames, decodeNames}
 use Rattle.name_store.specs.NameIndex.{buckets}
 use Rattle.stores.specs.Checking.{Below}
 use Rattle.stores.specs.RuleStore.{wordCount}
-use Rattle.delivery.specs.declared.answers.Read.{Read}
-use Rattle.delivery.specs.declared.answers.Read.the-variants.{Refused}
+use Rattle.answers.specs.declared.Read.{Read}
+use Rattle.answers.specs.declared.Read.the-variants.{Refused}
 use Rattle.reader.specs.declared.reading.Gather.{Gather}
 use Rattle.reader.specs.declared.reading.Gather.the-variants as Gather
 use Rattle.gathering.specs.declared.gathered.Gathered.{Gathered}
 use Rattle.lines.specs.Lines.{lines}
 use Rattle.lines.specs.Forms.{atoms, begins, tagOf}
 use Rattle.lines.specs.Said.{accepted, refused, start, readLines, said, programOf}
-use Rattle.delivery.specs.Answers.{readAnswer, readRules, readNames}
+use Rattle.answers.specs.Reading.{readAnswer, readRules, readNames}
 use Rattle.gathering.specs.Gathered.{stateOf, Held, HeldIndex, HeldMarks}
 use Rattle.delivery.specs.Delivered.{Delivered}
 use Rattle.reader.specs.Gathering.{startCounts, GatherSays, GatherIs}

@@ -1,7 +1,7 @@
 // Text to stores, of both kinds (document 01, "The two kinds of file" and "Who can be turned back").
 pub mod reading;
 
-use delivery::answers::Read;
+use answers::Read;
 use kinds::limits::Kind;
 use kinds::limits::Plain;
 use kinds::refusals::Refusal;
@@ -9,7 +9,7 @@ use name_store::index::BUCKETS;
 use reading::Gather;
 ghost use mathlib.Core.Path.{_≡_};
 ghost use lib.ListN.{length};
-ghost use Rattle.delivery.specs.Answers.{readAnswer, readRules, readNames};
+ghost use Rattle.answers.specs.Reading.{readAnswer, readRules, readNames};
 
 // Reads a text of either kind into the two stores.
 pub fn read(text: &[u8], rules: &mut [u16], names: &mut [u8]) -> Read

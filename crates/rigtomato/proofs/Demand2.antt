@@ -1,76 +1,26 @@
--- Demand 2, from the meanings of the walks' answers and the listing.
-use Prim.Native.Nat.{ℕ, _^_, _≤_}
-use mathlib.Core.Path.{_≡_, refl, sym, ap, _∙_, subst}
-use mathlib.Core.Bool.{Bool, true}
+-- Demand 2, from the meanings of the answers and the listing.
+use Prim.Native.Nat.{ℕ, _≤_}
+use mathlib.Core.Path.{_≡_}
 use mathlib.Core.List.{List}
-use lib.Dec.{leb, ltb}
 use lib.ListN.{length}
-use borrow.Author.Tests.{le-leb, lt-ltb}
-use Rattle.kinds.specs.Limits.{streamLimit, walkAtoms, budgetLimit}
-use Rattle.kinds.specs.declared.limits.Kind.{Kind}
-use Rattle.kinds.specs.declared.limits.Kind.the-variants.{Plain, Preference}
-use Rattle.kinds.specs.declared.refusals.Refusal.{Refusal}
+use Rattle.kinds.specs.Limits.{streamLimit, walkAtoms}
+use Rattle.kinds.specs.declared.limits.Kind.the-variants.{Preference}
 use Rattle.stores.specs.Program.{Program}
-use Rattle.stores.specs.RuleStore.{decode, ruleStore, isOf, wordCount}
-use Rattle.stores.specs.declared.rule_store.RuleStore.the-variants.{Of}
-use Rattle.stores.proofs.RuleStores.{only-decoded, kind-answered, words-count}
 use Rattle.faults.specs.EarliestFault.{Accepts}
 use Rattle.faults.proofs.EarliestFault.{said-accepted}
 use Rattle.reader.proofs.RoundTrip.{accepted-form}
-use Rattle.walks.specs.declared.answers.Verdict.the-variants.{Refused as NotJudged}
-use Rattle.walks.specs.declared.answers.NextState.the-variants.{Refused as NotSearched}
-use Rattle.walks.specs.Walk.{preferredVerdict, stableVerdict, nextVerdict}
-use Rattle.walks.specs.Answers.{guarded, preferredAnswer, stableAnswer, nextAnswer}
 use Rattle.walks.proofs.Order.{each-set-once}
-use Rattle.walks.proofs.Meanings.{preferred-means, stable-means}
-use Rattle.walks.proofs.NextStates.{next-means}
 use Rattle.walks.proofs.Listing.{lists-preferred}
-use Rattle.listing.specs.Listed.{statesOf}
-use Rattle.listing.proofs.PreferredPrinted.{prints-preferred}
-use Rattle.programs.specs.Programs.{printed, statesPrinted}
-use Rattle.rigtomato.specs.Demand2.{Called, Judges, Lists, Demand2}
-
-same-kind : (k : Kind) → isOf k (Of k) ≡ true
-same-kind Plain = refl
-same-kind Preference = refl
-
-module _ {kind : Kind} {rules : List ℕ} {p : Program} {budget : ℕ} (c : Called kind rules p budget) where
-  -- no refusal holds
-  passes : {A : Type 0} (refuse : Refusal → A) (inside : ℕ → Bool) (answer : Program → A) → inside (2 ^ p .atoms) ≡ true → guarded refuse kind rules inside budget (answer (decode rules)) ≡ answer p
-  passes refuse inside answer t =
-      let e : decode rules ≡ p = sym (only-decoded rules p (c .store)) in
-      let s : isOf kind (ruleStore rules) ≡ true = ap (isOf kind) (kind-answered rules p (c .store) ∙ ap Of (c .is-kind)) ∙ same-kind kind in
-      let a : leb (decode rules .atoms) walkAtoms ≡ true = ap (λ (q : Program). leb (q .atoms) walkAtoms) e ∙ le-leb (p .atoms) walkAtoms (c .few) in
-      let i : inside (2 ^ decode rules .atoms) ≡ true = ap (λ (q : Program). inside (2 ^ q .atoms)) e ∙ t in
-      rw (s, a, i, le-leb budget budgetLimit (c .allowed)) (ap answer e)
-
-  -- a class word for each atom of a preference program
-  words-are : kind ≡ Preference → length (p .words) ≡ p .atoms
-  words-are k = words-count (p .kind) (p .atoms) (p .classes) (p .words) (c .store .form .classes-form) ∙ ap (λ (j : Kind). wordCount j (p .atoms)) (c .is-kind ∙ k)
-
-judges : (rules : List ℕ) (p : Program) (number budget : ℕ) → Judges rules p number budget
-unfolding preferredAnswer stableAnswer nextAnswer
-judges rules p number budget = record {
-  preferred = λ c l. (
-    passes c NotJudged (ltb number) (λ q. preferredVerdict (q .words) (q .rules) number budget) (lt-ltb number (2 ^ p .atoms) l),
-    preferred-means (p .words) (p .rules) number budget,
-  );
-  stable = λ c l. (
-    passes c NotJudged (ltb number) (λ q. stableVerdict (q .atoms) (q .rules) number budget) (lt-ltb number (2 ^ p .atoms) l),
-    stable-means (p .atoms) (p .rules) number l budget,
-  );
-  next-state = λ c l. (
-    passes c NotSearched (leb number) (λ q. nextVerdict (q .words) (q .rules) number budget) (le-leb number (2 ^ p .atoms) l),
-    next-means (p .words) (p .rules) number (subst (λ (n : ℕ). number ≤ 2 ^ n) (sym (words-are c refl)) l) budget,
-  );
-}
+use Rattle.answers.proofs.Judged.{judges}
+use Rattle.answers.proofs.Refusals.{print-refuses}
+use Rattle.answers.proofs.PreferredPrinted.{prints-preferred}
+use Rattle.rigtomato.specs.Demand2.{Lists, Demand2}
 
 lists : (text : List ℕ) (p : Program) (names : List (List ℕ)) → length text ≤ streamLimit → Accepts text p names → p .kind ≡ Preference → p .atoms ≤ walkAtoms → Lists text p names
-unfolding statesPrinted printed statesOf
 lists text p names short a k few =
     let e = said-accepted text p names .1 a in
     record {
-      printed = rw (le-leb (length text) streamLimit short, e, k, le-leb (p .atoms) walkAtoms few);
+      printed = print-refuses text .listed short p names a k few;
       listing = prints-preferred p (accepted-form text p names e .0) k names;
       states = lists-preferred (p .words) (p .rules);
     }

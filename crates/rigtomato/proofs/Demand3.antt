@@ -12,19 +12,19 @@ use Rattle.stores.specs.Program.{Program, ProgramForm}
 use Rattle.stores.specs.RuleStore.{encode, decode, isOf}
 use Rattle.name_store.specs.NameStore.{encodeNames, names?, NamesForm}
 use Rattle.stores.proofs.RuleStores.{decode-encode}
-use Rattle.writer.specs.declared.Written.{Written}
-use Rattle.writer.specs.declared.Written.the-variants.{Text, Refused as NotWritten}
-use Rattle.writer.specs.Answers.{fitted}
+use Rattle.answers.specs.declared.Written.{Written}
+use Rattle.answers.specs.declared.Written.the-variants.{Text, Refused as NotWritten}
+use Rattle.answers.specs.Writing.{fitted}
 use Rattle.lines.specs.Said.{accepted, said}
 use Rattle.reader.proofs.RoundTrip.{accepted-form, write-read}
-use Rattle.delivery.specs.Answers.{readRules, readNames}
-use Rattle.delivery.proofs.AcceptedTexts.{Filled, never, filled, reads-as, front}
+use Rattle.answers.specs.Reading.{readRules, readNames}
+use Rattle.answers.proofs.AcceptedTexts.{Filled, never, filled, reads-as, front}
 use Rattle.pairing.specs.Translated.{translated, translatedNames}
 use Rattle.pairing.proofs.Paired.{paired, only-one}
 use Rattle.pairing.proofs.Sums.{atoms-sum, rules-sum, occurrences-sum}
 use Rattle.pairing.proofs.PlainForm.{plain-form}
 use Rattle.pairing.proofs.PlainNames.{plain-names, file-names as names-kept}
-use Rattle.translation.specs.Answers.{translationText, storesTranslation, translateAnswer, translateOutput}
+use Rattle.answers.specs.Translating.{translationText, storesTranslation, translateAnswer, translateOutput}
 use Rattle.translation.proofs.ProgramStores.{answered, named, stores-text}
 use Rattle.rigtomato.specs.Demand3.{Handed, delivered, Demand3, Demand3Holds}
 

@@ -13,9 +13,9 @@ use Rattle.pairing.specs.Steps.{step1, step2, step3, step4, step5, step6, step7
 use Rattle.pairing.specs.Translated.{translatedRules}
 use Rattle.walks.specs.Walk.{walkOrder, preferredWalk, candidates, search, capped, preferredNeeds, preferredVerdict, firstState, cappedNext, nextVerdict, preferredSets}
 use Rattle.kinds.specs.Words.{digits}
-use Rattle.printing.specs.Printed.{stateLine, totalLine}
-use Rattle.listing.specs.Listed.{listing, wholeListing, statesOf}
-use Rattle.programs.specs.Programs.{printed, statesPrinted}
+use Rattle.answers.specs.Printed.{stateLine, totalLine}
+use Rattle.answers.specs.Listed.{listing, wholeListing, statesOf}
+use Rattle.answers.specs.Programs.{printed, statesPrinted}
 use Rattle.rigtomato.specs.Sheet.{rulesA, fileA, oneClass, lampFirst, darkFixed, nothing, emptyRule, oneRule, Sheet}
 
 pub sheet : Sheet

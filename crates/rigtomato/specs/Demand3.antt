@@ -10,13 +10,13 @@ use Rattle.rules.specs.Sets.{cut}
 use Rattle.rules.specs.Rules.{occurrences}
 use Rattle.rules.specs.Stable.{Stable}
 use Rattle.rules.specs.Preferred.{Preferred}
-use Rattle.writer.specs.declared.Written.the-variants.{Text}
-use Rattle.delivery.specs.ReadsAs.{ReadsAs}
-use Rattle.delivery.specs.declared.answers.Read.the-variants.{Accepted}
+use Rattle.answers.specs.declared.Written.the-variants.{Text}
+use Rattle.answers.specs.ReadsAs.{ReadsAs}
+use Rattle.answers.specs.declared.Read.the-variants.{Accepted}
 use Rattle.stores.specs.Program.{Program}
-use Rattle.delivery.specs.Answers.{readAnswer, readRules, readNames}
+use Rattle.answers.specs.Reading.{readAnswer, readRules, readNames}
 use Rattle.pairing.specs.Translated.{translated, translatedNames, numbers, atomsSum, rulesSum, occurrencesSum}
-use Rattle.translation.specs.Answers.{translationText, translateAnswer, translateOutput}
+use Rattle.answers.specs.Translating.{translationText, translateAnswer, translateOutput}
 
 -- A text was read into two lent outputs and refused for nothing; the stores that the reader then left were handed on unchanged, and the translator answered without a refusal.
 pub record Handed (text rules names out : List ℕ) : Type 0 where

@@ -12,7 +12,7 @@ use Rattle.walks.specs.declared.answers.Verdict.{Verdict}
 use Rattle.walks.specs.declared.answers.Verdict.the-variants.{Yes, Broken, Beaten, Spent, Refused}
 use Rattle.walks.specs.Walk.{preferredVerdict, preferredSets}
 use Rattle.pairing.specs.Translated.{translated}
-use Rattle.programs.specs.Programs.{statesPrinted}
+use Rattle.answers.specs.Programs.{statesPrinted}
 
 -- the rules of file A
 unfoldable pub rulesA : List ℕ

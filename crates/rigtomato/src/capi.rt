@@ -8,9 +8,9 @@ use fields::verdict_fields;
 use fields::written_fields;
 ghost use mathlib.Core.Path.{_≡_};
 ghost use lib.ListN.{length};
-ghost use Rattle.writer.specs.Answers.{writeAnswer, writeOutput};
-ghost use Rattle.delivery.specs.Answers.{readAnswer, readRules, readNames};
-ghost use Rattle.translation.specs.Answers.{translateAnswer, translateOutput};
+ghost use Rattle.answers.specs.Writing.{writeAnswer, writeOutput};
+ghost use Rattle.answers.specs.Reading.{readAnswer, readRules, readNames};
+ghost use Rattle.answers.specs.Translating.{translateAnswer, translateOutput};
 ghost use Rattle.walks.specs.Answers.{preferredAnswer, stableAnswer, nextAnswer};
 ghost use Rattle.fields.specs.Fields.{readFields, writtenFields, verdictFields, nextFields};
 

@@ -4,15 +4,15 @@ pub mod capi;
 ghost use mathlib.Core.Path.{_≡_};
 ghost use lib.ListN.{length};
 ghost use Rattle.rules.specs.Lists.{over};
-ghost use Rattle.writer.specs.Answers.{writeAnswer, writeOutput};
-ghost use Rattle.delivery.specs.Answers.{readAnswer, readRules, readNames};
-ghost use Rattle.translation.specs.Answers.{translateAnswer, translateOutput};
+ghost use Rattle.answers.specs.Writing.{writeAnswer, writeOutput};
+ghost use Rattle.answers.specs.Reading.{readAnswer, readRules, readNames};
+ghost use Rattle.answers.specs.Translating.{translateAnswer, translateOutput};
 ghost use Rattle.walks.specs.Answers.{preferredAnswer, stableAnswer, nextAnswer};
-ghost use Rattle.printing.specs.Printed.{shown};
-ghost use Rattle.programs.specs.Programs.{translatePrinted, statesPrinted};
+ghost use Rattle.answers.specs.Printed.{shown};
+ghost use Rattle.answers.specs.Programs.{translatePrinted, statesPrinted};
 
 // A text of either kind into its two stores.
-pub fn read(text: &[u8], rules: &mut [u16], names: &mut [u8]) -> delivery::answers::Read
+pub fn read(text: &[u8], rules: &mut [u16], names: &mut [u8]) -> answers::Read
     ensures answer { λ r. ⌜ r ≡ readAnswer (now (text .entry)) (length (now (rules .entry))) (length (now (names .entry))) ⌝ }
     ensures rules { λ r. ⌜ now (rules .exit) ≡ readRules (now (text .entry)) (now (rules .entry)) (now (names .entry)) ⌝ }
     ensures names { λ r. ⌜ now (names .exit) ≡ readNames (now (text .entry)) (now (rules .entry)) (now (names .entry)) ⌝ }
@@ -21,7 +21,7 @@ pub fn read(text: &[u8], rules: &mut [u16], names: &mut [u8]) -> delivery::answe
 }
 
 // The text of two stores.
-pub fn write(rules: &[u16], names: &[u8], out: &mut [u8]) -> writer::Written
+pub fn write(rules: &[u16], names: &[u8], out: &mut [u8]) -> answers::Written
     ensures answer { λ r. ⌜ r ≡ writeAnswer (now (rules .entry)) (now (names .entry)) (length (now (out .entry))) ⌝ }
     ensures output { λ r. ⌜ now (out .exit) ≡ writeOutput (now (rules .entry)) (now (names .entry)) (now (out .entry)) ⌝ }
 {
@@ -29,7 +29,7 @@ pub fn write(rules: &[u16], names: &[u8], out: &mut [u8]) -> writer::Written
 }
 
 // The text of the plain program of a preference file's stores.
-pub fn translate(rules: &[u16], names: &[u8], out: &mut [u8]) -> writer::Written
+pub fn translate(rules: &[u16], names: &[u8], out: &mut [u8]) -> answers::Written
     ensures answer { λ r. ⌜ r ≡ translateAnswer (now (rules .entry)) (now (names .entry)) (length (now (out .entry))) ⌝ }
     ensures output { λ r. ⌜ now (out .exit) ≡ translateOutput (now (rules .entry)) (now (names .entry)) (now (out .entry)) ⌝ }
 {

@@ -12,7 +12,7 @@ use Rattle.stores.specs.RuleStore.{encode, ruleStore}
 use Rattle.name_store.specs.NameStore.{encodeNames, names?, NamesForm}
 use Rattle.stores.proofs.RuleStores.{decode-encode, kind-answered}
 use Rattle.name_store.proofs.NameStores.{decode-names, names-law}
-use Rattle.translation.specs.Answers.{translationText, storesTranslation}
+use Rattle.answers.specs.Translating.{translationText, storesTranslation}
 
 pub answered : (p : Program) → ProgramForm p → ruleStore (encode p) ≡ Of (p .kind)
 answered p form = kind-answered (encode p) p (record { form = form; words = refl })

@@ -22,11 +22,11 @@ use Rattle.pairing.proofs.PlainForm.{plain-form}
 use Rattle.pairing.proofs.PlainNames.{plain-names}
 use Rattle.text.specs.Text.{textOf}
 use Rattle.output.specs.Emitted.{Emitted}
-use Rattle.writer.specs.Answers.{fitted, storesText}
+use Rattle.answers.specs.Writing.{fitted, storesText}
 use Rattle.writer.specs.Fitted.{fittedOutput}
-use Rattle.writer.specs.declared.Written.{Written}
-use Rattle.writer.specs.declared.Written.the-variants.{Refused}
-use Rattle.translation.specs.Answers.{translationText, storesTranslation, translateAnswer, translateOutput}
+use Rattle.answers.specs.declared.Written.{Written}
+use Rattle.answers.specs.declared.Written.the-variants.{Refused}
+use Rattle.answers.specs.Translating.{translationText, storesTranslation, translateAnswer, translateOutput}
 use Rattle.translated.specs.PreferenceStore.{PreferenceStore}
 use Rattle.translated.proofs.FileStore.{store-fits}
 use Rattle.translated.proofs.FileNames.{names-fit}

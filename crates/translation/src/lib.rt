@@ -1,4 +1,5 @@
 // The stores of a preference file to the text of its plain program (document 01, "The translation").
+use answers::Written;
 use kinds::limits::Kind;
 use kinds::limits::Plain;
 use kinds::refusals::Refusal;
@@ -7,7 +8,6 @@ use store_check::store_forms::check_rules;
 use stores::rule_store::RuleStore;
 use translated::translated_names::translate_names;
 use translated::translated_rules::translate_rules;
-use writer::Written;
 use writer::write_checked;
 ghost use mathlib.Core.Path.{_≡_};
 ghost use Prim.Native.Nat.{_≤_};
@@ -17,9 +17,9 @@ ghost use Rattle.kinds.specs.declared.limits.Kind.the-variants.{Preference};
 ghost use Rattle.rules.specs.Lists.{over};
 ghost use Rattle.stores.specs.RuleStore.{decode};
 ghost use Rattle.name_store.specs.NameStore.{NamesOf, decodeNames};
-ghost use Rattle.writer.specs.Answers.{fitted, writtenBytes};
+ghost use Rattle.answers.specs.Writing.{fitted, writtenBytes};
 ghost use Rattle.writer.specs.Fitted.{fittedOutput};
-ghost use Rattle.translation.specs.Answers.{storesTranslation, translateAnswer, translateOutput};
+ghost use Rattle.answers.specs.Translating.{storesTranslation, translateAnswer, translateOutput};
 ghost use Rattle.translated.specs.PreferenceStore.{PreferenceStore};
 
 // The stores of the plain program, then its text.

@@ -27,10 +27,10 @@ use Rattle.text.specs.Text.{textOf}
 use Rattle.output.specs.Emitted.{Emitted}
 use Rattle.text.specs.Items.{storedNames}
 use Rattle.text.specs.Sources.{Sources, sourceText}
-use Rattle.writer.specs.Answers.{fitted, storesText, writeAnswer, writeOutput}
+use Rattle.answers.specs.Writing.{fitted, storesText, writeAnswer, writeOutput}
 use Rattle.writer.specs.Fitted.{fittedOutput}
-use Rattle.writer.specs.declared.Written.{Written}
-use Rattle.writer.specs.declared.Written.the-variants.{Text, Refused}
+use Rattle.answers.specs.declared.Written.{Written}
+use Rattle.answers.specs.declared.Written.the-variants.{Text, Refused}
 use Rattle.text.proofs.TextLength.{text-fits}
 use Rattle.text.proofs.FilledTable.{handed-length, handed-placed}
 

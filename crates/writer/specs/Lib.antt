@@ -1,3 +1,2 @@
--- What the writer answers.
-pub mod Answers
+-- A text in an output.
 pub mod Fitted

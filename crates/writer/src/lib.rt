@@ -1,4 +1,5 @@
 // Stores to text (document 01, "The two kinds of file").
+use answers::Written;
 use kinds::limits::Kind;
 use kinds::limits::Plain;
 use kinds::refusals::Refusal;
@@ -16,14 +17,8 @@ ghost use Rattle.rules.specs.Lists.{over};
 ghost use Rattle.stores.specs.RuleStore.{StoreOf, decode};
 ghost use Rattle.name_store.specs.NameStore.{NamesOf, decodeNames};
 ghost use Rattle.text.specs.Sources.{Sources, sourceText};
-ghost use Rattle.writer.specs.Answers.{fitted, writtenBytes, storesText, writeAnswer, writeOutput};
+ghost use Rattle.answers.specs.Writing.{fitted, writtenBytes, storesText, writeAnswer, writeOutput};
 ghost use Rattle.writer.specs.Fitted.{fittedOutput};
-
-// What the writer and the translator answer: the bytes written, or the refusal.
-pub enum Written {
-    Text { bytes: usize },
-    Refused { refusal: Refusal },
-}
 
 // The text, if the output has room for it: counted first, then written.
 fn write_text(rules: &[u16], names: &[u8], starts: &[u16], out: &mut [u8]) -> Written

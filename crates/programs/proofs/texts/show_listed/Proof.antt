@@ -1,6 +1,6 @@
 use Rattle.programs.proofs.ProgramTexts.{header, plain-refused, preference-store, preference-names, on-preference}
 use Rattle.printing.proofs.PrintedLines.{shown-renamed}
-use Rattle.listing.specs.Listed.{statesOf}
+use Rattle.answers.specs.Listed.{statesOf}
 use native.Mathlib.Omega.{arith}
 use borrow.Author.Needs.{needs}
 use Rattle.programs.proofs.texts.show_listed.Statement.{statement}

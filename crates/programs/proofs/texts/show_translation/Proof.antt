@@ -1,5 +1,5 @@
 use Rattle.programs.proofs.ProgramTexts.{header, plain-refused, preference-store, preference-names, translation-refused, translation-fits, translation-is}
-use Rattle.programs.specs.Programs.{translationOf}
+use Rattle.answers.specs.Programs.{translationOf}
 use Rattle.printing.proofs.PrintedLines.{shown-renamed}
 use Rattle.kinds.specs.Limits.{streamLimit}
 use Prim.Native.Nat.{ℕ}

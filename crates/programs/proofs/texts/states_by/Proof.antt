@@ -1,7 +1,7 @@
 use Rattle.programs.proofs.ProgramTexts.{rules-part, names-part, read-stores, refused-text, accepted-text}
 use Rattle.printing.proofs.PrintedLines.{shown-renamed}
-use Rattle.listing.specs.Listed.{statesOf}
-use Rattle.programs.specs.Programs.{statesPrinted}
+use Rattle.answers.specs.Listed.{statesOf}
+use Rattle.answers.specs.Programs.{statesPrinted}
 use native.Mathlib.Omega.{arith}
 use borrow.Author.Needs.{needs}
 use Rattle.programs.proofs.texts.states_by.Statement.{statement}

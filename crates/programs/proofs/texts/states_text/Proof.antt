@@ -1,6 +1,6 @@
 use Rattle.programs.proofs.ProgramTexts.{long-text}
 use Rattle.printing.proofs.PrintedLines.{shown-renamed}
-use Rattle.programs.specs.Programs.{statesPrinted}
+use Rattle.answers.specs.Programs.{statesPrinted}
 use borrow.Author.Needs.{needs}
 use Rattle.programs.proofs.texts.states_text.Statement.{statement}
 use Rattle.programs.proofs.texts.states_text.Tie as tie

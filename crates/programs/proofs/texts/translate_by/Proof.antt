@@ -1,6 +1,6 @@
 use Rattle.programs.proofs.ProgramTexts.{rules-part, names-part, read-stores, refused-text, accepted-text}
 use Rattle.printing.proofs.PrintedLines.{shown-renamed}
-use Rattle.programs.specs.Programs.{translationOf, translatePrinted}
+use Rattle.answers.specs.Programs.{translationOf, translatePrinted}
 use native.Mathlib.Omega.{arith}
 use borrow.Author.Needs.{needs}
 use Rattle.programs.proofs.texts.translate_by.Statement.{statement}

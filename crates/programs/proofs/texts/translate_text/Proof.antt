@@ -1,6 +1,6 @@
 use Rattle.programs.proofs.ProgramTexts.{long-text}
 use Rattle.printing.proofs.PrintedLines.{shown-renamed}
-use Rattle.programs.specs.Programs.{translatePrinted}
+use Rattle.answers.specs.Programs.{translatePrinted}
 use borrow.Author.Needs.{needs}
 use Rattle.programs.proofs.texts.translate_text.Statement.{statement}
 use Rattle.programs.proofs.texts.translate_text.Tie as tie

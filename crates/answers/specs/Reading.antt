@@ -9,8 +9,8 @@ use Rattle.stores.specs.Program.{Program}
 use Rattle.stores.specs.RuleStore.{encode}
 use Rattle.name_store.specs.NameStore.{encodeNames}
 use Rattle.rules.specs.Lists.{over}
-use Rattle.delivery.specs.declared.answers.Read.{Read}
-use Rattle.delivery.specs.declared.answers.Read.the-variants.{Accepted, Refused}
+use Rattle.answers.specs.declared.Read.{Read}
+use Rattle.answers.specs.declared.Read.the-variants.{Accepted, Refused}
 use Rattle.lines.specs.Said.{Said, accepted, refused, said}
 
 abbrev pub answerOf : Said → ℕ → ℕ → Read

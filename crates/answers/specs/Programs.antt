@@ -10,9 +10,9 @@ use Rattle.kinds.specs.declared.limits.Kind.the-variants.{Plain, Preference}
 use Rattle.kinds.specs.declared.refusals.Refusal.the-variants.{TextTooLong, RuleStore}
 use Rattle.stores.specs.Program.{Program}
 use Rattle.lines.specs.Said.{Said, accepted, refused, said}
-use Rattle.translation.specs.Answers.{translationText}
-use Rattle.printing.specs.Printed.{refusedText}
-use Rattle.listing.specs.Listed.{streamed, statesOf}
+use Rattle.answers.specs.Translating.{translationText}
+use Rattle.answers.specs.Printed.{refusedText}
+use Rattle.answers.specs.Listed.{streamed, statesOf}
 
 abbrev pub ofKind : Kind → List ℕ → List ℕ
 ofKind Plain text = refusedText RuleStore 0

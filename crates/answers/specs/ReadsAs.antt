@@ -7,9 +7,9 @@ use Rattle.stores.specs.Program.{Program}
 use Rattle.stores.specs.RuleStore.{encode}
 use Rattle.name_store.specs.NameStore.{encodeNames}
 use Rattle.rules.specs.Lists.{over}
-use Rattle.delivery.specs.declared.answers.Read.the-variants.{Accepted}
+use Rattle.answers.specs.declared.Read.the-variants.{Accepted}
 use Rattle.lines.specs.Said.{accepted, said}
-use Rattle.delivery.specs.Answers.{readAnswer, readRules, readNames}
+use Rattle.answers.specs.Reading.{readAnswer, readRules, readNames}
 
 -- Reading a text is accepted with any outputs that are long enough, and fills both with the stores of what the text says.
 pub record ReadsAs (text : List ℕ) (p : Program) (names : List (List ℕ)) : Type 0 where

@@ -8,11 +8,11 @@ use Rattle.kinds.specs.declared.refusals.Refusal.the-variants.{RuleStore, NameS
 use Rattle.stores.specs.Program.{Program}
 use Rattle.stores.specs.RuleStore.{decode, ruleStore, isOf}
 use Rattle.name_store.specs.NameStore.{names?, decodeNames}
-use Rattle.writer.specs.declared.Written.{Written}
-use Rattle.writer.specs.declared.Written.the-variants.{Refused}
+use Rattle.answers.specs.declared.Written.{Written}
+use Rattle.answers.specs.declared.Written.the-variants.{Refused}
 use Rattle.text.specs.Text.{textOf}
 use Rattle.rules.specs.Lists.{over}
-use Rattle.writer.specs.Answers.{fitted, writtenBytes}
+use Rattle.answers.specs.Writing.{fitted, writtenBytes}
 use Rattle.pairing.specs.Translated.{translated, translatedNames}
 
 -- the text of the ten steps

@@ -10,7 +10,7 @@ use Rattle.stores.specs.Program.{Program}
 use Rattle.walks.specs.declared.answers.NextState.{NextState}
 use Rattle.walks.specs.declared.answers.NextState.the-variants.{State, Nothing, Spent, Refused}
 use Rattle.walks.specs.Walk.{nextVerdict}
-use Rattle.printing.specs.Printed.{refusedText, stateLine, totalLine, spentLine}
+use Rattle.answers.specs.Printed.{refusedText, stateLine, totalLine, spentLine}
 
 abbrev pub onNext : NextState → (ℕ → List ℕ) → List ℕ → List ℕ → List ℕ
 onNext (State s u) more total spent = more s

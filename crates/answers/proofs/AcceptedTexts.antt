@@ -10,15 +10,15 @@ use lib.Seq.{take-append-seam}
 use borrow.Author.Tests.{le-leb}
 use Rattle.rules.proofs.Booleans.{T-and-l, T-and-r}
 use Rattle.rules.specs.Lists.{over}
-use Rattle.delivery.specs.declared.answers.Read.{Read}
-use Rattle.delivery.specs.declared.answers.Read.the-variants.{Accepted, Refused as NotRead}
+use Rattle.answers.specs.declared.Read.{Read}
+use Rattle.answers.specs.declared.Read.the-variants.{Accepted, Refused as NotRead}
 use Rattle.kinds.specs.declared.refusals.Refusal.the-variants.{Output}
 use Rattle.stores.specs.Program.{Program}
 use Rattle.stores.specs.RuleStore.{encode}
 use Rattle.name_store.specs.NameStore.{encodeNames}
 use Rattle.lines.specs.Said.{Said, accepted, refused, said}
-use Rattle.delivery.specs.Answers.{readAnswer, readRules, readNames, answerOf}
-use Rattle.delivery.specs.ReadsAs.{ReadsAs}
+use Rattle.answers.specs.Reading.{readAnswer, readRules, readNames, answerOf}
+use Rattle.answers.specs.ReadsAs.{ReadsAs}
 
 pub never : {A : Type 0} → _≡_ {A = ℕ} 0 1 → A
 never z = absurd (omega arith)

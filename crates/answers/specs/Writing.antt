@@ -9,8 +9,8 @@ use Rattle.stores.specs.RuleStore.{store?, decode}
 use Rattle.name_store.specs.NameStore.{names?, decodeNames}
 use Rattle.rules.specs.Lists.{over}
 use Rattle.text.specs.Text.{textOf}
-use Rattle.writer.specs.declared.Written.{Written}
-use Rattle.writer.specs.declared.Written.the-variants.{Text, Refused}
+use Rattle.answers.specs.declared.Written.{Written}
+use Rattle.answers.specs.declared.Written.the-variants.{Text, Refused}
 
 -- a text into an output that has room for so many bytes
 abbrev pub fitted : List ℕ → ℕ → Written

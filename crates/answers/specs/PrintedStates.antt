@@ -10,8 +10,8 @@ use Rattle.rules.specs.Lists.{flat}
 use Rattle.stores.specs.Program.{Program, ProgramForm}
 use Rattle.walks.specs.Walk.{preferredSets}
 use Rattle.walks.specs.Listings.{Whole, CutShort}
-use Rattle.printing.specs.Printed.{stateLine, totalLine, spentLine}
-use Rattle.listing.specs.Listed.{wholeListing}
+use Rattle.answers.specs.Printed.{stateLine, totalLine, spentLine}
+use Rattle.answers.specs.Listed.{wholeListing}
 
 -- no step of the listing is spent: a line for each preferred set, in the order of the walks, then their number
 pub record PrintsAll (p : Program) (names : List (List ℕ)) : Type 0 where

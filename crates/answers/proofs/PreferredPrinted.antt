@@ -19,10 +19,10 @@ use Rattle.walks.specs.declared.answers.NextState.{NextState}
 use Rattle.walks.specs.declared.answers.NextState.the-variants.{State, Nothing, Spent, Refused}
 use Rattle.walks.proofs.NextStates.{next-means}
 use Rattle.walks.proofs.Listing.{lists-preferred, listing as listing-means, step-after}
-use Rattle.printing.specs.Printed.{stateLine, totalLine, spentLine}
-use Rattle.listing.specs.Listed.{onNext, listing, wholeListing}
-use Rattle.listing.specs.ListedMasks.{Inside}
-use Rattle.listing.specs.PrintedStates.{PrintsAll, PrintsSome, PrintsPreferred}
+use Rattle.answers.specs.Printed.{stateLine, totalLine, spentLine}
+use Rattle.answers.specs.Listed.{onNext, listing, wholeListing}
+use Rattle.answers.specs.NextInside.{Inside}
+use Rattle.answers.specs.PrintedStates.{PrintsAll, PrintsSome, PrintsPreferred}
 
 -- a listing asks for the next state only from starts up to the top
 module _ (next next′ : ℕ → NextState) (top : ℕ) (inside : Inside next top) (same : (t : ℕ) → t ≤ top → next t ≡ next′ t) (names : List (List ℕ)) where

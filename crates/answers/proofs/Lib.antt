@@ -1,0 +1,5 @@
+-- The laws of the answers, and the refusals proved.
+pub mod AcceptedTexts
+pub mod PreferredPrinted
+pub mod Refusals
+pub mod Judged

@@ -1,0 +1,350 @@
+-- The refusals, test by test.
+use Prim.Native.Nat.{ℕ, _^_, _≤_, _<_}
+use native.Mathlib.Omega.{arith}
+use mathlib.Core.Path.{_≡_, refl, sym, ap, ap₂, _∙_, subst}
+use mathlib.Core.Logic.{_↔_, _⊎_, inl, inr}
+use mathlib.Core.Bool.{Bool, true, false, cond, _&&_}
+use mathlib.Core.List.{List, [], _++_}
+use lib.Dec.{T, leb, ltb, leb→le, ltb→lt}
+use lib.ListN.{length, drop}
+use borrow.Author.Tests.{le-leb, lt-leb, leb-false, ltb-false}
+use Rattle.kinds.specs.Limits.{streamLimit, walkAtoms, budgetLimit}
+use Rattle.kinds.specs.declared.limits.Kind.{Kind}
+use Rattle.kinds.specs.declared.limits.Kind.the-variants.{Plain, Preference}
+use Rattle.kinds.specs.declared.refusals.Refusal.{Refusal}
+use Rattle.kinds.specs.declared.refusals.Refusal.the-variants.{Output, RuleStore, TooManyAtoms, SetNumber, Budget, NameStore}
+use Rattle.rules.specs.Lists.{over}
+use Rattle.rules.proofs.Booleans.{T-and-l, T-and-r}
+use Rattle.stores.specs.Program.{Program}
+use Rattle.stores.specs.RuleStore.{encode, decode, store?, ruleStore, isOf, wordCount}
+use Rattle.stores.specs.declared.rule_store.RuleStore.{RuleStore as Store}
+use Rattle.stores.specs.declared.rule_store.RuleStore.the-variants.{Of, Refused as NotStore}
+use Rattle.stores.proofs.RuleStores.{store-law, kind-answered, of-kind, words-count}
+use Rattle.name_store.specs.NameStore.{encodeNames, names?}
+use Rattle.name_store.proofs.NameStores.{names-law}
+use Rattle.faults.specs.EarliestFault.{Refuses, Accepts}
+use Rattle.faults.proofs.EarliestFault.{said-refused, said-accepted}
+use Rattle.lines.specs.Said.{Said, accepted, refused, said}
+use Rattle.answers.specs.declared.Read.{Read}
+use Rattle.answers.specs.declared.Read.the-variants.{Accepted, Refused as NotRead}
+use Rattle.answers.specs.Reading.{answerOf, writtenIf, readAnswer, readRules, readNames}
+use Rattle.answers.specs.declared.Written.{Written}
+use Rattle.answers.specs.declared.Written.the-variants.{Text, Refused as NotWritten}
+use Rattle.answers.specs.Writing.{fitted, writtenBytes, storesText, writeAnswer, writeOutput}
+use Rattle.answers.specs.Translating.{translationText, storesTranslation, translateAnswer, translateOutput}
+use Rattle.walks.specs.declared.answers.Verdict.the-variants.{Refused as NotJudged}
+use Rattle.walks.specs.declared.answers.NextState.the-variants.{Refused as NotSearched}
+use Rattle.walks.specs.Walk.{preferredVerdict, stableVerdict, nextVerdict}
+use Rattle.walks.specs.Answers.{guarded, preferredAnswer, stableAnswer, nextAnswer}
+use Rattle.walks.proofs.Meanings.{preferred-means, stable-means}
+use Rattle.walks.proofs.NextStates.{next-means}
+use Rattle.answers.specs.Printed.{shown}
+use Rattle.answers.specs.Listed.{wholeListing, streamed, statesOf}
+use Rattle.answers.specs.Programs.{printed, translatePrinted, statesPrinted}
+use Rattle.answers.specs.Refusals.{PrintsInto, Streams, PrintRefuses, Tested, NoOther, Passes, NoStore, NoStoreOf, NoNames, TooShort, NoRoom, ReadRefuses, StoresRefused, StoresPass, NumbersRefused, Writes, WriteRefuses, TranslateRefuses, CallRefused, VerdictRefuses}
+
+-- one test of an answer: where it fails, the refusal x
+module _ {A : Type 0} (refuse : Refusal → A) (inj : (x y : Refusal) → refuse x ≡ refuse y → x ≡ y) {Sentence : Type 0} (b : Bool) (law : Sentence ↔ (T b → ⊥)) (x : Refusal) where
+  pub refused-by : {v : A} (later : Refusal → Type 0) (r : Refusal) → (T b → v ≡ refuse r ↔ later r) → cond b v (refuse x) ≡ refuse r ↔ Tested x Sentence later r
+  refused-by {v} later r rest = step b law rest
+    where
+      step : (b : Bool) → Sentence ↔ (T b → ⊥) → (T b → v ≡ refuse r ↔ later r) → cond b v (refuse x) ≡ refuse r ↔ Tested x Sentence later r
+      step true l q = (
+        λ e. inr (λ s. l .0 s tt, q tt .0 e),
+        λ h. q tt .1 (later-only h),
+      )
+        where
+          later-only : Tested x Sentence later r → later r
+          later-only (inl h) = absurd (l .0 (h .1) tt)
+          later-only (inr h) = h .1
+      step false l q = (
+        λ e. inl (sym (inj x r e), l .1 (λ t. t)),
+        λ h. here h,
+      )
+        where
+          here : Tested x Sentence later r → refuse x ≡ refuse r
+          here (inl h) = ap refuse (sym (h .0))
+          here (inr h) = absurd (h .0 (l .1 (λ t. t)))
+
+  pub passed-by : {v : A} {Later : Type 0} (w : A) → (refuse x ≡ w → ⊥) → (T b → v ≡ w ↔ Later) → cond b v (refuse x) ≡ w ↔ Passes Sentence Later
+  passed-by {v} {Later} w other rest = step b law rest
+    where
+      step : (b : Bool) → Sentence ↔ (T b → ⊥) → (T b → v ≡ w ↔ Later) → cond b v (refuse x) ≡ w ↔ Passes Sentence Later
+      step true l q = (λ e. (λ s. l .0 s tt, q tt .0 e), λ h. q tt .1 (h .1))
+      step false l q = (λ e. absurd (other e), λ h. absurd (h .0 (l .1 (λ t. t))))
+
+-- what each test says
+
+no-store : (rules : List ℕ) → NoStore rules ↔ (T (store? rules) → ⊥)
+no-store rules = (λ h t. let s = store-law rules .0 t in h (s .0) (s .1), λ h p s. h (store-law rules .1 (p, s)))
+
+no-names : (rules bytes : List ℕ) → NoNames rules bytes ↔ (T (names? (decode rules .kind) (decode rules .atoms) bytes) → ⊥)
+no-names rules bytes = (λ h t. let s = names-law (decode rules .kind) (decode rules .atoms) bytes .0 t in h (s .0) (s .1), λ h n s. h (names-law (decode rules .kind) (decode rules .atoms) bytes .1 (n, s)))
+
+-- a number past a limit
+past : (n limit : ℕ) → limit < n ↔ (T (leb n limit) → ⊥)
+past n limit = (λ h t. omega (arith, leb→le n limit t), λ h. step (leb n limit) refl h)
+  where
+    step : (b : Bool) → leb n limit ≡ b → (T b → ⊥) → limit < n
+    step true e f = absurd (f tt)
+    step false e f = leb-false n limit e
+
+-- a store of the other kind is none
+no-store-of : (kind : Kind) (rules : List ℕ) → NoStoreOf kind rules ↔ (T (isOf kind (ruleStore rules)) → ⊥)
+no-store-of kind rules = (
+  λ h t. step (ruleStore rules) refl h t,
+  λ h p s k. h (subst (λ (r : Store). T (isOf kind r)) (sym (kind-answered rules p s)) (subst (λ (c : Kind). T (isOf kind (Of c))) (sym k) (same kind))),
+)
+  where
+    same : (k : Kind) → T (isOf k (Of k))
+    same Plain = tt
+    same Preference = tt
+
+    is-kind : (k j : Kind) → T (isOf k (Of j)) → j ≡ k
+    is-kind Plain Plain t = refl
+    is-kind Plain Preference t = absurd t
+    is-kind Preference Plain t = absurd t
+    is-kind Preference Preference t = refl
+
+    none : (k : Kind) → T (isOf k NotStore) → ⊥
+    none Plain t = t
+    none Preference t = t
+
+    step : (r : Store) → ruleStore rules ≡ r → NoStoreOf kind rules → T (isOf kind r) → ⊥
+    step (Of k) e h t = let o = of-kind rules k e in h (decode rules) (o .0) (o .1 ∙ is-kind kind k t)
+    step NotStore e h t = none kind t
+
+-- an output, by its answer
+
+written-inj : (x y : Refusal) → NotWritten x ≡ NotWritten y → x ≡ y
+written-inj x y e = cc
+
+never-text : {x : Refusal} {size : ℕ} → NotWritten x ≡ Text size → ⊥
+never-text e = let z : _≡_ {A = ℕ} 0 1 = cc in omega arith
+
+no-refusal : {size : ℕ} {r : Refusal} → Text size ≡ NotWritten r → ⊥
+no-refusal e = let z : _≡_ {A = ℕ} 0 1 = cc in omega arith
+
+size-of : {k size : ℕ} → Text k ≡ Text size ↔ (size ≡ k)
+size-of {k} {size} = (λ e. let z : k ≡ size = cc in sym z, λ e. ap Text (sym e))
+
+none-other : {v : Written} {size : ℕ} (r : Refusal) → v ≡ Text size → v ≡ NotWritten r ↔ NoOther r
+none-other r e = (λ f. no-refusal (sym e ∙ f), λ h. absurd h)
+
+module _ (text : List ℕ) (room : ℕ) where
+  fitted-refused : (r : Refusal) → fitted text room ≡ NotWritten r ↔ Tested Output (TooShort text room) NoOther r
+  fitted-refused r = refused-by NotWritten written-inj (leb (length text) room) (past (length text) room) Output NoOther r (λ t. none-other r refl)
+
+  fitted-written : (size : ℕ) → fitted text room ≡ Text size ↔ ((TooShort text room → ⊥) × (size ≡ length text))
+  fitted-written size = passed-by NotWritten written-inj (leb (length text) room) (past (length text) room) Output (Text size) never-text (λ t. size-of)
+
+-- what is written, by the answer
+writes : (answer : Written) (text before : List ℕ) → ((size : ℕ) → answer ≡ Text size → size ≡ length text) → Writes answer text before (over (writtenBytes answer text) before)
+writes answer text before sizes = record {
+  refused = λ r e. ap (λ (a : Written). over (writtenBytes a text) before) e;
+  written = λ size e. ap (λ (a : Written). over (writtenBytes a text) before) e ∙ ap (λ (k : ℕ). text ++ drop k before) (sym (sizes size e));
+}
+
+-- the writer
+
+module _ (rules names : List ℕ) (room : ℕ) where
+  write-passes : (size : ℕ) → writeAnswer rules names room ≡ Text size
+      ↔ Passes (NoStore rules) (StoresPass rules names (storesText rules names) room (size ≡ length (storesText rules names)))
+  unfolding writeAnswer
+  write-passes size =
+      passed-by NotWritten written-inj (store? rules) (no-store rules) RuleStore (Text size) never-text (λ t.
+      passed-by NotWritten written-inj (names? (decode rules .kind) (decode rules .atoms) names) (no-names rules names) NameStore (Text size) never-text (λ u. fitted-written (storesText rules names) room size))
+
+pub write-refuses : (rules names before : List ℕ) → WriteRefuses rules names before
+unfolding writeAnswer writeOutput
+write-refuses rules names before = record {
+  refused = λ r. refused-by NotWritten written-inj (store? rules) (no-store rules) RuleStore (StoresRefused rules names (storesText rules names) (length before)) r (λ t.
+      refused-by NotWritten written-inj (names? (decode rules .kind) (decode rules .atoms) names) (no-names rules names) NameStore (Tested Output (TooShort (storesText rules names) (length before)) NoOther) r (λ u. fitted-refused (storesText rules names) (length before) r));
+  written = write-passes rules names (length before);
+  output = writes (writeAnswer rules names (length before)) (storesText rules names) before (λ size e. write-passes rules names (length before) size .0 e .1 .1 .1);
+}
+
+-- the translator: past the first test the kind is Preference
+
+kind-is : (rules : List ℕ) → T (isOf Preference (ruleStore rules)) → decode rules .kind ≡ Preference
+kind-is rules t = step (ruleStore rules) refl t
+  where
+    step : (r : Store) → ruleStore rules ≡ r → T (isOf Preference r) → decode rules .kind ≡ Preference
+    step (Of Plain) e t = absurd t
+    step (Of Preference) e t = of-kind rules Preference e .1
+    step NotStore e t = absurd t
+
+no-preference-names : (rules bytes : List ℕ) → T (isOf Preference (ruleStore rules)) → NoNames rules bytes ↔ (T (names? Preference (decode rules .atoms) bytes) → ⊥)
+no-preference-names rules bytes t = subst (λ (k : Kind). NoNames rules bytes ↔ (T (names? k (decode rules .atoms) bytes) → ⊥)) (kind-is rules t) (no-names rules bytes)
+
+module _ (rules names : List ℕ) (room : ℕ) where
+  translate-passes : (size : ℕ) → translateAnswer rules names room ≡ Text size
+      ↔ Passes (NoStoreOf Preference rules) (StoresPass rules names (storesTranslation rules names) room (size ≡ length (storesTranslation rules names)))
+  unfolding translateAnswer
+  translate-passes size =
+      passed-by NotWritten written-inj (isOf Preference (ruleStore rules)) (no-store-of Preference rules) RuleStore (Text size) never-text (λ t.
+      passed-by NotWritten written-inj (names? Preference (decode rules .atoms) names) (no-preference-names rules names t) NameStore (Text size) never-text (λ u. fitted-written (storesTranslation rules names) room size))
+
+pub translate-refuses : (rules names before : List ℕ) → TranslateRefuses rules names before
+unfolding translateAnswer translateOutput
+translate-refuses rules names before = record {
+  refused = λ r. refused-by NotWritten written-inj (isOf Preference (ruleStore rules)) (no-store-of Preference rules) RuleStore (StoresRefused rules names (storesTranslation rules names) (length before)) r (λ t.
+      refused-by NotWritten written-inj (names? Preference (decode rules .atoms) names) (no-preference-names rules names t) NameStore (Tested Output (TooShort (storesTranslation rules names) (length before)) NoOther) r (λ u. fitted-refused (storesTranslation rules names) (length before) r));
+  written = translate-passes rules names (length before);
+  output = writes (translateAnswer rules names (length before)) (storesTranslation rules names) before (λ size e. translate-passes rules names (length before) size .0 e .1 .1 .1);
+}
+
+-- the verdicts and the lister
+
+module _ {A : Type 0} (refuse : Refusal → A) (inj : (x y : Refusal) → refuse x ≡ refuse y → x ≡ y) (kind : Kind) (rules : List ℕ) (Outside : ℕ → Type 0) (inside : ℕ → Bool)
+    (law : (top : ℕ) → Outside top ↔ (T (inside top) → ⊥)) (budget : ℕ) (answer : A) (never : T (isOf kind (ruleStore rules)) → T (inside (2 ^ decode rules .atoms)) → (r : Refusal) → answer ≡ refuse r → ⊥) where
+  call-refused : (r : Refusal) → guarded refuse kind rules inside budget answer ≡ refuse r ↔ CallRefused kind rules Outside budget r
+  call-refused r =
+      refused-by refuse inj (isOf kind (ruleStore rules)) (no-store-of kind rules) RuleStore (Tested TooManyAtoms (walkAtoms < decode rules .atoms) (NumbersRefused (decode rules .atoms) Outside budget)) r (λ t.
+      refused-by refuse inj (leb (decode rules .atoms) walkAtoms) (past (decode rules .atoms) walkAtoms) TooManyAtoms (NumbersRefused (decode rules .atoms) Outside budget) r (λ u.
+      refused-by refuse inj (inside (2 ^ decode rules .atoms)) (law (2 ^ decode rules .atoms)) SetNumber (Tested Budget (budgetLimit < budget) NoOther) r (λ v.
+      refused-by refuse inj (leb budget budgetLimit) (past budget budgetLimit) Budget NoOther r (λ w. (λ e. never t v r e, λ h. absurd h)))))
+
+-- a class word for each atom
+words-are : (rules : List ℕ) → T (isOf Preference (ruleStore rules)) → length (decode rules .words) ≡ decode rules .atoms
+words-are rules t = step (ruleStore rules) refl t
+  where
+    step : (r : Store) → ruleStore rules ≡ r → T (isOf Preference r) → length (decode rules .words) ≡ decode rules .atoms
+    step (Of Plain) e t = absurd t
+    step (Of Preference) e t =
+        let o = of-kind rules Preference e in
+        words-count (decode rules .kind) (decode rules .atoms) (decode rules .classes) (decode rules .words) (o .0 .form .classes-form) ∙ ap (λ (k : Kind). wordCount k (decode rules .atoms)) (o .1)
+    step NotStore e t = absurd t
+
+outside : (number top : ℕ) → top ≤ number ↔ (T (ltb number top) → ⊥)
+outside number top = (λ h t. omega (arith, ltb→lt number top t), λ h. step (ltb number top) refl h)
+  where
+    step : (b : Bool) → ltb number top ≡ b → (T b → ⊥) → top ≤ number
+    step true e f = absurd (f tt)
+    step false e f = ltb-false number top e
+
+pub verdict-refuses : (rules : List ℕ) (number budget : ℕ) → VerdictRefuses rules number budget
+unfolding preferredAnswer stableAnswer nextAnswer
+verdict-refuses rules number budget = record {
+  preferred = λ r. call-refused NotJudged (λ x y e. cc) Preference rules (λ top. top ≤ number) (ltb number) (outside number) budget
+      (preferredVerdict (decode rules .words) (decode rules .rules) number budget) (λ t v. preferred-means (decode rules .words) (decode rules .rules) number budget .never-refused) r;
+  stable = λ r. call-refused NotJudged (λ x y e. cc) Plain rules (λ top. top ≤ number) (ltb number) (outside number) budget
+      (stableVerdict (decode rules .atoms) (decode rules .rules) number budget)
+      (λ t v. stable-means (decode rules .atoms) (decode rules .rules) number (ltb→lt number (2 ^ decode rules .atoms) v) budget .never-refused) r;
+  next-state = λ r. call-refused NotSearched (λ x y e. cc) Preference rules (λ top. top < number) (leb number) (past number) budget
+      (nextVerdict (decode rules .words) (decode rules .rules) number budget)
+      (λ t v. next-means (decode rules .words) (decode rules .rules) number (subst (λ (n : ℕ). number ≤ 2 ^ n) (sym (words-are rules t)) (leb→le number (2 ^ decode rules .atoms) v)) budget .never-refused) r;
+}
+
+-- the reader
+
+read-inj : {r f : Refusal} {line k : ℕ} → NotRead f k ≡ NotRead r line → (f ≡ r) × (k ≡ line)
+read-inj e = (cc, cc)
+
+never-read : {A : Type 0} {r : Refusal} {line words bytes : ℕ} → NotRead r line ≡ Accepted words bytes → A
+never-read e = absurd (let z : _≡_ {A = ℕ} 0 1 = cc in omega arith)
+
+module _ (text : List ℕ) (words bytes : ℕ) where
+  module _ (p : Program) (ns : List (List ℕ)) where
+    abbrev fits : Bool
+    fits = leb (length (encode p)) words && leb (length (encodeNames ns)) bytes
+
+    no-room : NoRoom p ns words bytes ↔ (T fits → ⊥)
+    no-room = (there, λ h. step (leb (length (encode p)) words) (leb (length (encodeNames ns)) bytes) (past (length (encode p)) words) (past (length (encodeNames ns)) bytes) h)
+      where
+        there : NoRoom p ns words bytes → T fits → ⊥
+        there (inl h) t = past (length (encode p)) words .0 h (T-and-l (leb (length (encode p)) words) (leb (length (encodeNames ns)) bytes) t)
+        there (inr h) t = past (length (encodeNames ns)) bytes .0 h (T-and-r (leb (length (encode p)) words) (leb (length (encodeNames ns)) bytes) t)
+
+        step : (a b : Bool) → TooShort (encode p) words ↔ (T a → ⊥) → TooShort (encodeNames ns) bytes ↔ (T b → ⊥) → (T (a && b) → ⊥) → NoRoom p ns words bytes
+        step true b l k h = inr (k .1 h)
+        step false b l k h = inl (l .1 (λ t. t))
+
+    -- of a text that says p and ns
+    module _ (e : said text ≡ accepted p ns) where
+      answer-is : readAnswer text words bytes ≡ cond fits (Accepted (length (encode p)) (length (encodeNames ns))) (NotRead Output 0)
+      unfolding readAnswer
+      answer-is = ap (λ (s : Said). answerOf s words bytes) e
+
+      short-refused : (r : Refusal) (line : ℕ) → readAnswer text words bytes ≡ NotRead r line ↔ (NoRoom p ns words bytes × (r ≡ Output) × (line ≡ 0))
+      short-refused r line = subst (λ (v : Read). v ≡ NotRead r line ↔ (NoRoom p ns words bytes × (r ≡ Output) × (line ≡ 0))) (sym answer-is) (step fits no-room)
+        where
+          step : (b : Bool) → NoRoom p ns words bytes ↔ (T b → ⊥) → cond b (Accepted (length (encode p)) (length (encodeNames ns))) (NotRead Output 0) ≡ NotRead r line ↔ (NoRoom p ns words bytes × (r ≡ Output) × (line ≡ 0))
+          step true l = (λ q. never-read (sym q), λ h. absurd (l .0 (h .0) tt))
+          step false l = (λ q. let i = read-inj q in (l .1 (λ t. t), sym (i .0), sym (i .1)), λ h. rw (h .1, h .2))
+
+      long-accepted : (w b : ℕ) → readAnswer text words bytes ≡ Accepted w b ↔ ((NoRoom p ns words bytes → ⊥) × (w ≡ length (encode p)) × (b ≡ length (encodeNames ns)))
+      long-accepted w b = subst (λ (v : Read). v ≡ Accepted w b ↔ ((NoRoom p ns words bytes → ⊥) × (w ≡ length (encode p)) × (b ≡ length (encodeNames ns)))) (sym answer-is) (step fits no-room)
+        where
+          step : (c : Bool) → NoRoom p ns words bytes ↔ (T c → ⊥) → cond c (Accepted (length (encode p)) (length (encodeNames ns))) (NotRead Output 0) ≡ Accepted w b ↔ ((NoRoom p ns words bytes → ⊥) × (w ≡ length (encode p)) × (b ≡ length (encodeNames ns)))
+          step true l = (
+            λ q. (λ h. l .0 h tt, let z : length (encode p) ≡ w = cc in sym z, let z : length (encodeNames ns) ≡ b = cc in sym z),
+            λ h. let x = h .1 in let y = h .2 in cc,
+          )
+          step false l = (λ q. never-read q, λ h. absurd (h .0 (l .1 (λ t. t))))
+
+  -- of a text that says a refusal
+  faulty : (f : Refusal) (k : ℕ) → said text ≡ refused f k → readAnswer text words bytes ≡ NotRead f k
+  unfolding readAnswer
+  faulty f k e = ap (λ (s : Said). answerOf s words bytes) e
+
+  abbrev Short : Refusal → ℕ → Type 0
+  Short r line = (p : Program) × (ns : List (List ℕ)) × Accepts text p ns × NoRoom p ns words bytes × (r ≡ Output) × (line ≡ 0)
+
+  read-refused : (r : Refusal) (line : ℕ) → readAnswer text words bytes ≡ NotRead r line ↔ (Refuses text r line ⊎ Short r line)
+  read-refused r line = (λ q. there (said text) refl q, back)
+    where
+      there : (s : Said) → said text ≡ s → readAnswer text words bytes ≡ NotRead r line → Refuses text r line ⊎ Short r line
+      there (accepted p ns) e q = let h = short-refused p ns e r line .0 q in inr (p, ns, said-accepted text p ns .0 e, h .0, h .1, h .2)
+      there (refused f k) e q = let i = read-inj (sym (faulty f k e) ∙ q) in inl (said-refused text r line .0 (e ∙ ap₂ refused (i .0) (i .1)))
+
+      back : Refuses text r line ⊎ Short r line → readAnswer text words bytes ≡ NotRead r line
+      back (inl h) = faulty r line (said-refused text r line .1 h)
+      back (inr h) = short-refused (h .0) (h .1) (said-accepted text (h .0) (h .1) .1 (h .2)) r line .1 (h .3, h .4, h .5)
+
+  read-accepted : (w b : ℕ) → readAnswer text words bytes ≡ Accepted w b
+      ↔ ((p : Program) × (ns : List (List ℕ)) × Accepts text p ns × (NoRoom p ns words bytes → ⊥) × (w ≡ length (encode p)) × (b ≡ length (encodeNames ns)))
+  read-accepted w b = (λ q. there (said text) refl q, λ h. long-accepted (h .0) (h .1) (said-accepted text (h .0) (h .1) .1 (h .2)) w b .1 (h .3, h .4, h .5))
+    where
+      there : (s : Said) → said text ≡ s → readAnswer text words bytes ≡ Accepted w b
+          → (p : Program) × (ns : List (List ℕ)) × Accepts text p ns × (NoRoom p ns words bytes → ⊥) × (w ≡ length (encode p)) × (b ≡ length (encodeNames ns))
+      there (accepted p ns) e q = let h = long-accepted p ns e w b .0 q in (p, ns, said-accepted text p ns .0 e, h .0, h .1, h .2)
+      there (refused f k) e q = never-read (sym (faulty f k e) ∙ q)
+
+pub read-refuses : (text rules names : List ℕ) → ReadRefuses text rules names
+unfolding readRules readNames
+read-refuses text rules names = record {
+  refused = read-refused text (length rules) (length names);
+  accepted = read-accepted text (length rules) (length names);
+  kept = λ r line q. (ap (λ (v : Read). over (writtenIf v (λ p ns. encode p) (said text)) rules) q, ap (λ (v : Read). over (writtenIf v (λ p ns. encodeNames ns) (said text)) names) q);
+  filled = λ words bytes q p ns a. (
+      let e = said-accepted text p ns .1 a in
+      let h = long-accepted text (length rules) (length names) p ns e words bytes .0 q in (
+        ap₂ (λ (v : Read) (s : Said). over (writtenIf v (λ p ns. encode p) s) rules) q e ∙ ap (λ (k : ℕ). encode p ++ drop k rules) (sym (h .1)),
+        ap₂ (λ (v : Read) (s : Said). over (writtenIf v (λ p ns. encodeNames ns) s) names) q e ∙ ap (λ (k : ℕ). encodeNames ns ++ drop k names) (sym (h .2)),
+      )
+      );
+}
+
+-- the programs
+
+streams : {printed : List ℕ} (whole : List ℕ) → printed ≡ streamed whole → Streams whole printed
+streams whole e = record { fits = λ l. e ∙ rw (le-leb (length whole) streamLimit l); past = λ l. e ∙ rw (lt-leb (length whole) streamLimit l) }
+
+pub print-refuses : (text : List ℕ) → PrintRefuses text
+unfolding translatePrinted statesPrinted printed statesOf
+print-refuses text = record {
+  too-long = λ l. (rw (lt-leb (length text) streamLimit l), rw (lt-leb (length text) streamLimit l));
+  refused = λ s r line h. let e = said-refused text r line .1 h in (rw (le-leb (length text) streamLimit s, e), rw (le-leb (length text) streamLimit s, e));
+  plain = λ s p names a k. let e = said-accepted text p names .1 a in (rw (le-leb (length text) streamLimit s, e, k), rw (le-leb (length text) streamLimit s, e, k));
+  many-atoms = λ s p names a k m. let e = said-accepted text p names .1 a in rw (le-leb (length text) streamLimit s, e, k, lt-leb (p .atoms) walkAtoms m);
+  translated = λ s p names a k. let e = said-accepted text p names .1 a in streams (translationText p names) (rw (le-leb (length text) streamLimit s, e, k));
+  listed = λ s p names a k few. let e = said-accepted text p names .1 a in streams (wholeListing p names) (rw (le-leb (length text) streamLimit s, e, k, le-leb (p .atoms) walkAtoms few));
+}
+
+pub prints-into : (text before : List ℕ) → PrintsInto text before
+unfolding shown
+prints-into text before = record {
+  all = λ l. ap (λ (b : Bool). over (cond b text []) before) (le-leb (length text) (length before) l);
+  nothing = λ l. ap (λ (b : Bool). over (cond b text []) before) (lt-leb (length text) (length before) l);
+}

@@ -1,0 +1,12 @@
+-- What the entry points answer, write and print, and which refusals they give.
+pub mod Reading
+pub mod ReadsAs
+pub mod Writing
+pub mod Translating
+pub mod Printed
+pub mod Listed
+pub mod NextInside
+pub mod PrintedStates
+pub mod Programs
+pub mod Refusals
+pub mod Judged

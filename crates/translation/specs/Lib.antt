@@ -1,2 +1,0 @@
--- What the translator answers.
-pub mod Answers
