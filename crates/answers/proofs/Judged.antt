@@ -4,22 +4,22 @@ use mathlib.Core.Path.{_≡_, refl, sym, ap, _∙_, subst}
 use mathlib.Core.Bool.{Bool, true}
 use mathlib.Core.List.{List}
 use lib.Dec.{leb, ltb}
-use lib.ListN.{length}
 use borrow.Author.Tests.{le-leb, lt-ltb}
 use Rattle.kinds.specs.Limits.{walkAtoms, budgetLimit}
 use Rattle.kinds.specs.declared.limits.Kind.{Kind}
 use Rattle.kinds.specs.declared.limits.Kind.the-variants.{Plain, Preference}
 use Rattle.kinds.specs.declared.refusals.Refusal.{Refusal}
 use Rattle.stores.specs.Program.{Program}
-use Rattle.stores.specs.RuleStore.{decode, ruleStore, isOf, wordCount}
+use Rattle.stores.specs.RuleStore.{decode, ruleStore, isOf}
 use Rattle.stores.specs.declared.rule_store.RuleStore.the-variants.{Of}
-use Rattle.stores.proofs.RuleStores.{only-decoded, kind-answered, words-count}
+use Rattle.stores.proofs.RuleStores.{only-decoded, kind-answered}
 use Rattle.walks.specs.declared.answers.Verdict.the-variants.{Refused as NotJudged}
 use Rattle.walks.specs.declared.answers.NextState.the-variants.{Refused as NotSearched}
 use Rattle.walks.specs.Walk.{preferredVerdict, stableVerdict, nextVerdict}
 use Rattle.walks.specs.Answers.{guarded, preferredAnswer, stableAnswer, nextAnswer}
 use Rattle.walks.proofs.Meanings.{preferred-means, stable-means}
 use Rattle.walks.proofs.NextStates.{next-means}
+use Rattle.answers.proofs.ClassWords.{class-words}
 use Rattle.answers.specs.Judged.{Called, Judges}
 
 same-kind : (k : Kind) → isOf k (Of k) ≡ true
@@ -36,10 +36,6 @@ module _ {kind : Kind} {rules : List ℕ} {p : Program} {budget : ℕ} (c : Call
       let i : inside (2 ^ decode rules .atoms) ≡ true = ap (λ (q : Program). inside (2 ^ q .atoms)) e ∙ t in
       rw (s, a, i, le-leb budget budgetLimit (c .allowed)) (ap answer e)
 
-  -- a class word for each atom of a preference program
-  words-are : kind ≡ Preference → length (p .words) ≡ p .atoms
-  words-are k = words-count (p .kind) (p .atoms) (p .classes) (p .words) (c .store .form .classes-form) ∙ ap (λ (j : Kind). wordCount j (p .atoms)) (c .is-kind ∙ k)
-
 pub judges : (rules : List ℕ) (p : Program) (number budget : ℕ) → Judges rules p number budget
 unfolding preferredAnswer stableAnswer nextAnswer
 judges rules p number budget = record {
@@ -53,6 +49,6 @@ judges rules p number budget = record {
   );
   next-state = λ c l. (
     passes c NotSearched (leb number) (λ q. nextVerdict (q .words) (q .rules) number budget) (le-leb number (2 ^ p .atoms) l),
-    next-means (p .words) (p .rules) number (subst (λ (n : ℕ). number ≤ 2 ^ n) (sym (words-are c refl)) l) budget,
+    next-means (p .words) (p .rules) number (subst (λ (n : ℕ). number ≤ 2 ^ n) (sym (class-words p (c .store .form) (c .is-kind))) l) budget,
   );
 }

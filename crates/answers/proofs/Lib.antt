@@ -1,5 +1,6 @@
 -- The laws of the answers, and the refusals proved.
 pub mod AcceptedTexts
+pub mod ClassWords
 pub mod PreferredPrinted
 pub mod Refusals
 pub mod Judged

@@ -7,12 +7,10 @@ use mathlib.Core.List.{List, [], _∷_, _++_, append-assoc}
 use lib.ListN.{length, getD, take}
 use lib.Seq.{length-take-le, getD-take}
 use Rattle.kinds.specs.Limits.{budgetLimit}
-use Rattle.kinds.specs.declared.limits.Kind.{Kind}
-use Rattle.kinds.specs.declared.limits.Kind.the-variants.{Preference}
 use Rattle.rules.specs.Lists.{flat}
 use Rattle.rules.specs.Preferred.{Preferred}
 use Rattle.rules.proofs.Lists.{all-at}
-use Rattle.stores.specs.Program.{Program, ProgramForm, ClassesForm}
+use Rattle.stores.specs.Program.{Program}
 use Rattle.walks.specs.Walk.{nextVerdict, preferredSets}
 use Rattle.walks.specs.Listings.{listed, goOn, Whole, stepAfter, CutShort}
 use Rattle.walks.specs.declared.answers.NextState.{NextState}
@@ -20,6 +18,7 @@ use Rattle.walks.specs.declared.answers.NextState.the-variants.{State, Nothing,
 use Rattle.walks.proofs.NextStates.{next-means}
 use Rattle.walks.proofs.Listing.{lists-preferred, listing as listing-means, step-after}
 use Rattle.answers.specs.Printed.{stateLine, totalLine, spentLine}
+use Rattle.answers.proofs.ClassWords.{class-words}
 use Rattle.answers.specs.Listed.{onNext, listing, wholeListing}
 use Rattle.answers.specs.NextInside.{Inside}
 use Rattle.answers.specs.PrintedStates.{PrintsAll, PrintsSome, PrintsPreferred}
@@ -150,10 +149,5 @@ module _ (p : Program) (count : length (p .words) ≡ p .atoms) (names : List (L
       either (inl w) = inl (prints-all w)
       either (inr w) = inr (prints-some w)
 
-pub words-count : (p : Program) → ProgramForm p → p .kind ≡ Preference → length (p .words) ≡ p .atoms
-words-count p form k =
-    let c : ClassesForm Preference (p .atoms) (p .classes) (p .words) = subst (λ (q : Kind). ClassesForm q (p .atoms) (p .classes) (p .words)) k (form .classes-form) in
-    c .1
-
 pub prints-preferred : PrintsPreferred
-prints-preferred p form k names = prints p (words-count p form k) names
+prints-preferred p form k names = prints p (class-words p form k) names

@@ -16,10 +16,10 @@ use Rattle.kinds.specs.declared.refusals.Refusal.the-variants.{Output, RuleStor
 use Rattle.rules.specs.Lists.{over}
 use Rattle.rules.proofs.Booleans.{T-and-l, T-and-r}
 use Rattle.stores.specs.Program.{Program}
-use Rattle.stores.specs.RuleStore.{encode, decode, store?, ruleStore, isOf, wordCount}
+use Rattle.stores.specs.RuleStore.{encode, decode, store?, ruleStore, isOf}
 use Rattle.stores.specs.declared.rule_store.RuleStore.{RuleStore as Store}
 use Rattle.stores.specs.declared.rule_store.RuleStore.the-variants.{Of, Refused as NotStore}
-use Rattle.stores.proofs.RuleStores.{store-law, kind-answered, of-kind, words-count}
+use Rattle.stores.proofs.RuleStores.{store-law, kind-answered, of-kind}
 use Rattle.name_store.specs.NameStore.{encodeNames, names?}
 use Rattle.name_store.proofs.NameStores.{names-law}
 use Rattle.faults.specs.EarliestFault.{Refuses, Accepts}
@@ -27,6 +27,7 @@ use Rattle.faults.proofs.EarliestFault.{said-refused, said-accepted}
 use Rattle.lines.specs.Said.{Said, accepted, refused, said}
 use Rattle.answers.specs.declared.Read.{Read}
 use Rattle.answers.specs.declared.Read.the-variants.{Accepted, Refused as NotRead}
+use Rattle.answers.proofs.ClassWords.{class-words}
 use Rattle.answers.specs.Reading.{answerOf, writtenIf, readAnswer, readRules, readNames}
 use Rattle.answers.specs.declared.Written.{Written}
 use Rattle.answers.specs.declared.Written.the-variants.{Text, Refused as NotWritten}
@@ -211,9 +212,7 @@ words-are rules t = step (ruleStore rules) refl t
   where
     step : (r : Store) → ruleStore rules ≡ r → T (isOf Preference r) → length (decode rules .words) ≡ decode rules .atoms
     step (Of Plain) e t = absurd t
-    step (Of Preference) e t =
-        let o = of-kind rules Preference e in
-        words-count (decode rules .kind) (decode rules .atoms) (decode rules .classes) (decode rules .words) (o .0 .form .classes-form) ∙ ap (λ (k : Kind). wordCount k (decode rules .atoms)) (o .1)
+    step (Of Preference) e t = let o = of-kind rules Preference e in class-words (decode rules) (o .0 .form) (o .1)
     step NotStore e t = absurd t
 
 outside : (number top : ℕ) → top ≤ number ↔ (T (ltb number top) → ⊥)

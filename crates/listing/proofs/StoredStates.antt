@@ -28,7 +28,8 @@ use Rattle.answers.specs.Printed.{refusedText}
 use Rattle.answers.specs.Listed.{listing, wholeListing, streamed, statesOf}
 use Rattle.answers.specs.NextInside.{Inside}
 use Rattle.listing.specs.ListedMasks.{ListedNames, ListedStores, ListedMasks, masksListing}
-use Rattle.answers.proofs.PreferredPrinted.{listing-same, next-inside, words-count}
+use Rattle.answers.proofs.ClassWords.{class-words}
+use Rattle.answers.proofs.PreferredPrinted.{listing-same, next-inside}
 
 -- the masks of a store, as the code hands them on
 module _ {rules names starts care want classes : List ℕ} {z : Sizes} (h : ListedStores rules names starts) (d : MasksOf (decode rules) care want classes z) where
@@ -39,7 +40,7 @@ module _ {rules names starts care want classes : List ℕ} {z : Sizes} (h : List
   next t = nextMasks (take (z .rules) care) (take (z .rules) want) (take (z .classes) classes) z t budgetLimit
 
   counted : length (program .words) ≡ program .atoms
-  counted = words-count program (h .store .form) (h .kind)
+  counted = class-words program (h .store .form) (h .kind)
 
   inside : Inside next (2 ^ z .atoms)
   inside t s u l e =
