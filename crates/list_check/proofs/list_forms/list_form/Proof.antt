@@ -2,8 +2,8 @@ use Prim.Native.Nat.{_-_}
 use native.Mathlib.Omega.{arith}
 use borrow.Author.Needs.{needs}
 use Rattle.stores.proofs.Marks.{Marking, begins, ended, beyond, twice, again}
-use Rattle.rule_check.proofs.rule_forms.list_form.Statement.{statement}
-use Rattle.rule_check.proofs.rule_forms.list_form.Tie as tie
+use Rattle.list_check.proofs.list_forms.list_form.Statement.{statement}
+use Rattle.list_check.proofs.list_forms.list_form.Tie as tie
 
 abbrev Inv-loop : tie.InvT-loop
 Inv-loop words at count atoms marks₀ stamp end i₀ marks i = Marking words at count atoms marks₀ stamp end marks i

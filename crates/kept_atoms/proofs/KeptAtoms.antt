@@ -3,13 +3,13 @@ use Prim.Native.Nat.{ℕ, _+_, _^_, _≤_, _<_, zero-le}
 use native.Mathlib.Numerals.{add-one}
 use native.Mathlib.Omega.{arith}
 use mathlib.Core.Path.{_≡_, refl, sym, ap, _∙_}
-use mathlib.Core.Bool.{Bool, true, false, not, _||_}
+use mathlib.Core.Bool.{Bool, true, false, not}
 use mathlib.Core.List.{List, [], _∷_}
 use lib.ListN.{replicate, length-replicate, replicate-append-replicate}
 use borrow.Author.Tests.{lt-leb, le-leb, not-true, not-false}
 use Rattle.kinds.specs.Limits.{classLimit, within}
 use Rattle.kinds.specs.declared.limits.Kind.{Kind}
-use Rattle.kinds.specs.declared.refusals.Refusal.the-variants.{DeclaredTwice, Limit}
+use Rattle.kinds.specs.declared.refusals.Refusal.the-variants.{Limit}
 use Rattle.output.specs.Emitted.{Emitted, InRange}
 use Rattle.output.proofs.Emitting.{none, then, renamed}
 use Rattle.gathering.specs.declared.gathered.Gathered.{Gathered}
@@ -20,7 +20,7 @@ use Rattle.lines.specs.declared.stage.Stage.{Stage}
 use Rattle.lines.specs.Forms.{Word}
 use Rattle.lines.specs.Faults.{stageAfter, classesAfter, classWords}
 use Rattle.lines.specs.Shapes.{wordOf}
-use Rattle.gathering.specs.Gathered.{atomCounts, keptNames, KeptNames, pastRefusal}
+use Rattle.gathering.specs.Gathered.{atomCounts, keptNames, KeptNames}
 
 -- one class more
 pub min-classes : (classes : ℕ) {word : Keyword} → word ≡ Min → classes + 1 ≡ classesAfter (wordOf word) classes
@@ -81,14 +81,3 @@ module _ (kind : Kind) (g : Gathered) (w : Word) (count atoms used : ℕ) (befor
           answer = rw (sym e, not-false fits d, few) (λ i. Next (record { stage = s i; classes = c i; counts = atomCounts (g .counts) atoms; words = p .place i; bytes = used }));
           words = p .bytes;
         }
-
--- past the room
-pub past-known : {a : Bool} (b : Bool) {q : Bool} → q ≡ a → q ≡ true → DeclaredTwice ≡ pastRefusal (a || b)
-past-known b e d = rw (sym e ∙ d)
-
-module _ {a b q : Bool} (e : q ≡ a) (d : q ≡ false) {t : Bool} (f : t ≡ b) where
-  pub past-twice : t ≡ true → DeclaredTwice ≡ pastRefusal (a || b)
-  past-twice g = rw (sym e ∙ d, sym f ∙ g)
-
-  pub past-count : t ≡ false → Limit ≡ pastRefusal (a || b)
-  past-count g = rw (sym e ∙ d, sym f ∙ g)

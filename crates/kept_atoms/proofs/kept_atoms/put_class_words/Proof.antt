@@ -1,7 +1,7 @@
-use Rattle.declaring.proofs.KeptAtoms.{no-class-words, min-words, vary-words, fix-words}
+use Rattle.kept_atoms.proofs.KeptAtoms.{no-class-words, min-words, vary-words, fix-words}
 use borrow.Author.Needs.{needs}
-use Rattle.declaring.proofs.declared_line.put_class_words.Statement.{statement}
-use Rattle.declaring.proofs.declared_line.put_class_words.Tie as tie
+use Rattle.kept_atoms.proofs.kept_atoms.put_class_words.Statement.{statement}
+use Rattle.kept_atoms.proofs.kept_atoms.put_class_words.Tie as tie
 
 enum-told : tie.Need-enum-told
 enum-told c = search needs

@@ -1,8 +1,8 @@
 use Rattle.lines.specs.Shapes.{wordOf}
-use Rattle.declaring.proofs.KeptAtoms.{atoms-over, classes-over, names-kept}
+use Rattle.kept_atoms.proofs.KeptAtoms.{atoms-over, classes-over, names-kept}
 use borrow.Author.Needs.{needs}
-use Rattle.declaring.proofs.declared_line.keep_names.Statement.{statement}
-use Rattle.declaring.proofs.declared_line.keep_names.Tie as tie
+use Rattle.kept_atoms.proofs.kept_atoms.keep_names.Statement.{statement}
+use Rattle.kept_atoms.proofs.kept_atoms.keep_names.Tie as tie
 
 classes-after-requires : tie.Need-classes-after-requires
 classes-after-requires c κs = search needs

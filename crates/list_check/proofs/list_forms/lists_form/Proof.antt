@@ -1,8 +1,8 @@
 use native.Mathlib.Omega.{arith}
 use Rattle.stores.proofs.Marks.{below-more, head-wrong, body-wrong, all-lists}
 use borrow.Author.Needs.{needs}
-use Rattle.rule_check.proofs.rule_forms.lists_form.Statement.{statement}
-use Rattle.rule_check.proofs.rule_forms.lists_form.Tie as tie
+use Rattle.list_check.proofs.list_forms.lists_form.Statement.{statement}
+use Rattle.list_check.proofs.list_forms.lists_form.Tie as tie
 
 add-body : tie.Need-add-body
 add-body c = search needs

@@ -1,6 +1,6 @@
 use borrow.Author.Needs.{needs}
-use Rattle.rule_check.proofs.rule_forms.not_form.Statement.{statement}
-use Rattle.rule_check.proofs.rule_forms.not_form.Tie as tie
+use Rattle.list_check.proofs.list_forms.not_form.Statement.{statement}
+use Rattle.list_check.proofs.list_forms.not_form.Tie as tie
 
 enum-told : tie.Need-enum-told
 enum-told c = search needs

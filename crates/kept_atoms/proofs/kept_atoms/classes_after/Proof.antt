@@ -1,7 +1,7 @@
-use Rattle.declaring.proofs.KeptAtoms.{min-classes}
+use Rattle.kept_atoms.proofs.KeptAtoms.{min-classes}
 use borrow.Author.Needs.{needs}
-use Rattle.declaring.proofs.declared_line.classes_after.Statement.{statement}
-use Rattle.declaring.proofs.declared_line.classes_after.Tie as tie
+use Rattle.kept_atoms.proofs.kept_atoms.classes_after.Statement.{statement}
+use Rattle.kept_atoms.proofs.kept_atoms.classes_after.Tie as tie
 
 enum-told : tie.Need-enum-told
 enum-told c = search needs

@@ -1,10 +1,10 @@
 use Prim.Native.Nat.{_-_}
 use mathlib.Core.Path.{_≡_, refl, _∙_}
 use lib.ListN.{length}
-use Rattle.declaring.proofs.KeptAtoms.{Copying, copying, copy-range, copied, copy-again}
+use Rattle.kept_atoms.proofs.KeptAtoms.{Copying, copying, copy-range, copied, copy-again}
 use native.Mathlib.Omega.{arith}
-use Rattle.declaring.proofs.declared_line.put_copies.Statement.{statement}
-use Rattle.declaring.proofs.declared_line.put_copies.Tie as tie
+use Rattle.kept_atoms.proofs.kept_atoms.put_copies.Statement.{statement}
+use Rattle.kept_atoms.proofs.kept_atoms.put_copies.Tie as tie
 
 abbrev Inv-loop : tie.InvT-loop
 Inv-loop w count words₀ at end₀ i₀ words end i = (length words ≡ length words₀) × Copying words₀ at w count words end i

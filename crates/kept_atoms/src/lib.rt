@@ -1,0 +1,2 @@
+// The atoms that a declaring line adds (document 01, "Who can be turned back").
+pub mod kept_atoms;
