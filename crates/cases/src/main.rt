@@ -19,7 +19,8 @@ fn show_translation(text: &[u8]) {
     put(&out, size);
 }
 
-fn states(path: &[u8]) {
+// What the lister prints on a file, or the translator.
+fn print(path: &[u8], listed: bool) {
     io::write_all(1, path);
     io::write_all(1, b"\n");
     let file = os::open_read(path);
@@ -30,21 +31,19 @@ fn states(path: &[u8]) {
     let mut text = [0u8; 65537];
     let size = io::read_full(file, &mut text);
     libc::close(file);
-    show_states(&text[..size]);
+    if listed {
+        show_states(&text[..size]);
+    } else {
+        show_translation(&text[..size]);
+    }
+}
+
+fn states(path: &[u8]) {
+    print(path, true);
 }
 
 fn translation(path: &[u8]) {
-    io::write_all(1, path);
-    io::write_all(1, b"\n");
-    let file = os::open_read(path);
-    if file < 0 {
-        os::fail(path);
-        return;
-    }
-    let mut text = [0u8; 65537];
-    let size = io::read_full(file, &mut text);
-    libc::close(file);
-    show_translation(&text[..size]);
+    print(path, false);
 }
 
 fn first_states() {
