@@ -35,7 +35,7 @@ use Rattle.answers.specs.Translating.{translationText, storesTranslation}
 use Rattle.answers.specs.Printed.{refusedText}
 use Rattle.answers.specs.Listed.{wholeListing, streamed, statesOf}
 use Rattle.answers.specs.Programs.{ofKind, onSaid, printed, translationOf, translatePrinted, statesPrinted}
-use Rattle.programs.specs.ReadStores.{ReadStores, onStores}
+use Rattle.programs.specs.ReadStores.{ReadStores, onStores, printer}
 use Rattle.answers.proofs.AcceptedTexts.{Filled, never, filled, reads-as, front}
 use Rattle.text.proofs.TextParts.{store-header}
 use Rattle.printing.proofs.PrintedLines.{refused-short}
@@ -105,38 +105,50 @@ module _ {rules names : List ℕ} (h : ReadStores rules names) where
     pub preference-names : NamesOf names Preference (decode rules .atoms) (decodeNames (decode rules .atoms) names)
     preference-names = subst (λ (k : Kind). NamesOf names k (decode rules .atoms) (decodeNames (decode rules .atoms) names)) preference (h .named)
 
-    pub on-preference : (f : Program → List (List ℕ) → List ℕ) → f (decode rules) (decodeNames (decode rules .atoms) names) ≡ onStores f rules names
+    on-preference : (f : Program → List (List ℕ) → List ℕ) → f (decode rules) (decodeNames (decode rules .atoms) names) ≡ onStores f rules names
     unfolding onStores
     on-preference f = sym (ap (λ (k : Kind). ofKind k (f (decode rules) (decodeNames (decode rules .atoms) names))) preference)
 
-    -- what the translator leaves in its scratch
-    abbrev translation : List ℕ
-    translation = storesTranslation rules names
+    module _ {listed : Bool} where
+      pub by-lister : listed ≡ true → statesOf (decode rules) (decodeNames (decode rules .atoms) names) ≡ onStores (printer listed) rules names
+      by-lister e = on-preference statesOf ∙ ap (λ (b : Bool). onStores (printer b) rules names) (sym e)
 
-    translation-of : (b : Bool) → leb (length translation) streamLimit ≡ b → cond b translation (refusedText Output 0) ≡ onStores translationOf rules names
-    unfolding storesTranslation
-    translation-of b f = ap (λ (x : Bool). cond x translation (refusedText Output 0)) (sym f) ∙ on-preference translationOf
+      pub by-translator : listed ≡ false → translationOf (decode rules) (decodeNames (decode rules .atoms) names) ≡ onStores (printer listed) rules names
+      by-translator e = on-preference translationOf ∙ ap (λ (b : Bool). onStores (printer b) rules names) (sym e)
 
-    module _ (before : List ℕ) (room : length before ≡ streamLimit) {answer : Written} (a : answer ≡ fitted translation (length before)) where
-      pub translation-refused : {g : Refusal} → answer ≡ NotWritten g → refusedText g 0 ≡ onStores translationOf rules names
-      translation-refused r =
-          let n = no-room translation before a r in
+-- what the translator leaves in its scratch
+
+module _ (rules names : List ℕ) where
+  abbrev translation : List ℕ
+  translation = storesTranslation rules names
+
+  abbrev shown-translation : List ℕ
+  shown-translation = translationOf (decode rules) (decodeNames (decode rules .atoms) names)
+
+  translation-of : (b : Bool) → leb (length translation) streamLimit ≡ b → cond b translation (refusedText Output 0) ≡ shown-translation
+  unfolding storesTranslation
+  translation-of b f = ap (λ (x : Bool). cond x translation (refusedText Output 0)) (sym f)
+
+  module _ (before : List ℕ) (room : length before ≡ streamLimit) {answer : Written} (a : answer ≡ fitted translation (length before)) where
+    pub translation-refused : {g : Refusal} → answer ≡ NotWritten g → refusedText g 0 ≡ shown-translation
+    translation-refused r =
+        let n = no-room translation before a r in
+        let l = n .1 in
+        ap (λ (x : Refusal). refusedText x 0) (n .0) ∙ translation-of false (lt-leb (length translation) streamLimit (omega arith))
+
+    module _ {after : List ℕ} {k : ℕ} (w : after ≡ over (writtenBytes (fitted translation (length before)) translation) before) (r : answer ≡ Text k) where
+      output-is : after ≡ over translation before
+      output-is = w ∙ ap (λ (x : Written). over (writtenBytes x translation) before) (sym a ∙ r)
+
+      pub translation-fits : k - 0 ≤ length after
+      translation-fits = omega (arith, room-for translation before a r .0, ap length output-is ∙ length-append translation (drop (length translation) before))
+
+      pub translation-is : take (k - 0) (drop 0 after) ≡ shown-translation
+      translation-is =
+          let n = room-for translation before a r in
           let l = n .1 in
-          ap (λ (x : Refusal). refusedText x 0) (n .0) ∙ translation-of false (lt-leb (length translation) streamLimit (omega arith))
-
-      module _ {after : List ℕ} {k : ℕ} (w : after ≡ over (writtenBytes (fitted translation (length before)) translation) before) (r : answer ≡ Text k) where
-        output-is : after ≡ over translation before
-        output-is = w ∙ ap (λ (x : Written). over (writtenBytes x translation) before) (sym a ∙ r)
-
-        pub translation-fits : k - 0 ≤ length after
-        translation-fits = omega (arith, room-for translation before a r .0, ap length output-is ∙ length-append translation (drop (length translation) before))
-
-        pub translation-is : take (k - 0) (drop 0 after) ≡ onStores translationOf rules names
-        translation-is =
-            let n = room-for translation before a r in
-            let l = n .1 in
-            let z : k - 0 ≡ length translation = omega (arith, n .0) in
-            ap₂ (λ (n : ℕ) (l : List ℕ). take n l) z output-is ∙ front translation before ∙ translation-of true (le-leb (length translation) streamLimit (omega arith))
+          let z : k - 0 ≡ length translation = omega (arith, n .0) in
+          ap₂ (λ (n : ℕ) (l : List ℕ). take n l) z output-is ∙ front translation before ∙ translation-of true (le-leb (length translation) streamLimit (omega arith))
 
 -- the stores that the reader fills
 

@@ -14,18 +14,18 @@ ghost use lib.ListN.{length};
 ghost use Rattle.kinds.specs.Sizes.{storeWords, storeBytes};
 ghost use Rattle.kinds.specs.Limits.{streamLimit};
 ghost use Rattle.printing.specs.Parts.{Shown};
-ghost use Rattle.answers.specs.Listed.{statesOf};
-ghost use Rattle.answers.specs.Programs.{translationOf, translatePrinted, statesPrinted};
-ghost use Rattle.programs.specs.ReadStores.{ReadStores, onStores};
+ghost use Rattle.answers.specs.Programs.{printed, translationOf, translatePrinted, statesPrinted};
+ghost use Rattle.programs.specs.ReadStores.{ReadStores, onStores, printer};
+ghost use Rattle.kinds.specs.declared.limits.Kind.the-variants.{Preference};
+ghost use Rattle.stores.specs.RuleStore.{decode};
+ghost use Rattle.name_store.specs.NameStore.{NamesOf, decodeNames};
+ghost use Rattle.translated.specs.PreferenceStore.{PreferenceStore};
 
-// What the translator prints on two stores as they were read.
+// What the translator prints on two stores of a preference file.
 fn show_translation(rules: &[u16], names: &[u8], out: &mut [u8]) -> usize
-    requires { ⌜ ReadStores (now rules) (now names) ⌝ }
-    ensures { λ r. ⌜ Shown (onStores translationOf (now (rules .entry)) (now (names .entry))) (now (out .entry)) (now (out .exit)) r ⌝ }
+    requires { ⌜ PreferenceStore (now rules) × NamesOf (now names) Preference (decode (now rules) .atoms) (decodeNames (decode (now rules) .atoms) (now names)) ⌝ }
+    ensures { λ r. ⌜ Shown (translationOf (decode (now (rules .entry))) (decodeNames (decode (now (rules .entry)) .atoms) (now (names .entry)))) (now (out .entry)) (now (out .exit)) r ⌝ }
 {
-    if rules[0] == 0 {
-        return show_refused(Refusal::RuleStore, 0, out);
-    }
     let mut text = [0u8; Kind::STREAM];
     let answer = translate_checked(rules, names, &mut text);
     match answer {
@@ -34,25 +34,29 @@ fn show_translation(rules: &[u16], names: &[u8], out: &mut [u8]) -> usize
     }
 }
 
-// What the lister prints on them.
-fn show_listed(rules: &[u16], names: &[u8], out: &mut [u8]) -> usize
+// What the lister prints on two stores as they were read, or else the translator.
+fn show_stores(listed: bool, rules: &[u16], names: &[u8], out: &mut [u8]) -> usize
     requires { ⌜ ReadStores (now rules) (now names) ⌝ }
-    ensures { λ r. ⌜ Shown (onStores statesOf (now (rules .entry)) (now (names .entry))) (now (out .entry)) (now (out .exit)) r ⌝ }
+    ensures { λ r. ⌜ Shown (onStores (printer listed) (now (rules .entry)) (now (names .entry))) (now (out .entry)) (now (out .exit)) r ⌝ }
 {
     if rules[0] == 0 {
         return show_refused(Refusal::RuleStore, 0, out);
     }
-    show_states(rules, names, out)
+    if listed {
+        return show_states(rules, names, out);
+    }
+    show_translation(rules, names, out)
 }
 
-// The translation of a text, with room for its stores.
-fn translate_by(text: &[u8], rules: &mut [u16], names: &mut [u8], out: &mut [u8]) -> usize
+// What they print on a text, with room for its stores.
+fn print_by(listed: bool, text: &[u8], rules: &mut [u16], names: &mut [u8], out: &mut [u8]) -> usize
     requires { ⌜ (length (now text) ≤ streamLimit) × (storeWords ≤ length (now rules)) × (storeBytes ≤ length (now names)) ⌝ }
-    ensures { λ r. ⌜ Shown (translatePrinted (now (text .entry))) (now (out .entry)) (now (out .exit)) r ⌝ }
+    ensures { λ r. ⌜ Shown (printed (printer listed) (now (text .entry))) (now (out .entry)) (now (out .exit)) r ⌝ }
 {
     let answer = read(text, rules, names);
     match answer {
-        Read::Accepted { words, bytes } => show_translation(
+        Read::Accepted { words, bytes } => show_stores(
+            listed,
             &rules[0..words],
             &names[0..bytes],
             out,
@@ -61,38 +65,27 @@ fn translate_by(text: &[u8], rules: &mut [u16], names: &mut [u8], out: &mut [u8]
     }
 }
 
-// The states of a text, with room for its stores.
-fn states_by(text: &[u8], rules: &mut [u16], names: &mut [u8], out: &mut [u8]) -> usize
-    requires { ⌜ (length (now text) ≤ streamLimit) × (storeWords ≤ length (now rules)) × (storeBytes ≤ length (now names)) ⌝ }
-    ensures { λ r. ⌜ Shown (statesPrinted (now (text .entry))) (now (out .entry)) (now (out .exit)) r ⌝ }
+fn print_text(listed: bool, text: &[u8], out: &mut [u8]) -> usize
+    ensures { λ r. ⌜ Shown (printed (printer listed) (now (text .entry))) (now (out .entry)) (now (out .exit)) r ⌝ }
 {
-    let answer = read(text, rules, names);
-    match answer {
-        Read::Accepted { words, bytes } => show_listed(&rules[0..words], &names[0..bytes], out),
-        Read::Refused { refusal, line } => show_refused(refusal, line, out),
+    if Kind::STREAM < text.len() {
+        return show_refused(Refusal::TextTooLong, 0, out);
     }
+    let mut rules = [0u16; Plain::WORDS];
+    let mut names = [0u8; Plain::BYTES];
+    print_by(listed, text, &mut rules, &mut names, out)
 }
 
 // What the translator prints on a text.
 pub fn translate_text(text: &[u8], out: &mut [u8]) -> usize
     ensures { λ r. ⌜ Shown (translatePrinted (now (text .entry))) (now (out .entry)) (now (out .exit)) r ⌝ }
 {
-    if Kind::STREAM < text.len() {
-        return show_refused(Refusal::TextTooLong, 0, out);
-    }
-    let mut rules = [0u16; Plain::WORDS];
-    let mut names = [0u8; Plain::BYTES];
-    translate_by(text, &mut rules, &mut names, out)
+    print_text(false, text, out)
 }
 
 // What the lister prints on a text.
 pub fn states_text(text: &[u8], out: &mut [u8]) -> usize
     ensures { λ r. ⌜ Shown (statesPrinted (now (text .entry))) (now (out .entry)) (now (out .exit)) r ⌝ }
 {
-    if Kind::STREAM < text.len() {
-        return show_refused(Refusal::TextTooLong, 0, out);
-    }
-    let mut rules = [0u16; Plain::WORDS];
-    let mut names = [0u8; Plain::BYTES];
-    states_by(text, &mut rules, &mut names, out)
+    print_text(true, text, out)
 }
