@@ -25,7 +25,7 @@ use Rattle.lines.specs.Forms.{LineForm, formOf}
 use Rattle.lines.specs.Faults.{SoFar, ruling?, stepForm}
 use Rattle.lines.specs.Said.{Said, accepted, refused, onStep, readLines, start, programOf}
 use Rattle.gathering.specs.Gathered.{stateOf, Held, HeldIndex, HeldMarks, LineSays, LineIs, MarksSay, MarksAre}
-use Rattle.reader.specs.Gathering.{startCounts, passedOn, GatherSays, GatherIs}
+use Rattle.reader.specs.Gathering.{startCounts, passedOn, atEnd, GatherSays, GatherIs}
 use Rattle.lines.proofs.LineBlocks.{line-le}
 use Rattle.faults.proofs.TextLines.{cut-first}
 use Rattle.gathering.proofs.HeldState.{rules-is, held-is}
@@ -96,19 +96,17 @@ module _ {kind : Kind} {s : List ℕ} {g : Gathered} {words bytes starts firsts 
   abbrev whole : Said
   whole = readLines 1 (start s) (lines s)
 
-  module _ (o : length s ≤ at) {r : Bool} (e : r ≡ ruling? (g .stage)) where
-    at-end : cond (ruling? (st .stage)) (accepted (programOf st) (st .names)) (refused BrokenForm number) ≡ whole
+  module _ (o : length s ≤ at) where
+    lines-end : cond (ruling? (st .stage)) (accepted (programOf st) (st .names)) (refused BrokenForm number) ≡ whole
     unfolding readLines lines linesFrom
-    at-end = ap (λ l. readLines number st (linesFrom 0 l)) (sym (drop-of-length-le s o)) ∙ h .left
+    lines-end = ap (λ l. readLines number st (linesFrom 0 l)) (sym (drop-of-length-le s o)) ∙ h .left
 
-    ruling-is : ruling? (st .stage) ≡ r
-    ruling-is = sym (e ∙ ap ruling? (h .held .stage-is))
-
-    pub all-read : r ≡ true → GatherIs kind whole words bytes (Whole g)
-    all-read d = record { says = (sym (rw (ruling-is, d) at at-end), h .held) }
-
-    pub line-missing : r ≡ false → GatherIs kind whole words bytes (Refused BrokenForm number)
-    line-missing d = record { says = sym (rw (ruling-is, d) at at-end) }
+    pub no-line-left : {q : Gather} → q ≡ atEnd g number → GatherIs kind whole words bytes q
+    no-line-left k = record { says = subst (GatherSays kind whole words bytes) (sym k) (go (ruling? (g .stage)) (sym (ap ruling? (h .held .stage-is)))) }
+      where
+        go : (r : Bool) → ruling? (st .stage) ≡ r → GatherSays kind whole words bytes (cond r (Whole g) (Refused BrokenForm number))
+        go true d = (sym (rw d at lines-end), h .held)
+        go false d = sym (rw d at lines-end)
 
   module _ (l : at < length s) {n : ℕ} (e : n ≡ lineLength (drop at s)) where
     step : onStep (stepForm st (formOf (line s at l e))) number (λ after. readLines (suc number) after (lines (drop (at + n) s))) ≡ whole

@@ -19,7 +19,7 @@ ghost use Rattle.lines.specs.Lines.{lines};
 ghost use Rattle.lines.specs.Forms.{atoms, begins, tagOf, formOf};
 ghost use Rattle.lines.specs.Said.{start, readLines};
 ghost use Rattle.gathering.specs.Gathered.{stateOf, Held, HeldIndex, HeldMarks, LineIs, MarksAre};
-ghost use Rattle.reader.specs.Gathering.{startCounts, passedOn, GatherIs};
+ghost use Rattle.reader.specs.Gathering.{startCounts, passedOn, atEnd, GatherIs};
 
 // What the lines of a text give: the counts beside the filled scratch stores, or the earliest faulty line with its refusal.
 pub enum Gather {
@@ -107,6 +107,20 @@ fn passed_on(answer: Line, line: usize) -> Gather
     }
 }
 
+// Behind the last line: the rules have begun, or the next line is missing.
+fn at_end(gathered: Gathered, number: usize) -> Gather
+    ensures { λ r. ⌜ r ≡ atEnd gathered number ⌝ }
+{
+    let stage = gathered.stage;
+    if rule_line::is_ruling(stage) {
+        return Gather::Whole(gathered);
+    }
+    Gather::Refused {
+        refusal: Refusal::BrokenForm,
+        line: number,
+    }
+}
+
 pub fn read_lines(
     text: &[u8],
     kind: Kind,
@@ -146,12 +160,5 @@ pub fn read_lines(
         number += 1;
         at = to;
     }
-    let stage = gathered.stage;
-    if rule_line::is_ruling(stage) {
-        return Gather::Whole(gathered);
-    }
-    Gather::Refused {
-        refusal: Refusal::BrokenForm,
-        line: number,
-    }
+    at_end(gathered, number)
 }

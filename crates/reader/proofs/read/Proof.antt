@@ -1,5 +1,5 @@
 use Prim.Native.Nat.{ℕ, _≤_}
-use mathlib.Core.Path.{refl}
+use mathlib.Core.Path.{refl, sym}
 use lib.ListN.{replicate, length-replicate}
 use Rattle.kinds.specs.Sizes.{storeWords, storeBytes}
 use Rattle.kinds.specs.Limits.{atomLimit}
@@ -19,22 +19,22 @@ kind-of-requires : tie.Need-kind-of-requires
 kind-of-requires c κs = search needs
 
 slice-aggregate-read-lines : tie.Need-slice-aggregate-read-lines
-slice-aggregate-read-lines c = search needs
+slice-aggregate-read-lines c = refl
 
 slice-aggregate-read-lines-2 : tie.Need-slice-aggregate-read-lines-2
-slice-aggregate-read-lines-2 c = search needs
+slice-aggregate-read-lines-2 c = refl
 
 slice-aggregate-read-lines-3 : tie.Need-slice-aggregate-read-lines-3
-slice-aggregate-read-lines-3 c = search needs
+slice-aggregate-read-lines-3 c = refl
 
 slice-aggregate-read-lines-4 : tie.Need-slice-aggregate-read-lines-4
-slice-aggregate-read-lines-4 c = search needs
+slice-aggregate-read-lines-4 c = refl
 
 slice-aggregate-read-lines-5 : tie.Need-slice-aggregate-read-lines-5
-slice-aggregate-read-lines-5 c = search needs
+slice-aggregate-read-lines-5 c = refl
 
 slice-aggregate-read-lines-6 : tie.Need-slice-aggregate-read-lines-6
-slice-aggregate-read-lines-6 c = search needs
+slice-aggregate-read-lines-6 c = refl
 
 read-lines-requires : tie.Need-read-lines-requires
 read-lines-requires c κs =
@@ -45,10 +45,10 @@ enum-known-gathered : tie.Need-enum-known-gathered
 enum-known-gathered c = search needs
 
 slice-aggregate-deliver : tie.Need-slice-aggregate-deliver
-slice-aggregate-deliver c = search needs
+slice-aggregate-deliver c = sym (c .before .before .before .before .before .before .before .before .before .before .read-lines .kept .1 .1 .0)
 
 slice-aggregate-deliver-2 : tie.Need-slice-aggregate-deliver-2
-slice-aggregate-deliver-2 c = search needs
+slice-aggregate-deliver-2 c = sym (c .before .before .before .before .before .before .before .before .before .before .before .read-lines .kept .1 .1 .1 .0)
 
 deliver-requires : tie.Need-deliver-requires
 deliver-requires c κs = lines-held (c .before .before .before .before .before .before .before .before .before .before .before .before .before .before .before .before .before .before .before .before .before .before .before .before .before .args .text .now) (c .before .before .before .before .before .before .before .before .before .before .before .before .before .before .before .before .before .before .before .before .before .before .before .before .before .args .rules .now) (c .before .before .before .before .before .before .before .before .before .before .before .before .before .before .before .before .before .before .before .before .before .before .before .before .before .args .names .now) (c .before .before .before .before .before .before .before .before .before .before .before .before .before .before .before .before .before .before .before .before .before .if1 .left) (c .before .before .before .before .before .before .before .before .before .before .before .before .before .read-lines .ensures) (c .before .before .before .before .before .gathered .given .1)
@@ -57,10 +57,10 @@ enum-known-refusal : tie.Need-enum-known-refusal
 enum-known-refusal c = search needs
 
 same-length : tie.Need-same-length
-same-length c = search needs
+same-length c = c .before .before .before .before .before .deliver .kept .1 .1 .1 .1 .0
 
 same-length-2 : tie.Need-same-length-2
-same-length-2 c = search needs
+same-length-2 c = c .before .before .before .before .before .deliver .kept .1 .1 .1 .1 .1 .0
 
 returns-2 : tie.Need-returns-2
 returns-2 c = delivered (c .before .before .before .before .before .before .before .before .before .before .before .before .before .before .before .before .before .before .before .before .before .before .before .before .before .before .before .before .before .before .before .args .text .now) (c .before .before .before .before .before .before .before .before .before .before .before .before .before .before .before .before .before .before .before .before .before .before .before .before .before .before .before .before .before .before .before .args .rules .now) (c .before .before .before .before .before .before .before .before .before .before .before .before .before .before .before .before .before .before .before .before .before .before .before .before .before .before .before .before .before .before .before .args .names .now) (c .before .before .before .before .before .before .before .before .before .before .before .before .before .before .before .before .before .before .before .before .before .before .before .before .before .before .before .if1 .left) (c .before .before .before .before .before .before .before .before .before .before .before .before .before .before .before .before .before .before .before .read-lines .ensures) (c .before .before .before .before .before .before .before .before .before .before .before .gathered .given .1) (c .before .before .before .before .before .deliver .ensures)
