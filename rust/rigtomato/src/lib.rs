@@ -17,10 +17,12 @@
 //! ordinary Rust thread hold.
 
 pub mod lent;
+mod program;
 mod refusal;
 pub mod sys;
 
 pub use lent::{Next, Verdict};
+pub use program::{Limits, Role, Rule};
 pub use refusal::{Refusal, TextRefusal};
 
 use std::error::Error;
@@ -30,6 +32,8 @@ use std::fmt;
 pub const LARGEST_BUDGET: u64 = 1 << 40;
 /// The most bytes of a text.
 pub const TEXT_LIMIT: usize = 655_360;
+/// The most atoms with which a verdict is given or states are listed.
+pub const VERDICT_ATOM_LIMIT: usize = 60;
 
 /// The most words of a rule store: a plain program's.
 const RULES_LIMIT: usize = 4 + 3 * 4_200 + 24_000;
