@@ -1,0 +1,41 @@
+//! The table of commands. Help and dispatch are made from it.
+
+mod check;
+mod states;
+
+use crate::arguments::{Call, Choice, BUDGET, FIRST, JSON};
+use crate::ending::Outcome;
+
+pub struct Command {
+    pub name: &'static str,
+    pub does: &'static str,
+    pub options: &'static [&'static Choice],
+    /// Do atoms follow the file?
+    pub takes_atoms: bool,
+    /// What `help` says besides.
+    pub more: &'static str,
+    pub run: fn(&Call) -> Outcome,
+}
+
+pub const COMMANDS: &[Command] = &[
+    Command {
+        name: "states",
+        does: "list the preferred states of a preference file",
+        options: &[&BUDGET, &FIRST, &JSON],
+        takes_atoms: false,
+        more: states::MORE,
+        run: states::run,
+    },
+    Command {
+        name: "check",
+        does: "say that a file is accepted, with its counts, or explain why it is refused",
+        options: &[],
+        takes_atoms: false,
+        more: check::MORE,
+        run: check::run,
+    },
+];
+
+pub fn named(name: &str) -> Option<&'static Command> {
+    COMMANDS.iter().find(|command| command.name == name)
+}

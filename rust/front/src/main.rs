@@ -1,0 +1,87 @@
+//! `rigtomato`: the proved engine at the shell.
+
+mod alive;
+mod arguments;
+mod commands;
+mod ending;
+mod file;
+mod help;
+mod interrupt;
+mod json;
+mod listing;
+mod nearest;
+mod numbers;
+mod refused;
+mod sets;
+mod watch;
+
+use commands::{named, COMMANDS};
+use ending::{say, Ending, Fault, Outcome};
+use std::ffi::OsString;
+use std::io::{self, Write};
+use std::process::ExitCode;
+
+fn print(page: &str) -> Outcome {
+    let mut out = io::stdout().lock();
+    out.write_all(page.as_bytes())?;
+    out.flush()?;
+    Ok(Ending::Answered)
+}
+
+/// A wrong call: what is wrong with it, then how it goes.
+fn wrong(words: String, usage: String) -> Outcome {
+    Err(Fault::unusable(format!("{words}\n{usage}")))
+}
+
+fn no_command(name: &str) -> Outcome {
+    let meant = nearest::nearest(name, COMMANDS.iter().map(|command| command.name));
+    let meant = meant.map_or(String::new(), |name| format!("; {name} is one"));
+    wrong(format!("{name} is no command{meant}"), help::usage())
+}
+
+fn help_on(words: &[OsString]) -> Outcome {
+    let Some(name) = words.first() else {
+        return print(&help::page());
+    };
+    let name = name.to_string_lossy();
+    match named(&name) {
+        Some(command) => print(&help::page_of(command)),
+        None if name == "help" => print(&help::page()),
+        None => no_command(&name),
+    }
+}
+
+fn asks_for_help(words: &[OsString]) -> bool {
+    let options = words.iter().take_while(|word| *word != "--");
+    options
+        .into_iter()
+        .any(|word| word == "--help" || word == "-h")
+}
+
+fn run(words: &[OsString]) -> Outcome {
+    let Some((name, rest)) = words.split_first() else {
+        say(&help::usage());
+        return Ok(Ending::Unusable);
+    };
+    let name = name.to_string_lossy();
+    if ["help", "--help", "-h"].contains(&name.as_ref()) {
+        return help_on(rest);
+    }
+    let Some(command) = named(&name) else {
+        return no_command(&name);
+    };
+    if asks_for_help(rest) {
+        return print(&help::page_of(command));
+    }
+    match arguments::parse(command, rest) {
+        Ok(call) => (command.run)(&call),
+        Err(words) => wrong(words, help::usage_of(command)),
+    }
+}
+
+fn main() -> ExitCode {
+    interrupt::listen();
+    let words: Vec<OsString> = std::env::args_os().skip(1).collect();
+    let ending = run(&words).unwrap_or_else(Fault::end);
+    ExitCode::from(ending as u8)
+}
