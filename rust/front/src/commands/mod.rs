@@ -2,6 +2,7 @@
 
 mod check;
 mod states;
+mod verdicts;
 
 use crate::arguments::{Call, Choice, BUDGET, FIRST, JSON};
 use crate::ending::Outcome;
@@ -33,6 +34,22 @@ pub const COMMANDS: &[Command] = &[
         takes_atoms: false,
         more: check::MORE,
         run: check::run,
+    },
+    Command {
+        name: "preferred",
+        does: "say whether these atoms are a preferred state of a preference file",
+        options: &[&BUDGET, &JSON],
+        takes_atoms: true,
+        more: verdicts::MORE_ON_PREFERRED,
+        run: verdicts::preferred,
+    },
+    Command {
+        name: "stable",
+        does: "say whether these atoms are a stable model of a plain program",
+        options: &[&BUDGET, &JSON],
+        takes_atoms: true,
+        more: verdicts::MORE_ON_STABLE,
+        run: verdicts::stable,
     },
 ];
 
