@@ -2,6 +2,7 @@
 
 mod alive;
 mod arguments;
+mod asp;
 mod commands;
 mod ending;
 mod file;

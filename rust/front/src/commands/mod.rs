@@ -2,9 +2,10 @@
 
 mod check;
 mod states;
+mod translate;
 mod verdicts;
 
-use crate::arguments::{Call, Choice, BUDGET, FIRST, JSON};
+use crate::arguments::{Call, Choice, ASP, BUDGET, FIRST, JSON};
 use crate::ending::Outcome;
 
 pub struct Command {
@@ -26,6 +27,14 @@ pub const COMMANDS: &[Command] = &[
         takes_atoms: false,
         more: states::MORE,
         run: states::run,
+    },
+    Command {
+        name: "translate",
+        does: "print the file's plain program, whose stable models are its preferred states",
+        options: &[&ASP],
+        takes_atoms: false,
+        more: translate::MORE,
+        run: translate::run,
     },
     Command {
         name: "check",
