@@ -14,6 +14,7 @@ mod nearest;
 mod numbers;
 mod refused;
 mod sets;
+mod solver;
 mod watch;
 
 use commands::{named, COMMANDS};

@@ -1,11 +1,12 @@
 //! The table of commands. Help and dispatch are made from it.
 
 mod check;
+mod solve;
 mod states;
 mod translate;
 mod verdicts;
 
-use crate::arguments::{Call, Choice, ASP, BUDGET, FIRST, JSON};
+use crate::arguments::{Call, Choice, ASP, BUDGET, CHECK, FIRST, JSON, SOLVER};
 use crate::ending::Outcome;
 
 pub struct Command {
@@ -59,6 +60,14 @@ pub const COMMANDS: &[Command] = &[
         takes_atoms: true,
         more: verdicts::MORE_ON_STABLE,
         run: verdicts::stable,
+    },
+    Command {
+        name: "solve",
+        does: "list the preferred states by way of an answer-set solver, for up to 256 atoms",
+        options: &[&SOLVER, &FIRST, &CHECK, &JSON],
+        takes_atoms: false,
+        more: solve::MORE,
+        run: solve::run,
     },
 ];
 

@@ -1,0 +1,166 @@
+//! `solve`: the preferred states by way of an answer-set solver.
+
+use crate::arguments::Call;
+use crate::commands::states::{refuse, say_interrupted};
+use crate::commands::translate::{delivered, for_solver};
+use crate::commands::verdicts::Asked;
+use crate::ending::{say, Ending, Fault, Outcome};
+use crate::file::File;
+use crate::interrupt::interrupted;
+use crate::listing::{End, Listing};
+use crate::numbers::counted;
+use crate::sets::Set;
+use crate::solver::{self, Found};
+use crate::watch::{Event, Watch};
+use rigtomato::{Kind, Program, Verdict, VERDICT_ATOM_LIMIT};
+use std::ffi::OsStr;
+use std::io::{self, BufWriter};
+use std::sync::Arc;
+
+pub const MORE: &str = "\
+The file's plain program goes to the solver, and the solver's stable models, cut
+down to the file's own atoms, are printed as 'states' prints them, in the same
+order. That is right because of what is proved for every file: its preferred
+states and the stable models of its translation pair one to one by keeping the
+file's own atoms. What is not proved is the solver; --check has the engine look
+at each state that it gives. A state that is not preferred is then reported, and
+nothing is listed. --first takes the first N models that the solver finds.
+
+The solver is clingo (Debian: apt-get install gringo). It takes files of up to
+256 atoms and is by far the quicker way past some twenty.
+";
+
+/// The most units of a verdict on a solver's state.
+const BUDGET: u64 = 1 << 24;
+
+pub fn run(call: &Call) -> Outcome {
+    let file = File::read(&call.file)?;
+    let (program, text) = match delivered(&file) {
+        Ok(delivered) => delivered,
+        Err(refused) => return refuse(&file, call.json, &refused),
+    };
+    let solver = call.solver.as_deref().unwrap_or(OsStr::new("clingo"));
+    let mut found = solver::solve(solver, for_solver(&text), &program, call.first)?;
+    found.models.sort_unstable();
+    if found.models.windows(2).any(|pair| pair[0] == pair[1]) {
+        return Err(Fault::solver("the solver gave a state twice"));
+    }
+    if call.check && found.end != End::Interrupted {
+        match check(&file, &program, &found.models) {
+            Ending::Answered => {}
+            Ending::Interrupted => found.end = End::Interrupted,
+            ending => return Ok(ending),
+        }
+    }
+    print(call, &program, found)
+}
+
+fn print(call: &Call, program: &Program, found: Found) -> Outcome {
+    let out = BufWriter::with_capacity(1 << 16, io::stdout().lock());
+    let mut listing = Listing::new(out, call.json, program);
+    let mut end = found.end;
+    for state in &found.models {
+        if end != End::Interrupted && interrupted() {
+            end = End::Interrupted;
+            break;
+        }
+        listing.state(*state)?;
+    }
+    listing.end(end)?;
+    if end == End::Interrupted {
+        say_interrupted(found.models.len() as u64);
+        return Ok(Ending::Interrupted);
+    }
+    Ok(Ending::Answered)
+}
+
+/// What the engine said to the solver's states.
+#[derive(Default)]
+struct Checked {
+    yes: u64,
+    spent: u64,
+    wrong: u64,
+}
+
+impl Checked {
+    fn sum(&self, all: usize, end: &str) -> String {
+        let checked = self.yes + self.wrong;
+        let states = counted(all as u64, "state");
+        let wrong = match self.wrong {
+            0 => String::new(),
+            wrong => format!(", {wrong} not preferred"),
+        };
+        format!(
+            "checked: {checked} of {states}, {} spent{wrong}{end}",
+            self.spent
+        )
+    }
+}
+
+/// Has the engine look at each state, and says what it found.
+fn check(file: &File, program: &Program, states: &[Set]) -> Ending {
+    if program.atoms() > VERDICT_ATOM_LIMIT {
+        let states = counted(states.len() as u64, "state");
+        say(&format!(
+            "checked: none of {states}: there are over 60 atoms"
+        ));
+        return Ending::Answered;
+    }
+    let asked = Asked {
+        file,
+        program,
+        kind: Kind::Preference,
+        budget: BUDGET,
+    };
+    let mut verdicts = verdicts_on(program, states);
+    let mut checked = Checked::default();
+    for done in 0..states.len() {
+        let words = || {
+            format!(
+                "checked {done} of {}",
+                counted(states.len() as u64, "state")
+            )
+        };
+        match verdicts.next(words) {
+            Event::Answer((_, Verdict::Yes { .. })) => checked.yes += 1,
+            Event::Answer((_, Verdict::Spent)) => checked.spent += 1,
+            Event::Answer((set, verdict)) => {
+                checked.wrong += 1;
+                verdicts.alive.clear();
+                let names: String = program
+                    .names_in(set)
+                    .map(|name| format!(" {name}"))
+                    .collect();
+                say(&format!(
+                    "not preferred: (state{names}): {}",
+                    asked.words(verdict)
+                ));
+            }
+            Event::Interrupted => {
+                say(&checked.sum(states.len(), ", then interrupted"));
+                return Ending::Interrupted;
+            }
+            Event::Ended => unreachable!("each state gets a verdict"),
+        }
+    }
+    drop(verdicts);
+    say(&checked.sum(states.len(), ""));
+    match checked.wrong {
+        0 => Ending::Answered,
+        _ => Ending::SolverFailed,
+    }
+}
+
+fn verdicts_on(program: &Program, states: &[Set]) -> Watch<(u64, Verdict)> {
+    let program = Arc::new(program.clone());
+    let states: Vec<u64> = states.iter().map(|state| state.number()).collect();
+    Watch::over(move |verdicts| {
+        for state in states {
+            let verdict = program.preferred(state, BUDGET);
+            let verdict = verdict.expect("at most 60 atoms, and a state of these");
+            if verdicts.send((state, verdict)).is_err() {
+                return;
+            }
+        }
+    })
+}
