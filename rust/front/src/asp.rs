@@ -7,7 +7,7 @@ const FIRST_LINE: &str = "\
 ";
 const LAST_LINE: &str = "#show holds/1.\n";
 
-/// The words before and after a name of the file itself; `model` takes them off again.
+/// What stands before and after a name of the file itself, here and in a solver's models.
 pub const BEFORE: &str = "holds(\"";
 pub const AFTER: &str = "\")";
 

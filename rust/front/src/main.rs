@@ -10,6 +10,7 @@ mod help;
 mod interrupt;
 mod json;
 mod listing;
+mod models;
 mod nearest;
 mod numbers;
 mod refused;

@@ -1,18 +1,17 @@
-//! Runs an answer-set solver with clingo's options and reads its models.
+//! Runs an answer-set solver with clingo's options.
 
-use crate::asp::{AFTER, BEFORE};
 use crate::ending::Fault;
 use crate::interrupt::interrupted;
 use crate::listing::End;
+use crate::models::{Models, Reader};
 use crate::numbers::counted_in_groups;
 use crate::sets::Set;
 use crate::watch::{Event, Watch};
 use rigtomato::Program;
-use std::collections::HashMap;
 use std::ffi::OsStr;
-use std::io::{self, BufRead, BufReader, Read, Write};
-use std::process::{Child, ChildStderr, ChildStdin, ChildStdout, Command, ExitStatus, Stdio};
-use std::sync::mpsc::{channel, Receiver, SyncSender};
+use std::io::{self, Read, Write};
+use std::process::{Child, ChildStderr, ChildStdin, Command, ExitStatus, Stdio};
+use std::sync::mpsc::{channel, Receiver};
 use std::thread;
 use std::time::Duration;
 
@@ -23,90 +22,19 @@ const MOST_MODELS: u64 = i32::MAX as u64;
 const LAST_WORDS: Duration = Duration::from_millis(300);
 /// How often it is asked whether the solver has ended.
 const GLANCE: Duration = Duration::from_micros(200);
-/// The most bytes of a solver's line that a message shows.
-const SHOWN: usize = 200;
 
 /// What a solver found.
 pub struct Found {
-    /// The models, as sets of the file's atoms, in the solver's order.
+    /// In the solver's order.
     pub models: Vec<Set>,
     pub end: End,
 }
 
-/// Models, or why the solver's output cannot be read.
-type Batch = Result<Vec<Set>, String>;
-
-/// Reads model lines.
-struct Models {
-    atoms: HashMap<Vec<u8>, usize>,
-}
-
-impl Models {
-    fn of(program: &Program) -> Models {
-        let names = program.names().map(|name| name.as_bytes().to_vec());
-        Models {
-            atoms: names.zip(0..).collect(),
-        }
-    }
-
-    /// A line of atoms with a space between them; the empty set is an empty line.
-    fn model(&self, line: &[u8]) -> Option<Set> {
-        let mut set = Set::default();
-        if line.is_empty() {
-            return Some(set);
-        }
-        for atom in line.split(|byte| *byte == b' ') {
-            let name = atom.strip_prefix(BEFORE.as_bytes())?;
-            let name = name.strip_suffix(AFTER.as_bytes())?;
-            set.insert(*self.atoms.get(name)?);
-        }
-        Some(set)
-    }
-
-    /// Hands on the models as they come, those that are there at a time together.
-    fn read(&self, output: impl Read, batches: &SyncSender<Batch>) {
-        let mut output = BufReader::with_capacity(1 << 16, output);
-        let mut line = Vec::new();
-        let mut models = Vec::new();
-        loop {
-            if output.buffer().is_empty() && !models.is_empty() {
-                let batch = std::mem::take(&mut models);
-                if batches.send(Ok(batch)).is_err() {
-                    return;
-                }
-            }
-            line.clear();
-            // A line that was cut off is no model.
-            if output.read_until(b'\n', &mut line).is_err() || line.pop() != Some(b'\n') {
-                break;
-            }
-            match self.model(&line) {
-                Some(model) => models.push(model),
-                None if is_summary(&line) => {}
-                None => {
-                    let _ = batches.send(Err(unreadable(&line)));
-                    return;
-                }
-            }
-        }
-        let _ = batches.send(Ok(models));
-    }
-}
-
-/// The last line sums up what the exit status says too.
-fn is_summary(line: &[u8]) -> bool {
-    [b"SATISFIABLE".as_slice(), b"UNSATISFIABLE", b"UNKNOWN"].contains(&line)
-}
-
-fn unreadable(line: &[u8]) -> String {
-    let first = &line[..line.len().min(SHOWN)];
-    let first = first.escape_ascii();
-    format!("the solver printed a line that is no model: {first}")
-}
-
 struct Running {
     child: Child,
-    batches: Watch<Batch>,
+    models: Models,
+    /// How the reading of the output ended.
+    output: Watch<Result<(), String>>,
     complaints: Receiver<Vec<u8>>,
 }
 
@@ -132,24 +60,21 @@ fn read_all(mut output: ChildStderr) -> Vec<u8> {
 }
 
 impl Running {
-    fn start(mut child: Child, text: String, models: Models) -> Running {
+    fn start(mut child: Child, text: String, program: &Program) -> Running {
         let input = child.stdin.take().expect("it is piped");
-        let output: ChildStdout = child.stdout.take().expect("it is piped");
+        let output = child.stdout.take().expect("it is piped");
         let errors = child.stderr.take().expect("it is piped");
+        let models = Models::default();
+        let reader = Reader::new(program, models.clone());
         let (sender, complaints) = channel();
         thread::spawn(move || feed(input, &text));
         thread::spawn(move || sender.send(read_all(errors)));
         Running {
             child,
-            batches: Watch::over(move |batches| models.read(output, &batches)),
+            models,
+            output: Watch::over(move |end| drop(end.send(reader.read(output)))),
             complaints,
         }
-    }
-
-    /// Ends the solver.
-    fn stop(&mut self) {
-        let _ = self.child.kill();
-        let _ = self.child.wait();
     }
 
     /// Waits for the solver's end; none where that is interrupted.
@@ -163,23 +88,34 @@ impl Running {
         Ok(None)
     }
 
+    /// Waits for all models, and says whether they are what was asked for.
+    fn end(&mut self, first: Option<u64>) -> Result<End, String> {
+        let found = || counted_in_groups(self.models.count() as u64, "state");
+        match self.output.next(found) {
+            Event::Answer(read) => read?,
+            Event::Interrupted => return Ok(End::Interrupted),
+            Event::Ended => unreachable!("the reader says how it ended"),
+        }
+        let status = self.status();
+        match status.map_err(|error| format!("the solver's end: {error}"))? {
+            Some(status) => judged(status, self.models.count() as u64, first),
+            None => Ok(End::Interrupted),
+        }
+    }
+
+    /// Ends the solver, and lets what it has printed be read.
+    fn stop(&mut self) {
+        let _ = self.child.kill();
+        let _ = self.child.wait();
+        self.output.last(LAST_WORDS);
+    }
+
     /// What went wrong, and what the solver itself says about it.
-    fn fault(mut self, words: &str) -> Fault {
-        self.stop();
+    fn fault(&self, words: &str) -> Fault {
         let complaints = self.complaints.recv_timeout(LAST_WORDS).unwrap_or_default();
         let complaints = String::from_utf8_lossy(complaints.trim_ascii_end()).into_owned();
         let between = if complaints.is_empty() { "" } else { "\n" };
         Fault::solver(format!("{words}{between}{complaints}"))
-    }
-
-    fn interrupted(mut self, mut models: Vec<Set>) -> Found {
-        self.stop();
-        let last = self.batches.last(LAST_WORDS);
-        models.extend(last.flat_map(Result::unwrap_or_default));
-        Found {
-            models,
-            end: End::Interrupted,
-        }
     }
 }
 
@@ -213,28 +149,20 @@ pub fn solve(
     first: Option<u64>,
 ) -> Result<Found, Fault> {
     let child = spawn(solver, first).map_err(|error| cannot_start(solver, &error))?;
-    let mut running = Running::start(child, text, Models::of(program));
-    let mut models: Vec<Set> = Vec::new();
-    loop {
-        let words = || counted_in_groups(models.len() as u64, "state");
-        match running.batches.next(words) {
-            Event::Answer(Ok(batch)) => models.extend(batch),
-            Event::Answer(Err(words)) => return Err(running.fault(&words)),
-            Event::Interrupted => return Ok(running.interrupted(models)),
-            Event::Ended => break,
-        }
+    let mut running = Running::start(child, text, program);
+    let end = running.end(first);
+    if end.is_err() || interrupted() {
+        running.stop();
     }
-    let status = match running.status() {
-        Ok(Some(status)) => status,
-        Ok(None) => return Ok(running.interrupted(models)),
-        Err(error) => return Err(running.fault(&format!("the solver's end: {error}"))),
+    // A solver that was interrupted with us may have failed for that.
+    let end = match end {
+        _ if interrupted() => End::Interrupted,
+        Ok(end) => end,
+        Err(words) => return Err(running.fault(&words)),
     };
-    match judged(status, models.len() as u64, first) {
-        Ok(end) => {
-            models.truncate(first.map_or(usize::MAX, |first| first as usize));
-            Ok(Found { models, end })
-        }
-        Err(_) if interrupted() => Ok(running.interrupted(models)),
-        Err(words) => Err(running.fault(&words)),
+    let mut models = running.models.take();
+    if let Some(first) = first {
+        models.truncate(usize::try_from(first).unwrap_or(usize::MAX));
     }
+    Ok(Found { models, end })
 }

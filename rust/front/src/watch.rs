@@ -4,7 +4,7 @@ use crate::alive::Alive;
 use crate::interrupt::interrupted;
 use std::sync::mpsc::{sync_channel, Receiver, RecvTimeoutError, SyncSender};
 use std::thread;
-use std::time::{Duration, Instant};
+use std::time::Duration;
 
 /// How long an interruption may go unseen.
 const GLANCE: Duration = Duration::from_millis(50);
@@ -58,12 +58,8 @@ impl<T: Send + 'static> Watch<T> {
         self.answers.try_iter().take(WAITING)
     }
 
-    /// The answers up to the worker's end, which is close.
-    pub fn last(&self, within: Duration) -> impl Iterator<Item = T> + '_ {
-        let until = Instant::now() + within;
-        std::iter::from_fn(move || {
-            let left = until.saturating_duration_since(Instant::now());
-            self.answers.recv_timeout(left).ok()
-        })
+    /// Waits a little longer for an answer that is close.
+    pub fn last(&self, within: Duration) -> Option<T> {
+        self.answers.recv_timeout(within).ok()
     }
 }
