@@ -19,6 +19,7 @@ extern "C" fn note(_number: i32) {
     }
 }
 
+/// From here on an interruption does not end the process: whoever works looks for it.
 pub fn listen() {
     for number in [SIGINT, SIGTERM] {
         // SAFETY: the handler does nothing but what a signal handler may do.

@@ -83,7 +83,6 @@ fn run(words: &[OsString]) -> Outcome {
 }
 
 fn main() -> ExitCode {
-    interrupt::listen();
     let words: Vec<OsString> = std::env::args_os().skip(1).collect();
     let ending = run(&words).unwrap_or_else(Fault::end);
     ExitCode::from(ending as u8)

@@ -90,7 +90,7 @@ impl Refused {
                      line."
                 }
                 Some(line) if !line.ends_with(b"\n") => {
-                    "Each line ends with byte 10, the last one too."
+                    "Each line ends with a line feed (byte 10), the last one too."
                 }
                 Some(_) if plain => {
                     "A plain program has one (atoms ..) line and then rules of the form\n    \

@@ -1,7 +1,7 @@
 //! Work in a thread of its own, watched by the main one.
 
 use crate::alive::Alive;
-use crate::interrupt::interrupted;
+use crate::interrupt::{interrupted, listen};
 use std::sync::mpsc::{sync_channel, Receiver, RecvTimeoutError, SyncSender};
 use std::thread;
 use std::time::Duration;
@@ -26,6 +26,7 @@ pub struct Watch<T> {
 impl<T: Send + 'static> Watch<T> {
     /// Starts work that hands its answers to the sender, and ends when nobody takes them.
     pub fn over(work: impl FnOnce(SyncSender<T>) + Send + 'static) -> Watch<T> {
+        listen();
         let (sender, answers) = sync_channel(WAITING);
         thread::spawn(move || work(sender));
         Watch {

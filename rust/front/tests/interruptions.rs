@@ -40,6 +40,16 @@ fn ended(child: &mut Child) -> Option<i32> {
     panic!("it does not end");
 }
 
+/// Whoever waits for an input that does not come is let go.
+#[test]
+fn before_the_work() {
+    let mut child = start(front().args(["states", "-"]));
+    std::thread::sleep(Duration::from_millis(50));
+    signal(&child, "INT");
+    ended(&mut child);
+    assert_eq!(rest(child.stdout.as_mut().unwrap()), "");
+}
+
 fn rest(from: &mut impl Read) -> String {
     let mut text = String::new();
     from.read_to_string(&mut text).unwrap();

@@ -191,7 +191,7 @@ fn random_files() {
     let seed = seed.unwrap_or_else(fresh_seed);
     println!("seed {seed}");
     let mut random = Random::new(seed);
-    for round in 0..600 {
+    for round in 0..400 {
         let mut text = random_text(&mut random);
         match round % 3 {
             1 => spoil::text(&mut random, &mut text),

@@ -20,14 +20,14 @@ use std::sync::Arc;
 pub const MORE: &str = "\
 The file's plain program goes to the solver, and the solver's stable models, cut
 down to the file's own atoms, are printed as 'states' prints them, in the same
-order. That is right because of what is proved for every file: its preferred
-states and the stable models of its translation pair one to one by keeping the
-file's own atoms. What is not proved is the solver; --check has the engine look
-at each state that it gives. A state that is not preferred is then reported, and
-nothing is listed. --first takes the first N models that the solver finds.
+order. That is right by demand 3, proved for every file: preferred states and
+stable models of the translation pair one to one by keeping the file's own atoms.
+The solver itself is not proved; with --check the engine looks at each state that
+it gives, and a state that is not preferred is reported and nothing listed.
+--first takes the first N models that the solver finds.
 
-The solver is clingo (Debian: apt-get install gringo). It takes files of up to
-256 atoms and is by far the quicker way past some twenty.
+The solver is clingo (Debian: apt-get install gringo). A file may have 256 atoms;
+past some twenty this is by far the quicker way. With --json as 'states' prints.
 ";
 
 /// The most units of a verdict on a solver's state.
