@@ -1,6 +1,7 @@
 //! How a call ends, and what breaks it off.
 
-use std::io::{self, Write};
+use crate::output::say;
+use std::io;
 
 /// How a call ended; the number is the exit status.
 #[derive(Clone, Copy, Debug, PartialEq, Eq)]
@@ -62,8 +63,3 @@ impl From<io::Error> for Fault {
 }
 
 pub type Outcome = Result<Ending, Fault>;
-
-/// Writes lines to standard error. There is nobody to tell where that fails.
-pub fn say(words: &str) {
-    let _ = writeln!(io::stderr(), "{words}");
-}

@@ -1,7 +1,6 @@
 //! Writes states, as lines or as one JSON object.
 
 use crate::json::Json;
-use crate::refused::Refused;
 use crate::sets::Set;
 use rigtomato::Program;
 use std::io::{self, Write};
@@ -95,16 +94,6 @@ impl<W: Write> Listing<W> {
         }
         self.out.flush()
     }
-}
-
-/// Prints that there is no listing.
-pub fn print_refused(out: &mut impl Write, json: bool, refused: &Refused) -> io::Result<()> {
-    if json {
-        writeln!(out, "{}", refused.json())?;
-    } else {
-        out.write_all(refused.printed().as_bytes())?;
-    }
-    out.flush()
 }
 
 #[cfg(test)]

@@ -5,6 +5,7 @@ mod arguments;
 mod asp;
 mod commands;
 mod ending;
+mod explain;
 mod file;
 mod help;
 mod interrupt;
@@ -13,21 +14,20 @@ mod listing;
 mod models;
 mod nearest;
 mod numbers;
+mod output;
 mod refused;
 mod sets;
 mod solver;
 mod watch;
 
 use commands::{named, COMMANDS};
-use ending::{say, Ending, Fault, Outcome};
+use ending::{Ending, Fault, Outcome};
+use output::{print, say};
 use std::ffi::OsString;
-use std::io::{self, Write};
 use std::process::ExitCode;
 
-fn print(page: &str) -> Outcome {
-    let mut out = io::stdout().lock();
-    out.write_all(page.as_bytes())?;
-    out.flush()?;
+fn show(page: &str) -> Outcome {
+    print(page)?;
     Ok(Ending::Answered)
 }
 
@@ -44,21 +44,19 @@ fn no_command(name: &str) -> Outcome {
 
 fn help_on(words: &[OsString]) -> Outcome {
     let Some(name) = words.first() else {
-        return print(&help::page());
+        return show(&help::page());
     };
     let name = name.to_string_lossy();
     match named(&name) {
-        Some(command) => print(&help::page_of(command)),
-        None if name == "help" => print(&help::page()),
+        Some(command) => show(&help::page_of(command)),
+        None if name == "help" => show(&help::page()),
         None => no_command(&name),
     }
 }
 
 fn asks_for_help(words: &[OsString]) -> bool {
-    let options = words.iter().take_while(|word| *word != "--");
-    options
-        .into_iter()
-        .any(|word| word == "--help" || word == "-h")
+    let mut options = words.iter().take_while(|word| *word != "--");
+    options.any(|word| word == "--help" || word == "-h")
 }
 
 fn run(words: &[OsString]) -> Outcome {
@@ -74,7 +72,7 @@ fn run(words: &[OsString]) -> Outcome {
         return no_command(&name);
     };
     if asks_for_help(rest) {
-        return print(&help::page_of(command));
+        return show(&help::page_of(command));
     }
     match arguments::parse(command, rest) {
         Ok(call) => (command.run)(&call),

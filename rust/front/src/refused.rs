@@ -77,67 +77,6 @@ impl Refused {
             None => place,
         }
     }
-
-    /// One sentence on what would be allowed.
-    pub fn help(&self, file: &File) -> &'static str {
-        let plain = file.text.starts_with(b"(atoms");
-        match self.refusal {
-            Refusal::TextTooLong => "A text has at most 655,360 bytes.",
-            Refusal::Form => match file.line(self.line) {
-                None if plain => "The text ends too early: it needs an (atoms ..) line.",
-                None => {
-                    "The text ends too early: it needs one (vary ..) line and then one (fix ..) \
-                     line."
-                }
-                Some(line) if !line.ends_with(b"\n") => {
-                    "Each line ends with a line feed (byte 10), the last one too."
-                }
-                Some(_) if plain => {
-                    "A plain program has one (atoms ..) line and then rules of the form\n    \
-                     (rule (head a b) (body c) (not d))\n\
-                     with one space between items, no other spacing, no blank line and no \
-                     comment;\na name is a letter a to z and then letters, digits or _, also \
-                     after N., S. or D.;\nE.0 to E.16 and U are names too."
-                }
-                Some(_) => {
-                    "A preference file has (min ..) lines, one (vary ..) line, one (fix ..) line \
-                     and then rules of the form\n    (rule (head a b) (body c) (not))\n\
-                     with one space between items, no other spacing, no blank line and no \
-                     comment;\na name is a letter a to z and then letters, digits or _."
-                }
-            },
-            Refusal::Name => {
-                "A name has at most 16 bytes, and names like N.a, S.a, D.a, E.0 and U stand in \
-                 plain programs only: the translator makes them."
-            }
-            Refusal::DeclaredTwice if plain => "The (atoms ..) line names each atom once.",
-            Refusal::DeclaredTwice => {
-                "An atom stands once on the (min ..), (vary ..) and (fix ..) lines together."
-            }
-            Refusal::NotDeclared if plain => {
-                "Each atom of a rule must stand on the (atoms ..) line."
-            }
-            Refusal::NotDeclared => {
-                "Each atom of a rule must stand on a (min ..), (vary ..) or (fix ..) line."
-            }
-            Refusal::TwiceInList => {
-                "An atom stands at most once in each of a rule's lists head, body and not."
-            }
-            Refusal::Limit if plain => {
-                "A plain program has at most 1,100 atoms, 4,200 rules and 24,000 atom places in \
-                 its rules' lists."
-            }
-            Refusal::Limit => {
-                "A preference file has at most 16 classes, 256 atoms, 1,024 rules and 8,192 atom \
-                 places in its rules' lists."
-            }
-            Refusal::FilledNot => {
-                "In a preference file each rule ends with an empty list, (not)); what must not \
-                 be is said by a rule with an empty head."
-            }
-            _ => "",
-        }
-    }
 }
 
 /// What the file says, or why it says nothing.

@@ -77,7 +77,7 @@ fn refusals() -> Vec<(u64, u64, &'static str, String, &'static str, String)> {
             2,
             "an atom is declared twice",
             "(vary a)".to_string(),
-            "once on the (min ..), (vary ..) and (fix ..) lines",
+            "On the (min ..), (vary ..) and (fix ..) lines each atom stands once.",
             "(min a)\n(vary a)\n".to_string(),
         ),
         (
@@ -85,7 +85,7 @@ fn refusals() -> Vec<(u64, u64, &'static str, String, &'static str, String)> {
             3,
             "an atom is not declared",
             rule.to_string(),
-            "must stand on a (min ..), (vary ..) or (fix ..) line",
+            "must stand on one of the (min ..), (vary ..) and (fix ..) lines.",
             format!("(vary)\n(fix)\n{rule}\n"),
         ),
         (

@@ -1,6 +1,6 @@
 //! What the binding reads from a rule store: roles, lists, counts.
 
-use rigtomato::{Kind, Program, Refusal, Role};
+use rigtomato::{Kind, Program, Refusal, Role, HOUSE_NAME_LIMIT};
 
 const TEXT: &str = "(min a b)\n(min)\n(min c)\n(vary d)\n(fix e)\n\
     (rule (head a d) (body b e) (not))\n(rule (head) (body) (not))\n(rule (head) (body c) (not))\n";
@@ -87,4 +87,8 @@ fn limits() {
     let most = Kind::Preference.limits().classes;
     assert_eq!(classes(most).unwrap().classes(), most);
     assert_eq!(classes(most + 1), Err(Refusal::Limit));
+
+    let named = |length: usize| read(format!("(vary {})\n(fix)\n", "a".repeat(length)));
+    assert!(named(HOUSE_NAME_LIMIT).is_ok());
+    assert_eq!(named(HOUSE_NAME_LIMIT + 1), Err(Refusal::Name));
 }

@@ -1,12 +1,13 @@
 //! `check`: accepted, with the counts, or refused, with an explanation.
 
 use crate::arguments::Call;
-use crate::ending::{say, Ending, Outcome};
+use crate::ending::{Ending, Outcome};
+use crate::explain::explain;
 use crate::file::File;
 use crate::numbers::{counted, grouped};
+use crate::output::{print, say};
 use crate::refused;
 use rigtomato::{Kind, Program, Role};
-use std::io::{self, Write};
 
 pub const MORE: &str = "\
 Of an accepted file of either kind it prints the counts beside their limits. Of a
@@ -54,14 +55,12 @@ pub fn run(call: &Call) -> Outcome {
     let file = File::read(&call.file)?;
     match refused::read(&file) {
         Ok(program) => {
-            let mut out = io::stdout().lock();
-            out.write_all(accepted(&program).as_bytes())?;
-            out.flush()?;
+            print(accepted(&program))?;
             Ok(Ending::Answered)
         }
         Err(refused) => {
             say(&refused.message(&file));
-            say(refused.help(&file));
+            say(&explain(&file, &refused));
             Ok(Ending::Refused)
         }
     }

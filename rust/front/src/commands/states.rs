@@ -1,14 +1,16 @@
 //! `states`: the preferred states, as the engine finds them.
 
 use crate::arguments::Call;
-use crate::ending::{say, Ending, Outcome};
+use crate::ending::{Ending, Outcome};
 use crate::file::File;
-use crate::listing::{print_refused, End, Listing};
+use crate::listing::{End, Listing};
 use crate::numbers::{counted, counted_in_groups};
+use crate::output::{print, say};
 use crate::refused::{self, Refused};
+use crate::sets::Set;
 use crate::watch::{Event, Watch};
 use rigtomato::{Kind, Next, Program, Refusal, LARGEST_BUDGET};
-use std::io::{self, Write};
+use std::io;
 use std::sync::mpsc::SyncSender;
 use std::sync::Arc;
 
@@ -52,7 +54,10 @@ fn walk(program: &Program, budget: u64, steps: &SyncSender<Step>) {
 /// A refusal where a listing or a translation was asked for.
 pub fn refuse(file: &File, json: bool, refused: &Refused) -> Outcome {
     say(&refused.message(file));
-    print_refused(&mut io::stdout().lock(), json, refused)?;
+    match json {
+        true => print(format!("{}\n", refused.json()))?,
+        false => print(refused.printed())?,
+    }
     Ok(Ending::Refused)
 }
 
@@ -73,7 +78,7 @@ fn list(call: &Call, file: &File, program: Program) -> Outcome {
     };
     let mut listing = Listing::new(io::stdout().lock(), call.json, &program);
     let mut all_units = 0;
-    loop {
+    let end = loop {
         let words = || {
             let found = counted_in_groups(listing.count, "state");
             format!("{found}, {}", counted_in_groups(all_units, "unit"))
@@ -85,42 +90,46 @@ fn list(call: &Call, file: &File, program: Program) -> Outcome {
                 listing.state(set.into())?;
                 listing.flush()?;
                 if call.first == Some(listing.count) {
-                    listing.end(End::First)?;
-                    return Ok(Ending::Answered);
+                    break End::First;
                 }
             }
-            Event::Answer(Ok(Next::None { .. })) => {
-                steps.alive.clear();
-                listing.end(End::Total)?;
-                return Ok(Ending::Answered);
-            }
-            Event::Answer(Ok(Next::Spent)) => {
-                steps.alive.clear();
-                listing.end(End::Spent)?;
-                let units = counted(budget, "unit");
-                say(&format!("spent: the next state needs more than {units}"));
-                return Ok(Ending::Spent);
-            }
+            Event::Answer(Ok(Next::None { .. })) => break End::Total,
+            Event::Answer(Ok(Next::Spent)) => break End::Spent,
             Event::Answer(Err(refusal)) => {
                 drop(listing);
                 let refused = Refused::of_call(refusal, Kind::Preference);
                 return refuse(file, call.json, &refused);
             }
-            Event::Interrupted => return interrupted(&steps, listing),
+            Event::Interrupted => {
+                for state in steps.left().filter_map(found) {
+                    listing.state(state)?;
+                }
+                break End::Interrupted;
+            }
             Event::Ended => unreachable!("the last step ends the listing"),
         }
-    }
+    };
+    steps.alive.clear();
+    listing.end(end)?;
+    Ok(match end {
+        End::Total | End::First => Ending::Answered,
+        End::Spent => {
+            let units = counted(budget, "unit");
+            say(&format!("spent: the next state needs more than {units}"));
+            Ending::Spent
+        }
+        End::Interrupted => {
+            say_interrupted(listing.count);
+            Ending::Interrupted
+        }
+    })
 }
 
-fn interrupted(steps: &Watch<Step>, mut listing: Listing<impl Write>) -> Outcome {
-    for step in steps.left() {
-        if let Ok(Next::State { set, .. }) = step {
-            listing.state(set.into())?;
-        }
+fn found(step: Step) -> Option<Set> {
+    match step {
+        Ok(Next::State { set, .. }) => Some(set.into()),
+        _ => None,
     }
-    listing.end(End::Interrupted)?;
-    say_interrupted(listing.count);
-    Ok(Ending::Interrupted)
 }
 
 pub fn say_interrupted(found: u64) {

@@ -5,9 +5,9 @@ use crate::asp;
 use crate::commands::states::refuse;
 use crate::ending::{Ending, Outcome};
 use crate::file::File;
+use crate::output::print;
 use crate::refused::{self, Refused};
 use rigtomato::{Kind, Program};
-use std::io::{self, Write};
 
 pub const MORE: &str = "\
 The stable models of the plain program, cut down to the file's own atoms, are the
@@ -41,8 +41,6 @@ pub fn run(call: &Call) -> Outcome {
         Ok((_, text)) => text,
         Err(refused) => return refuse(&file, false, &refused),
     };
-    let mut out = io::stdout().lock();
-    out.write_all(&text)?;
-    out.flush()?;
+    print(text)?;
     Ok(Ending::Answered)
 }

@@ -1,15 +1,15 @@
 //! `preferred` and `stable`: the engine's verdict on a set.
 
 use crate::arguments::Call;
-use crate::ending::{say, Ending, Fault, Outcome};
+use crate::ending::{Ending, Fault, Outcome};
 use crate::file::File;
 use crate::json::Json;
 use crate::nearest::nearest;
 use crate::numbers::counted;
+use crate::output::{print, say};
 use crate::refused::{self, Refused};
 use crate::watch::{Event, Watch};
 use rigtomato::{Kind, Program, Refusal, Verdict, LARGEST_BUDGET};
-use std::io::{self, Write};
 use std::sync::Arc;
 
 pub const MORE_ON_PREFERRED: &str = "\
@@ -136,15 +136,27 @@ fn set_of(call: &Call, file: &File, program: &Program) -> Result<u64, Fault> {
 fn refuse(call: &Call, file: &File, refused: &Refused) -> Outcome {
     say(&refused.message(file));
     if call.json {
-        print(&refused.json().to_string())?;
+        print(format!("{}\n", refused.json()))?;
     }
     Ok(Ending::Refused)
 }
 
-fn print(line: &str) -> io::Result<()> {
-    let mut out = io::stdout().lock();
-    writeln!(out, "{line}")?;
-    out.flush()
+/// The engine's answer; none where it is interrupted.
+fn answer(
+    program: &Arc<Program>,
+    judge: Judge,
+    set: u64,
+    budget: u64,
+) -> Option<Result<Verdict, Refusal>> {
+    let program = Arc::clone(program);
+    let mut answers = Watch::over(move |answers| {
+        let _ = answers.send(judge(&program, set, budget));
+    });
+    match answers.next(|| "no verdict yet".to_string()) {
+        Event::Answer(answer) => Some(answer),
+        Event::Interrupted => None,
+        Event::Ended => unreachable!("the engine answers"),
+    }
 }
 
 fn run(call: &Call, kind: Kind, judge: Judge) -> Outcome {
@@ -155,34 +167,23 @@ fn run(call: &Call, kind: Kind, judge: Judge) -> Outcome {
     };
     let set = set_of(call, &file, &program)?;
     let budget = call.budget.unwrap_or(LARGEST_BUDGET);
-    let mut answer = {
-        let program = Arc::clone(&program);
-        Watch::over(move |answer| {
-            let _ = answer.send(judge(&program, set, budget));
-        })
-    };
-    let verdict = match answer.next(|| "walking".to_string()) {
-        Event::Answer(Ok(verdict)) => verdict,
-        Event::Answer(Err(refusal)) => {
-            return refuse(call, &file, &Refused::of_call(refusal, kind));
-        }
-        Event::Interrupted => {
+    let verdict = match answer(&program, judge, set, budget) {
+        Some(Ok(verdict)) => verdict,
+        Some(Err(refusal)) => return refuse(call, &file, &Refused::of_call(refusal, kind)),
+        None => {
             say("interrupted: no verdict so far");
             return Ok(Ending::Interrupted);
         }
-        Event::Ended => unreachable!("the engine answers"),
     };
-    drop(answer);
     let asked = Asked {
         file: &file,
         program: &program,
         kind,
         budget,
     };
-    if call.json {
-        print(&asked.json(verdict).to_string())?;
-    } else {
-        print(&asked.words(verdict))?;
+    match call.json {
+        true => print(format!("{}\n", asked.json(verdict)))?,
+        false => print(format!("{}\n", asked.words(verdict)))?,
     }
     Ok(match verdict {
         Verdict::Spent => Ending::Spent,

@@ -71,7 +71,7 @@ impl Temporary {
 
 impl Drop for Temporary {
     fn drop(&mut self) {
-        std::fs::remove_file(&self.path).unwrap();
+        let _ = std::fs::remove_file(&self.path);
     }
 }
 
