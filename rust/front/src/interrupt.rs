@@ -1,11 +1,14 @@
-//! Ctrl-C, and a request to end: the first is noted, a second ends the process on the spot.
+//! Ctrl-C, and a request to end: noted at first, and obeyed on the spot where it is insisted on.
 
-use std::sync::atomic::{AtomicBool, Ordering};
+use std::sync::atomic::{AtomicU32, Ordering};
 
 const SIGINT: i32 = 2;
 const SIGTERM: i32 = 15;
 
-static INTERRUPTED: AtomicBool = AtomicBool::new(false);
+/// One request may come as two signals: `timeout` sends it to the process and to its group.
+const PATIENCE: u32 = 2;
+
+static SIGNALS: AtomicU32 = AtomicU32::new(0);
 
 extern "C" {
     fn signal(number: i32, handler: extern "C" fn(i32)) -> usize;
@@ -13,7 +16,7 @@ extern "C" {
 }
 
 extern "C" fn note(_number: i32) {
-    if INTERRUPTED.swap(true, Ordering::Relaxed) {
+    if SIGNALS.fetch_add(1, Ordering::Relaxed) >= PATIENCE {
         // SAFETY: `_exit` may be called from a signal handler.
         unsafe { _exit(130) }
     }
@@ -28,5 +31,5 @@ pub fn listen() {
 }
 
 pub fn interrupted() -> bool {
-    INTERRUPTED.load(Ordering::Relaxed)
+    SIGNALS.load(Ordering::Relaxed) > 0
 }

@@ -70,12 +70,13 @@ fn printed(command: &mut Command, input: &str, count: usize) -> (Child, ChildStd
     (child, out, String::from_utf8(first).unwrap())
 }
 
+/// `timeout` sends its signal twice.
 #[test]
 fn a_listing() {
-    for name in ["INT", "TERM"] {
+    for names in [&["INT"][..], &["TERM"], &["TERM", "TERM"]] {
         let (mut child, mut out, first) = printed(front().args(["states", "-"]), &endless(), 8);
         assert_eq!(first, "(state)\n");
-        signal(&child, name);
+        names.iter().for_each(|name| signal(&child, name));
         assert_eq!(ended(&mut child), Some(130));
         assert_eq!(rest(&mut out), "");
         assert_eq!(errors(&mut child), "interrupted: 1 state found so far\n");
