@@ -84,17 +84,13 @@ struct Checked {
 }
 
 impl Checked {
-    fn sum(&self, all: usize, end: &str) -> String {
-        let checked = self.yes + self.wrong;
-        let states = counted(all as u64, "state");
+    fn sum(&self, all: &str) -> String {
+        let (checked, spent) = (self.yes + self.wrong, self.spent);
         let wrong = match self.wrong {
             0 => String::new(),
             wrong => format!(", {wrong} not preferred"),
         };
-        format!(
-            "checked: {checked} of {states}, {} spent{wrong}{end}",
-            self.spent
-        )
+        format!("checked: {checked} of {all}, {spent} spent{wrong}")
     }
 }
 
@@ -115,39 +111,34 @@ fn check(file: &File, program: &Program, states: &[Set]) -> Ending {
     };
     let mut verdicts = verdicts_on(program, states);
     let mut checked = Checked::default();
+    let all = counted(states.len() as u64, "state");
+    let mut ending = Ending::Answered;
     for done in 0..states.len() {
-        let words = || {
-            format!(
-                "checked {done} of {}",
-                counted(states.len() as u64, "state")
-            )
-        };
-        match verdicts.next(words) {
+        match verdicts.next(|| format!("checked {done} of {all}")) {
             Event::Answer((_, Verdict::Yes { .. })) => checked.yes += 1,
             Event::Answer((_, Verdict::Spent)) => checked.spent += 1,
             Event::Answer((set, verdict)) => {
                 checked.wrong += 1;
                 verdicts.alive.clear();
-                let names: String = program
-                    .names_in(set)
-                    .map(|name| format!(" {name}"))
-                    .collect();
-                say(&format!(
-                    "not preferred: (state{names}): {}",
-                    asked.words(verdict)
-                ));
+                let names = program.names_in(set).map(|name| format!(" {name}"));
+                let state = format!("(state{})", names.collect::<String>());
+                say(&format!("not preferred: {state}: {}", asked.words(verdict)));
             }
             Event::Interrupted => {
-                say(&checked.sum(states.len(), ", then interrupted"));
-                return Ending::Interrupted;
+                ending = Ending::Interrupted;
+                break;
             }
             Event::Ended => unreachable!("each state gets a verdict"),
         }
     }
     drop(verdicts);
-    say(&checked.sum(states.len(), ""));
+    let sum = checked.sum(&all);
+    match ending {
+        Ending::Interrupted => say(&format!("{sum}, then interrupted")),
+        _ => say(&sum),
+    }
     match checked.wrong {
-        0 => Ending::Answered,
+        0 => ending,
         _ => Ending::SolverFailed,
     }
 }
