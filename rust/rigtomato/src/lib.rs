@@ -17,10 +17,12 @@
 //! ordinary Rust thread hold.
 
 pub mod lent;
+mod program;
 mod refusal;
 pub mod sys;
 
 pub use lent::{Next, Verdict};
+pub use program::{Limits, Role, Rule};
 pub use refusal::{Refusal, TextRefusal};
 
 use std::error::Error;
@@ -30,11 +32,15 @@ use std::fmt;
 pub const LARGEST_BUDGET: u64 = 1 << 40;
 /// The most bytes of a text.
 pub const TEXT_LIMIT: usize = 655_360;
+/// The most bytes of a house name.
+pub const HOUSE_NAME_LIMIT: usize = 16;
+/// The most atoms with which a verdict is given or states are listed.
+pub const VERDICT_ATOM_LIMIT: usize = 60;
 
 /// The most words of a rule store: a plain program's.
 const RULES_LIMIT: usize = 4 + 3 * 4_200 + 24_000;
-/// The most bytes of a name store: a plain program's, with the longest names.
-const NAMES_LIMIT: usize = 1_100 * 19;
+/// The most bytes of a name store: a plain program's, each name with its length and `N.`.
+const NAMES_LIMIT: usize = 1_100 * (HOUSE_NAME_LIMIT + 3);
 
 #[derive(Clone, Copy, Debug, PartialEq, Eq)]
 pub enum Kind {

@@ -47,27 +47,31 @@ impl Refusal {
             .find(|refusal| *refusal as u64 == number);
         found.unwrap_or_else(|| panic!("the library gave the unknown refusal {number}"))
     }
+
+    /// What is wrong, without the number.
+    pub fn words(self) -> &'static str {
+        match self {
+            Refusal::TextTooLong => "the text is too long",
+            Refusal::Form => "a form or the order of lines is broken, or a needed line is missing",
+            Refusal::Name => "a name is too long, or is a generated one in a preference file",
+            Refusal::DeclaredTwice => "an atom is declared twice",
+            Refusal::NotDeclared => "an atom is not declared",
+            Refusal::TwiceInList => "an atom stands twice in one list of a rule",
+            Refusal::Limit => "there are too many classes, atoms, rules or atom occurrences",
+            Refusal::FilledNot => "a preference file has a filled `not` list",
+            Refusal::OutputShort => "a lent output is shorter than the result",
+            Refusal::RuleStore => "the rule store is not of the form, or of the other kind",
+            Refusal::TooManyAtoms => "there are over 60 atoms",
+            Refusal::SetTooLarge => "the set number or the start is too large",
+            Refusal::BudgetTooLarge => "the budget is over 2^40",
+            Refusal::NameStore => "the name store does not fit the rule store",
+        }
+    }
 }
 
 impl fmt::Display for Refusal {
     fn fmt(&self, out: &mut fmt::Formatter) -> fmt::Result {
-        let sentence = match self {
-            Refusal::TextTooLong => "text too long",
-            Refusal::Form => "form or line order broken, or a needed line absent",
-            Refusal::Name => "house name too long, or a generated name in a preference file",
-            Refusal::DeclaredTwice => "atom declared twice",
-            Refusal::NotDeclared => "atom not declared",
-            Refusal::TwiceInList => "atom twice in one list of a rule",
-            Refusal::Limit => "a count passes its limit",
-            Refusal::FilledNot => "a filled `not` list in a preference file",
-            Refusal::OutputShort => "a lent output is shorter than the result",
-            Refusal::RuleStore => "rule store not of the form, or of the other kind",
-            Refusal::TooManyAtoms => "over 60 atoms",
-            Refusal::SetTooLarge => "set number or start too large",
-            Refusal::BudgetTooLarge => "budget over 2^40",
-            Refusal::NameStore => "name store does not fit the rule store",
-        };
-        write!(out, "{sentence} (refusal {})", *self as u64)
+        write!(out, "{} (refusal {})", self.words(), *self as u64)
     }
 }
 

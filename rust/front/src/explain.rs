@@ -1,0 +1,82 @@
+//! What is allowed where a text was refused.
+
+use crate::file::File;
+use crate::numbers::grouped;
+use crate::refused::Refused;
+use rigtomato::{Kind, Limits, Refusal, HOUSE_NAME_LIMIT, TEXT_LIMIT};
+
+const FORMS: &str = "\
+A preference file has (min ..) lines, one (vary ..) line, one (fix ..) line and then rules of the
+form
+    (rule (head a b) (body c) (not))
+with one space between items, no other spacing, no blank line and no comment; a name is a letter
+a to z and then letters, digits or _.";
+
+const PLAIN_FORMS: &str = "\
+A plain program has one (atoms ..) line and then rules of the form
+    (rule (head a b) (body c) (not d))
+with one space between items, no other spacing, no blank line and no comment; a name is a letter
+a to z and then letters, digits or _, also after N., S. or D.; E.0 to E.16 and U are names too.";
+
+/// The kind that a text has by its first bytes, also where it is refused.
+fn kind(file: &File) -> Kind {
+    match file.text.starts_with(b"(atoms") {
+        true => Kind::Plain,
+        false => Kind::Preference,
+    }
+}
+
+fn form(file: &File, line: u64) -> &'static str {
+    match (file.line(line), kind(file)) {
+        (None, _) => {
+            "The text ends too early: it needs one (vary ..) line and then one (fix ..) line."
+        }
+        (Some(line), _) if !line.ends_with(b"\n") => {
+            "Each line ends with a line feed (byte 10), the last one too."
+        }
+        (_, Kind::Preference) => FORMS,
+        (_, Kind::Plain) => PLAIN_FORMS,
+    }
+}
+
+fn limits(kind: Kind) -> String {
+    let Limits {
+        atoms,
+        rules,
+        occurrences,
+        classes,
+    } = kind.limits();
+    let [atoms, rules, places] = [atoms, rules, occurrences].map(|limit| grouped(limit as u64));
+    let most = format!("{atoms} atoms, {rules} rules and {places} atom places in its rules' lists");
+    match kind {
+        Kind::Preference => format!("A preference file has at most {classes} classes, {most}."),
+        Kind::Plain => format!("A plain program has at most {most}."),
+    }
+}
+
+/// One sentence of help for a refused text.
+pub fn explain(file: &File, refused: &Refused) -> String {
+    let (one, declared) = match kind(file) {
+        Kind::Preference => ("one of ", "the (min ..), (vary ..) and (fix ..) lines"),
+        Kind::Plain => ("", "the (atoms ..) line"),
+    };
+    match refused.refusal {
+        Refusal::TextTooLong => format!("A text has at most {} bytes.", grouped(TEXT_LIMIT as u64)),
+        Refusal::Form => form(file, refused.line).to_string(),
+        Refusal::Name => format!(
+            "A name has at most {HOUSE_NAME_LIMIT} bytes; N.a, S.a, D.a, E.0 and U are names that \
+             the translator makes, for plain programs only."
+        ),
+        Refusal::DeclaredTwice => format!("On {declared} each atom stands once."),
+        Refusal::NotDeclared => format!("Each atom of a rule must stand on {one}{declared}."),
+        Refusal::TwiceInList => {
+            "An atom stands at most once in each of a rule's lists head, body and not.".to_string()
+        }
+        Refusal::Limit => limits(kind(file)),
+        Refusal::FilledNot => "In a preference file each rule ends with an empty list, (not)); a \
+             rule with an empty head says what cannot be."
+            .to_string(),
+        // The others are none of a text.
+        _ => String::new(),
+    }
+}

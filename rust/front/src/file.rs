@@ -1,0 +1,88 @@
+//! The file that a command is about.
+
+use crate::ending::Fault;
+use rigtomato::TEXT_LIMIT;
+use std::ffi::OsStr;
+use std::io::{self, Read};
+use std::path::Path;
+
+pub struct File {
+    /// What messages call it.
+    pub name: String,
+    pub text: Vec<u8>,
+}
+
+/// Past the limit one byte is as good as all of them: the text is refused.
+fn bytes_of(input: impl Read) -> io::Result<Vec<u8>> {
+    let mut text = Vec::new();
+    input.take(TEXT_LIMIT as u64 + 1).read_to_end(&mut text)?;
+    Ok(text)
+}
+
+impl File {
+    /// Reads the file, or standard input for `-`.
+    pub fn read(path: &OsStr) -> Result<File, Fault> {
+        let (name, text) = if path == "-" {
+            ("standard-input".to_string(), bytes_of(io::stdin().lock()))
+        } else {
+            let text = std::fs::File::open(path).and_then(bytes_of);
+            (Path::new(path).display().to_string(), text)
+        };
+        match text {
+            Ok(text) => Ok(File { name, text }),
+            Err(error) => Err(Fault::unusable(format!("{name}: cannot be read: {error}"))),
+        }
+    }
+
+    fn lines(&self) -> impl Iterator<Item = &[u8]> {
+        self.text.split_inclusive(|byte| *byte == b'\n')
+    }
+
+    /// The line with this number from 1, with its byte 10 if it has one; none past the last.
+    pub fn line(&self, number: u64) -> Option<&[u8]> {
+        let before = usize::try_from(number.checked_sub(1)?).ok()?;
+        self.lines().nth(before)
+    }
+
+    /// The line of the rule with this number from 0, in an accepted text.
+    pub fn rule(&self, rule: u64) -> (u64, String) {
+        let mut numbered = (1..).zip(self.lines());
+        let mut rules = numbered
+            .by_ref()
+            .filter(|(_, line)| line.starts_with(b"(rule"));
+        let (number, line) = rules
+            .nth(rule as usize)
+            .expect("the engine names a rule of the file");
+        (
+            number,
+            String::from_utf8_lossy(line.trim_ascii_end()).into(),
+        )
+    }
+}
+
+#[cfg(test)]
+mod tests {
+    use super::*;
+
+    #[test]
+    fn lines_by_number() {
+        let text = b"(vary a)\n(fix)\n(rule (head a) (body) (not))\n(rule (head) (body a) (not))";
+        let file = File {
+            name: "x".to_string(),
+            text: text.to_vec(),
+        };
+        assert_eq!(file.line(0), None);
+        assert_eq!(file.line(1), Some(b"(vary a)\n".as_slice()));
+        assert_eq!(file.line(2), Some(b"(fix)\n".as_slice()));
+        assert_eq!(file.line(5), None);
+        assert_eq!(file.line(u64::MAX), None);
+        assert_eq!(
+            file.rule(0),
+            (3, "(rule (head a) (body) (not))".to_string())
+        );
+        assert_eq!(
+            file.rule(1),
+            (4, "(rule (head) (body a) (not))".to_string())
+        );
+    }
+}
