@@ -5,7 +5,7 @@ usage: bench.py FRONT
 
 The solver alone gets the ready text of `translate --asp`, as `solve` would hand it over: once with its
 output thrown away and once with its output read through a pipe. Whole times by the clock, the three
-taken alternately; the best of several turns, summed over the circuits of a row.
+taken alternately, the best of the turns that fit into a second, and the mean of a row's circuits.
 """
 import os
 import subprocess
@@ -18,7 +18,7 @@ import circuits
 SIZES = [18, 22, 26, 28]
 CLASSES = [1, 4]
 SEEDS = [1, 2, 3, 4, 5]
-TURNS = 9
+FEWEST_TURNS = 5
 SOLVER = ["clingo", "--verbose=0", "--warn=none", "0", "-"]
 ANSWERS = (10, 20, 30)  # clingo's status where it has solved
 
@@ -61,8 +61,10 @@ def measure(front, work, circuit, k):
     if listing != circuits.listing(circuit, k):
         sys.exit("bench.py: solve does not list the preferred states")
     calls = [lambda: thrown_away(asp), lambda: through_a_pipe(asp), lambda: solve(front, path)]
-    best = [min(times) for times in zip(*([seconds(call) for call in calls] for _ in range(TURNS)))]
-    return listing.count("(state"), best
+    turns = []
+    while len(turns) < FEWEST_TURNS or sum(map(sum, turns)) < 1:
+        turns.append([seconds(call) for call in calls])
+    return listing.count("(state"), [min(times) for times in zip(*turns)]
 
 
 def row(front, work, n, k):
@@ -81,7 +83,7 @@ def row(front, work, n, k):
 
 def main():
     (front,) = sys.argv[1:]
-    print(f"whole times, the mean of {len(SEEDS)} circuits, the best of {TURNS} turns")
+    print(f"whole times, the mean of {len(SEEDS)} circuits, each the best of several turns")
     with tempfile.TemporaryDirectory() as work:
         for n in SIZES:
             for k in CLASSES:
