@@ -5,7 +5,7 @@ usage: bench.py FRONT
 
 The solver alone gets the ready text of `translate --asp`, as `solve` would hand it over: once with its
 output thrown away and once with its output read through a pipe. Whole times by the clock, the three
-taken alternately, the best of the turns that fit into a second, and the mean of a row's circuits.
+taken alternately, for each the best of at least eleven turns, and the mean of a row's circuits.
 """
 import os
 import subprocess
@@ -18,7 +18,7 @@ import circuits
 SIZES = [18, 22, 26, 28]
 CLASSES = [1, 4]
 SEEDS = [1, 2, 3, 4, 5]
-FEWEST_TURNS = 5
+FEWEST_TURNS = 11
 SOLVER = ["clingo", "--verbose=0", "--warn=none", "0", "-"]
 ANSWERS = (10, 20, 30)  # clingo's status where it has solved
 
