@@ -5,7 +5,8 @@ usage: bench.py FRONT
 
 The solver alone gets the ready text of `translate --asp`, as `solve` would hand it over: once with its
 output thrown away and once with its output read through a pipe. Whole times by the clock, the three
-taken alternately, for each the best of at least eleven turns, and the mean of a row's circuits.
+taken alternately, for each the best of at least eleven turns, and the mean of a row's circuits. Other
+work on the machine moves the ratios by a fifth and more, so run it on a quiet one.
 """
 import os
 import subprocess
