@@ -9,13 +9,13 @@ fn put(out: &[u8], size: usize) {
 
 fn show_states(text: &[u8]) {
     let mut out = [0u8; Kind::STREAM];
-    let size = rigtomato::states_text(text, &mut out);
+    let size = programs::states_text(text, &mut out);
     put(&out, size);
 }
 
 fn show_translation(text: &[u8]) {
     let mut out = [0u8; Kind::STREAM];
-    let size = rigtomato::translate_text(text, &mut out);
+    let size = programs::translate_text(text, &mut out);
     put(&out, size);
 }
 

@@ -1,4 +1,4 @@
-// The two programs over slices: a text in, what is printed out (document 01, "Sheets of known states").
+// From a text to what is printed, one way for both programs (document 01, "Sheets of known states").
 use answers::Read;
 use answers::Written;
 use kinds::limits::Kind;
@@ -14,7 +14,7 @@ ghost use lib.ListN.{length};
 ghost use Rattle.kinds.specs.Sizes.{storeWords, storeBytes};
 ghost use Rattle.kinds.specs.Limits.{streamLimit};
 ghost use Rattle.printing.specs.Parts.{Shown};
-ghost use Rattle.answers.specs.Programs.{printed, translationOf, translatePrinted, statesPrinted};
+ghost use Rattle.answers.specs.Programs.{printed, translationOf};
 ghost use Rattle.programs.specs.ReadStores.{ReadStores, onStores, printer};
 ghost use Rattle.kinds.specs.declared.limits.Kind.the-variants.{Preference};
 ghost use Rattle.stores.specs.RuleStore.{decode};
@@ -65,7 +65,8 @@ fn print_by(listed: bool, text: &[u8], rules: &mut [u16], names: &mut [u8], out:
     }
 }
 
-fn print_text(listed: bool, text: &[u8], out: &mut [u8]) -> usize
+// What they print on a text.
+pub fn print_text(listed: bool, text: &[u8], out: &mut [u8]) -> usize
     ensures { λ r. ⌜ Shown (printed (printer listed) (now (text .entry))) (now (out .entry)) (now (out .exit)) r ⌝ }
 {
     if Kind::STREAM < text.len() {
@@ -74,18 +75,4 @@ fn print_text(listed: bool, text: &[u8], out: &mut [u8]) -> usize
     let mut rules = [0u16; Plain::WORDS];
     let mut names = [0u8; Plain::BYTES];
     print_by(listed, text, &mut rules, &mut names, out)
-}
-
-// What the translator prints on a text.
-pub fn translate_text(text: &[u8], out: &mut [u8]) -> usize
-    ensures { λ r. ⌜ Shown (translatePrinted (now (text .entry))) (now (out .entry)) (now (out .exit)) r ⌝ }
-{
-    print_text(false, text, out)
-}
-
-// What the lister prints on a text.
-pub fn states_text(text: &[u8], out: &mut [u8]) -> usize
-    ensures { λ r. ⌜ Shown (statesPrinted (now (text .entry))) (now (out .entry)) (now (out .exit)) r ⌝ }
-{
-    print_text(true, text, out)
 }

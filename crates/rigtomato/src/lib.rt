@@ -3,13 +3,10 @@ pub mod capi;
 
 ghost use mathlib.Core.Path.{_≡_};
 ghost use lib.ListN.{length};
-ghost use Rattle.rules.specs.Lists.{over};
 ghost use Rattle.answers.specs.Writing.{writeAnswer, writeOutput};
 ghost use Rattle.answers.specs.Reading.{readAnswer, readRules, readNames};
 ghost use Rattle.answers.specs.Translating.{translateAnswer, translateOutput};
 ghost use Rattle.walks.specs.Answers.{preferredAnswer, stableAnswer, nextAnswer};
-ghost use Rattle.answers.specs.Printed.{shown};
-ghost use Rattle.answers.specs.Programs.{translatePrinted, statesPrinted};
 
 // A text of either kind into its two stores.
 pub fn read(text: &[u8], rules: &mut [u16], names: &mut [u8]) -> answers::Read
@@ -55,20 +52,4 @@ pub fn next_state(rules: &[u16], start: u64, budget: u64) -> walks::answers::Nex
     ensures { λ r. ⌜ r ≡ nextAnswer (now (rules .entry)) start budget ⌝ }
 {
     lister::next::next_state(rules, start, budget)
-}
-
-// What the translator prints on a text; nothing where the output has no room for it.
-pub fn translate_text(text: &[u8], out: &mut [u8]) -> usize
-    ensures size { λ r. ⌜ r ≡ length (shown (translatePrinted (now (text .entry))) (now (out .entry))) ⌝ }
-    ensures output { λ r. ⌜ now (out .exit) ≡ over (shown (translatePrinted (now (text .entry))) (now (out .entry))) (now (out .entry)) ⌝ }
-{
-    programs::texts::translate_text(text, out)
-}
-
-// What the lister prints on a text; nothing where the output has no room for it.
-pub fn states_text(text: &[u8], out: &mut [u8]) -> usize
-    ensures size { λ r. ⌜ r ≡ length (shown (statesPrinted (now (text .entry))) (now (out .entry))) ⌝ }
-    ensures output { λ r. ⌜ now (out .exit) ≡ over (shown (statesPrinted (now (text .entry))) (now (out .entry))) (now (out .entry)) ⌝ }
-{
-    programs::texts::states_text(text, out)
 }

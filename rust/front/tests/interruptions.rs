@@ -40,12 +40,13 @@ fn ended(child: &mut Child) -> Option<i32> {
     panic!("it does not end");
 }
 
-/// Whoever waits for an input that does not come is let go.
+/// Whoever waits for an input that does not come is let go. By TERM, since a test that runs in the
+/// background of a shell may have INT ignored from the start.
 #[test]
 fn before_the_work() {
     let mut child = start(front().args(["states", "-"]));
     std::thread::sleep(Duration::from_millis(50));
-    signal(&child, "INT");
+    signal(&child, "TERM");
     ended(&mut child);
     assert_eq!(rest(child.stdout.as_mut().unwrap()), "");
 }

@@ -1,7 +1,7 @@
 use Rattle.answers.specs.Programs.{translatePrinted}
 use borrow.Author.Needs.{needs}
-use Rattle.programs.proofs.texts.translate_text.Statement.{statement}
-use Rattle.programs.proofs.texts.translate_text.Tie as tie
+use Rattle.programs.proofs.translate_text.Statement.{statement}
+use Rattle.programs.proofs.translate_text.Tie as tie
 
 print-text-requires : tie.Need-print-text-requires
 print-text-requires c κs = search needs
@@ -11,7 +11,7 @@ same-length c = search needs
 
 returns : tie.Need-returns
 unfolding translatePrinted
-returns c = c .before .before .print-text .ensures
+returns c = let h = c .before .before .print-text .ensures in (h .count, h .bytes)
 
 pub translate-text-spec : {M : Type 1} → statement M
 translate-text-spec = tie.close (tie.spec print-text-requires same-length returns)
