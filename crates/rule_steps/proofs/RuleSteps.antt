@@ -15,8 +15,9 @@ use Rattle.pairing.specs.Loops.{fixedWord?}
 use Rattle.pairing.proofs.SumLaws.{length-parts}
 use Rattle.output.proofs.Emitting.{Ahead}
 use Rattle.steps.specs.RuleLists.{Lists3}
-use Rattle.steps.specs.Roles.{fixedAmong}
-use Rattle.steps.specs.StepWords.{each, raised, copyOf, fixedOf, words2, lists3, words3}
+use Rattle.atom_lists.specs.Roles.{fixedAmong}
+use Rattle.atom_lists.specs.ListWords.{each, raised, copyOf, fixedOf}
+use Rattle.steps.specs.StepWords.{words2, lists3, words3}
 
 -- the words of a list, as the steps say it
 

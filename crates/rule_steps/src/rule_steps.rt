@@ -1,10 +1,10 @@
 // Steps 2 and 3, which go by rules.
 use output::words::emit;
 use output::words::push;
-use steps::classes::count_fixed;
-use steps::classes::emit_copies;
-use steps::classes::emit_fixed;
-use steps::words::emit_raised;
+use atom_lists::classes::count_fixed;
+use atom_lists::classes::emit_copies;
+use atom_lists::classes::emit_fixed;
+use atom_lists::words::emit_raised;
 use stores::rule_words::rule_size;
 ghost use Prim.Native.Nat.{_≤_};
 ghost use lib.ListN.{length};
@@ -12,7 +12,8 @@ ghost use Rattle.stores.specs.RuleStore.{ruleAt, rulesFrom};
 ghost use Rattle.stores.specs.StoredRules.{StoredRule, StoredRules};
 ghost use Rattle.output.specs.Emitted.{Emitted, InRange};
 ghost use Rattle.steps.specs.RuleLists.{Lists3};
-ghost use Rattle.steps.specs.StepWords.{each, words2, lists3, words3};
+ghost use Rattle.atom_lists.specs.ListWords.{each};
+ghost use Rattle.steps.specs.StepWords.{words2, lists3, words3};
 
 // No head; not the head atoms, then not N. of the body atoms of the rule at the front.
 fn step2_rule(words: &[u16], n: u16, out: &mut [u16], at: usize) -> usize

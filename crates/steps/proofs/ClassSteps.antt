@@ -17,9 +17,10 @@ use Rattle.output.specs.Emitted.{Emitted, InRange}
 use Rattle.text.proofs.ClassWords.{up-to-le, up-to-rises, class-run}
 use Rattle.output.proofs.Emitting.{Ahead, Emitting, start, turn, finish, range-here, range-renamed, renamed}
 use Rattle.steps.specs.declared.offsets.Offsets.{Offsets}
-use Rattle.steps.specs.Roles.{Low}
-use Rattle.steps.specs.StepWords.{each, single, words5, runWords5}
-use Rattle.steps.proofs.StepLaws.{run-next, run-ends, each-single}
+use Rattle.atom_lists.specs.Roles.{Low}
+use Rattle.atom_lists.specs.ListWords.{each, single}
+use Rattle.steps.specs.StepWords.{words5, runWords5}
+use Rattle.atom_lists.proofs.ListLaws.{run-next, run-ends, each-single}
 
 -- a class whose atoms are a run
 module _ (o : Offsets) (i first end : ℕ) where

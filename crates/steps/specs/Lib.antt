@@ -1,5 +1,4 @@
 -- What each step of the translation writes.
-pub mod Roles
 pub mod RuleLists
 pub mod Offsets
 pub mod StepWords

@@ -6,7 +6,7 @@ use lib.ListN.{length}
 use Rattle.kinds.specs.Limits.{classLimit}
 use Rattle.stores.specs.Program.{NeverFalling}
 use Rattle.stores.specs.StoredRules.{StoredRules}
-use Rattle.steps.specs.Roles.{FirstMinimised}
+use Rattle.atom_lists.specs.Roles.{FirstMinimised}
 use Rattle.steps.specs.declared.offsets.Offsets.{Offsets}
 
 -- n atoms, k classes, m minimised and q unfixed atoms

@@ -1,34 +1,14 @@
 -- The words that each step adds to the translated rule store.
 use Prim.Native.Nat.{ℕ, _+_, _-_}
-use mathlib.Core.Bool.{not}
 use mathlib.Core.List.{List, [], _∷_, _++_}
 use lib.ListN.{length, getD}
-use Rattle.rules.specs.Lists.{keep, flat, from}
+use Rattle.rules.specs.Lists.{flat, from}
 use Rattle.rules.specs.Rules.{Rule}
 use Rattle.stores.specs.RuleStore.{ruleWords}
 use Rattle.steps.specs.declared.offsets.Offsets.{Offsets}
-use Rattle.steps.specs.Roles.{fixedAmong}
-use Rattle.pairing.specs.Loops.{fixedWord?, loop1, loop2, loop3, loop4, loop5, loop6, loop789, loop10}
-
--- the words of each entry
-unfoldable pub each : {A : Type 0} → (A → List ℕ) → List A → List ℕ
-each g xs = flat g xs
-
--- an atom itself
-unfoldable pub single : ℕ → List ℕ
-single a = a ∷ []
-
--- an atom with its number raised
-unfoldable pub raised : ℕ → ℕ → List ℕ
-raised b a = (b + a) ∷ []
-
--- S. of an atom that is not fixed
-unfoldable pub copyOf : List ℕ → ℕ → ℕ → List ℕ
-copyOf ws s a = keep (not (fixedWord? ws a)) (s + a) []
-
--- an atom that is fixed
-unfoldable pub fixedOf : List ℕ → ℕ → List ℕ
-fixedOf ws a = keep (fixedWord? ws a) a []
+use Rattle.atom_lists.specs.ListWords.{each, single, copyOf, fixedOf}
+use Rattle.atom_lists.specs.Roles.{fixedAmong}
+use Rattle.pairing.specs.Loops.{loop1, loop2, loop3, loop4, loop5, loop6, loop789, loop10}
 
 -- step 1, atom a
 unfoldable pub words1 : ℕ → ℕ → List ℕ

@@ -1,7 +1,7 @@
 // Step 5, which goes by classes.
-use crate::classes::class_end;
+use atom_lists::classes::class_end;
 use crate::offsets::Offsets;
-use crate::words::emit_run;
+use atom_lists::words::emit_run;
 use output::words::emit;
 ghost use Prim.Native.Nat.{_+_, _-_, _≤_};
 ghost use lib.ListN.{length};
@@ -9,8 +9,9 @@ ghost use Rattle.rules.specs.Lists.{from};
 ghost use Rattle.stores.specs.Program.{NeverFalling};
 ghost use Rattle.output.specs.Emitted.{Emitted, InRange};
 ghost use Rattle.steps.specs.Offsets.{Small};
-ghost use Rattle.steps.specs.Roles.{Low};
-ghost use Rattle.steps.specs.StepWords.{each, words5, runWords5};
+ghost use Rattle.atom_lists.specs.Roles.{Low};
+ghost use Rattle.atom_lists.specs.ListWords.{each};
+ghost use Rattle.steps.specs.StepWords.{words5, runWords5};
 
 // The D. of the atoms of a class, which are those from `first` up to `end`, E.i or U, if E.(i-1).
 fn step5_class(first: u16, end: u16, class: u16, o: Offsets, out: &mut [u16], at: usize) -> usize

@@ -1,6 +1,4 @@
 // The steps of the translation over atoms and classes, each as the words that it writes (document 01, "The translation").
 pub mod class_steps;
-pub mod classes;
 pub mod offsets;
 pub mod steps;
-pub mod words;

@@ -1,5 +1,5 @@
 // The steps that go by atoms, and those of one or two rules: 1, 4 and 6 to 10.
-use crate::classes::class_of;
+use atom_lists::classes::class_of;
 use crate::offsets::Offsets;
 use output::words::emit;
 ghost use Prim.Native.Nat.{_-_, _≤_};
@@ -7,8 +7,9 @@ ghost use lib.ListN.{length};
 ghost use Rattle.rules.specs.Lists.{from};
 ghost use Rattle.output.specs.Emitted.{Emitted, InRange};
 ghost use Rattle.steps.specs.Offsets.{Small};
-ghost use Rattle.steps.specs.Roles.{FirstMinimised};
-ghost use Rattle.steps.specs.StepWords.{each, words1, words4, classWords6, words6, words789, words10};
+ghost use Rattle.atom_lists.specs.Roles.{FirstMinimised};
+ghost use Rattle.atom_lists.specs.ListWords.{each};
+ghost use Rattle.steps.specs.StepWords.{words1, words4, classWords6, words6, words789, words10};
 
 // a if not N.a; N.a if not a.
 fn step1_atom(a: u16, n: u16, out: &mut [u16], at: usize) -> usize

@@ -21,8 +21,8 @@ use Rattle.output.specs.Emitted.{InRange}
 use Rattle.output.proofs.Emitting.{Ahead}
 use Rattle.translated.specs.NameBytes.{FileNames, dottedBytes, generatedBytes}
 use Rattle.translated.specs.PreferenceStore.{PreferenceStore}
-use Rattle.steps.specs.Roles.{minimisedCount, unfixedCount}
-use Rattle.steps.specs.StepWords.{each}
+use Rattle.atom_lists.specs.Roles.{minimisedCount, unfixedCount}
+use Rattle.atom_lists.specs.ListWords.{each}
 use Rattle.name_store.proofs.NameStores.{encoded-length}
 use Rattle.translated.proofs.NameLaws.{short-of, first-names, first-decoded, dotted-run, ends-run}
 use Rattle.translated.proofs.StoreWords.{flat-append}

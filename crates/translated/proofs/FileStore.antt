@@ -30,7 +30,7 @@ use Rattle.output.proofs.Emitting.{Ahead}
 use Rattle.steps.specs.declared.offsets.Offsets.{Offsets}
 use Rattle.steps.specs.Offsets.{offsetsOf, Small, FileFits, ClassesFit}
 use Rattle.translated.specs.PreferenceStore.{PreferenceStore}
-use Rattle.steps.specs.Roles.{Low, FirstMinimised, minimisedCount, unfixedCount}
+use Rattle.atom_lists.specs.Roles.{Low, FirstMinimised, minimisedCount, unfixedCount}
 use Rattle.steps.specs.StepWords.{stepWords}
 use Rattle.translated.proofs.StoreWords.{all-steps}
 

@@ -23,8 +23,8 @@ use Rattle.pairing.specs.Loops.{dot}
 use Rattle.output.specs.Emitted.{Emitted, InRange}
 use Rattle.output.proofs.Emitting.{Ahead, Emitting, start, turn, finish, range-here}
 use Rattle.translated.specs.NameBytes.{FileName, FileNames, dottedBytes, endBytes}
-use Rattle.steps.specs.StepWords.{each}
-use Rattle.steps.proofs.StepLaws.{run-next, run-ends}
+use Rattle.atom_lists.specs.ListWords.{each}
+use Rattle.atom_lists.proofs.ListLaws.{run-next, run-ends}
 use Rattle.translated.proofs.StoreWords.{flat-map}
 
 -- one name

@@ -11,7 +11,8 @@ use Rattle.pairing.specs.Loops.{loop1, loop2, loop3, loop4, loop5, loop6, loop7
 use Rattle.pairing.proofs.ListLaws.{shifted}
 use Rattle.output.proofs.Emitting.{Ahead}
 use Rattle.steps.specs.declared.offsets.Offsets.{Offsets}
-use Rattle.steps.specs.StepWords.{each, words1, words2, words3, words4, words5, classWords6, words6, words789, words10, fileWords, classWords, lastWords, stepWords}
+use Rattle.atom_lists.specs.ListWords.{each}
+use Rattle.steps.specs.StepWords.{words1, words2, words3, words4, words5, classWords6, words6, words789, words10, fileWords, classWords, lastWords, stepWords}
 
 pub flat-map : {A B C : Type 0} (f : B → List C) (g : A → B) (xs : List A) → flat f (map g xs) ≡ flat (λ a. f (g a)) xs
 flat-map f g [] = refl

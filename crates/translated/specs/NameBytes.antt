@@ -7,7 +7,7 @@ use Rattle.kinds.specs.Sizes.{longestName}
 use Rattle.rules.specs.Lists.{from}
 use Rattle.name_store.specs.NameStore.{nameBytes, decodeNames}
 use Rattle.pairing.specs.Loops.{dot}
-use Rattle.steps.specs.StepWords.{each}
+use Rattle.atom_lists.specs.ListWords.{each}
 
 -- a name at the front of the bytes, no longer than any
 pub record FileName (bs : List ℕ) : Type 0 where

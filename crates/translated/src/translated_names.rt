@@ -1,7 +1,7 @@
 // The name store of the translation.
 use output::bytes::emit;
-use steps::classes::count_minimised;
-use steps::classes::count_unfixed;
+use atom_lists::classes::count_minimised;
+use atom_lists::classes::count_unfixed;
 ghost use Prim.Native.Nat.{_+_, _-_, _≤_};
 ghost use Rattle.kinds.specs.declared.limits.Kind.the-variants.{Preference};
 ghost use Rattle.rules.specs.Lists.{from};
@@ -11,7 +11,7 @@ ghost use Rattle.output.specs.Emitted.{Emitted, InRange};
 ghost use Rattle.pairing.specs.Translated.{translatedNames};
 ghost use Rattle.translated.specs.NameBytes.{FileName, FileNames, dottedBytes, endBytes, generatedBytes};
 ghost use Rattle.translated.specs.PreferenceStore.{PreferenceStore};
-ghost use Rattle.steps.specs.StepWords.{each};
+ghost use Rattle.atom_lists.specs.ListWords.{each};
 
 // A letter and a dot before the name at the front of the bytes.
 fn dotted_name(letter: u8, bytes: &[u8], out: &mut [u8], at: usize) -> usize

@@ -1,5 +1,6 @@
 use Rattle.text.proofs.RuleLoop.{RulesLeft, rules-begin, rules-end, rule-stored, place-inside, rule-range, rules-again}
-use Rattle.steps.specs.StepWords.{each, words2}
+use Rattle.atom_lists.specs.ListWords.{each}
+use Rattle.steps.specs.StepWords.{words2}
 use Rattle.output.proofs.Emitting.{length-kept}
 use native.Mathlib.Omega.{arith}
 use Prim.Native.Nat.{_-_}

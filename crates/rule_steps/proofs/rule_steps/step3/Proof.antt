@@ -1,5 +1,6 @@
 use Rattle.text.proofs.RuleLoop.{RulesLeft, rules-begin, rules-end, rule-stored, place-inside, rule-range, rules-again}
-use Rattle.steps.specs.StepWords.{each, words3}
+use Rattle.atom_lists.specs.ListWords.{each}
+use Rattle.steps.specs.StepWords.{words3}
 use Rattle.output.proofs.Emitting.{length-kept}
 use native.Mathlib.Omega.{arith}
 use lib.ListN.{length}

@@ -1,5 +1,6 @@
-use Rattle.steps.proofs.StepLaws.{run-next, run-ends}
-use Rattle.steps.specs.StepWords.{each, words1}
+use Rattle.atom_lists.proofs.ListLaws.{run-next, run-ends}
+use Rattle.atom_lists.specs.ListWords.{each}
+use Rattle.steps.specs.StepWords.{words1}
 use Rattle.output.proofs.Emitting.{Emitting, start, turn, finish, range-here, length-kept}
 use Rattle.rules.specs.Lists.{from}
 use Prim.Native.Nat.{_-_}

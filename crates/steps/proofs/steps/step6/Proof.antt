@@ -1,5 +1,7 @@
-use Rattle.steps.proofs.StepLaws.{run-next, run-ends, own-low, own-small, own-words}
-use Rattle.steps.specs.StepWords.{each, words6}
+use Rattle.atom_lists.proofs.ListLaws.{run-next, run-ends}
+use Rattle.steps.proofs.StepLaws.{own-low, own-small, own-words}
+use Rattle.atom_lists.specs.ListWords.{each}
+use Rattle.steps.specs.StepWords.{words6}
 use Rattle.output.proofs.Emitting.{Emitting, start, turn, finish, range-here, length-kept, renamed, range-renamed}
 use Rattle.rules.specs.Lists.{from}
 use Prim.Native.Nat.{_-_}

@@ -1,5 +1,5 @@
 use Rattle.translated.proofs.NameLaws.{end-next, ends-end}
-use Rattle.steps.specs.StepWords.{each}
+use Rattle.atom_lists.specs.ListWords.{each}
 use Rattle.translated.specs.NameBytes.{endBytes}
 use Rattle.output.proofs.Emitting.{Emitting, start, turn, finish, range-here, length-kept}
 use Rattle.rules.specs.Lists.{from}

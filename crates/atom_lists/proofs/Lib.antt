@@ -1,0 +1,3 @@
+-- The laws of class words and of lists of atoms.
+pub mod Roles
+pub mod ListLaws

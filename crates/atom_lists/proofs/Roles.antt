@@ -1,0 +1,179 @@
+-- What the code learns of an atom from its class word.
+use Prim.Native.Nat.{ℕ, suc, _+_, _-_, _≤_, _<_}
+use native.Mathlib.Omega.{arith}
+use native.Mathlib.Numerals.{add-one}
+use mathlib.Core.Path.{_≡_, sym, ap, _∙_, subst}
+use mathlib.Core.Bool.{Bool, true, false, not}
+use mathlib.Core.List.{List}
+use lib.Dec.{leb, eqb}
+use lib.ListN.{length, getD, drop, drop-of-length-le}
+use lib.Seq.{drop-cons}
+use borrow.Author.Tests.{le-leb, lt-leb, eq-eqb, ne-eqb}
+use native.Mathlib.Decide.{decLe, ℕ-discrete}
+use Rattle.kinds.specs.Limits.{classLimit, varying, fixed}
+use Rattle.rules.specs.Lists.{keep, filter, from}
+use Rattle.stores.specs.Program.{roleOf}
+use Rattle.stores.specs.declared.roles.Role.{Role}
+use Rattle.stores.specs.declared.roles.Role.the-variants.{Minimised, Varying, Fixed, Unknown}
+use Rattle.stores.proofs.ClassWord.{minimised, varies, is-fixed, below, above}
+use Rattle.pairing.specs.Loops.{fixedWord?}
+use Rattle.text.specs.ClassRuns.{upTo}
+use Rattle.text.proofs.ClassWords.{up-to-more, up-to-stop}
+use Rattle.atom_lists.specs.Roles.{pickClass, classOf, Low, fixedAmong}
+
+-- the class word behind a role
+pub data Told (w : ℕ) : Role → Type 0 where
+  told-class : 1 ≤ w → w ≤ classLimit → Told w (Minimised w)
+  told-varying : w ≡ varying → Told w Varying
+  told-fixed : w ≡ fixed → Told w Fixed
+  told-low : w < 1 → Told w Unknown
+  told-high : fixed < w → Told w Unknown
+
+tell : (w : ℕ) → Told w (roleOf w)
+tell w = first (decLe 1 w) (decLe w classLimit)
+  where
+    first : Dec (1 ≤ w) → Dec (w ≤ classLimit) → Told w (roleOf w)
+    first (no l) u = subst (Told w) (below w (omega arith)) (told-low (omega arith))
+    first (yes l) (yes u) = subst (Told w) (minimised w l u) (told-class l u)
+    first (yes l) (no u) = last (ℕ-discrete w varying) (ℕ-discrete w fixed)
+      where
+        last : Dec (w ≡ varying) → Dec (w ≡ fixed) → Told w (roleOf w)
+        last (yes e) f = subst (Told w) (varies w e) (told-varying e)
+        last (no e) (yes f) = subst (Told w) (is-fixed w f) (told-fixed f)
+        last (no e) (no f) = subst (Told w) (above w (omega arith) e f) (told-high (omega arith))
+
+-- the class that each role stands for, and whether it is fixed
+abbrev pub classIn : Role → ℕ
+classIn (Minimised i) = i
+classIn Varying = 0
+classIn Fixed = 0
+classIn Unknown = 0
+
+abbrev pub fixedIn : Role → Bool
+fixedIn (Minimised i) = false
+fixedIn Varying = false
+fixedIn Fixed = true
+fixedIn Unknown = false
+
+class-told : {w : ℕ} {r : Role} → Told w r → classIn r ≡ pickClass (leb w classLimit) w
+class-told {w} (told-class l u) = rw (le-leb w classLimit u)
+class-told {w} (told-varying e) = let k : classLimit < w = omega arith in rw (lt-leb w classLimit k)
+class-told {w} (told-fixed e) = let k : classLimit < w = omega arith in rw (lt-leb w classLimit k)
+class-told {w} (told-low h) = let e : w ≡ 0 = omega arith in rw e
+class-told {w} (told-high h) = let k : classLimit < w = omega arith in rw (lt-leb w classLimit k)
+
+fixed-told : {w : ℕ} {r : Role} → Told w r → fixedIn r ≡ eqb w fixed
+fixed-told {w} (told-class l u) = sym (ne-eqb w fixed (λ e. omega arith))
+fixed-told {w} (told-varying e) = sym (ne-eqb w fixed (λ f. omega arith))
+fixed-told {w} (told-fixed e) = sym (eq-eqb w fixed e)
+fixed-told {w} (told-low h) = sym (ne-eqb w fixed (λ e. omega arith))
+fixed-told {w} (told-high h) = sym (ne-eqb w fixed (λ e. omega arith))
+
+module _ (ws : List ℕ) (a : ℕ) {role known : Role} (h : role ≡ roleOf (getD ws a 0)) (e : role ≡ known) where
+  pub class-is : classIn known ≡ classOf ws a
+  unfolding classOf
+  class-is = ap classIn (sym e ∙ h) ∙ class-told (tell (getD ws a 0))
+
+  pub fixed-is : fixedIn known ≡ fixedWord? ws a
+  fixed-is = ap fixedIn (sym e ∙ h) ∙ fixed-told (tell (getD ws a 0))
+
+class-small-in : {w : ℕ} {r : Role} → Told w r → classIn r ≤ classLimit
+class-small-in (told-class l u) = u
+class-small-in (told-varying e) = omega arith
+class-small-in (told-fixed e) = omega arith
+class-small-in (told-low h) = omega arith
+class-small-in (told-high h) = omega arith
+
+pub class-small : (w : ℕ) {i : ℕ} {role : Role} → role ≡ roleOf w → role ≡ Minimised i → i ≤ classLimit
+class-small w h e = subst (λ (r : Role). classIn r ≤ classLimit) (sym h ∙ e) (class-small-in (tell w))
+
+-- what the class says of the word, which is not 0
+
+pub minimised-class : (ws : List ℕ) (a : ℕ) → 1 ≤ getD ws a 0 → getD ws a 0 ≤ classLimit → classOf ws a ≡ getD ws a 0
+unfolding classOf
+minimised-class ws a l u = rw (le-leb (getD ws a 0) classLimit u)
+
+pub other-class : (ws : List ℕ) (a : ℕ) → classLimit < getD ws a 0 → classOf ws a ≡ 0
+unfolding classOf
+other-class ws a u = rw (lt-leb (getD ws a 0) classLimit u)
+
+module _ {ws : List ℕ} (low : Low ws) {a : ℕ} (l : a < length ws) {class : ℕ} (h : class ≡ classOf ws a) where
+  cases : {C : Type 0} → (getD ws a 0 ≤ classLimit → class ≡ getD ws a 0 → C) → (classLimit < getD ws a 0 → class ≡ 0 → C) → C
+  cases {C} f g = go (decLe (getD ws a 0) classLimit)
+    where
+      go : Dec (getD ws a 0 ≤ classLimit) → C
+      go (yes u) = f u (h ∙ minimised-class ws a (low .word a l) u)
+      go (no u) = g (omega arith) (h ∙ other-class ws a (omega arith))
+
+  pub some-class : 0 < class → leb (getD ws a 0) classLimit ≡ true
+  some-class k = cases (λ u e. le-leb (getD ws a 0) classLimit u) (λ u e. absurd (omega arith))
+
+  pub no-class : class ≤ 0 → leb (getD ws a 0) classLimit ≡ false
+  no-class k = let p = low .word a l in cases (λ u e. absurd (omega arith)) (λ u e. lt-leb (getD ws a 0) classLimit u)
+
+  module _ {limit : ℕ} (few : limit ≤ classLimit) (at : a ≤ upTo limit ws) where
+    pub ends-none : class ≡ 0 → a ≡ upTo limit ws
+    ends-none k = let p = low .word a l in cases (λ u e. absurd (omega arith)) (λ u e. up-to-stop limit ws a at l (omega arith))
+
+    pub ends-above : limit < class → a ≡ upTo limit ws
+    ends-above k = cases (λ u e. up-to-stop limit ws a at l (omega arith)) (λ u e. absurd (omega arith))
+
+    pub goes-on : (class ≡ 0 → ⊥) → class ≤ limit → a + 1 ≤ upTo limit ws
+    goes-on z k = cases (λ u e. up-to-more limit ws a at l (omega arith)) (λ u e. absurd (z e))
+
+-- counting
+
+pub record Counting (t : ℕ → Bool) (n i c : ℕ) : Type 0 where
+  pub passed : i ≤ n
+  pub most : c ≤ i
+  pub is : c + length (filter t (from i (n - i))) ≡ length (filter t (from 0 n))
+
+pub count-begins : (t : ℕ → Bool) (n : ℕ) → Counting t n 0 0
+count-begins t n = let e : n - 0 ≡ n = omega arith in record { passed = omega arith; most = omega arith; is = rw e (omega arith) }
+
+module _ {t : ℕ → Bool} {n i c : ℕ} (h : Counting t n i c) where
+  next : i < n → length (filter t (from i (n - i))) ≡ length (keep (t i) i (filter t (from (i + 1) (n - (i + 1)))))
+  next l = let e : n - i ≡ suc (n - (i + 1)) = omega arith in rw (e, add-one)
+
+  pub count-more : {d : ℕ} → i < n → t i ≡ true → d ≡ c + 1 → Counting t n (i + 1) d
+  count-more {d} l e f = record { passed = omega arith; most = omega (arith, h .most); is = omega (arith, h .is, next l ∙ ap (λ (b : Bool). length (keep b i (filter t (from (i + 1) (n - (i + 1)))))) e) }
+
+  pub count-same : {d : ℕ} → i < n → t i ≡ false → d ≡ c → Counting t n (i + 1) d
+  count-same {d} l e f = record { passed = omega arith; most = omega (arith, h .most); is = omega (arith, h .is, next l ∙ ap (λ (b : Bool). length (keep b i (filter t (from (i + 1) (n - (i + 1)))))) e) }
+
+  pub count-ends : n ≤ i → c ≡ length (filter t (from 0 n))
+  count-ends l = let e : n - i ≡ 0 = omega arith in omega (arith, h .is, ap (λ (k : ℕ). length (filter t (from i k))) e)
+
+abbrev pub minimised? : List ℕ → ℕ → Bool
+minimised? ws a = leb (getD ws a 0) classLimit
+
+abbrev pub unfixed? : List ℕ → ℕ → Bool
+unfixed? ws a = not (fixedWord? ws a)
+
+-- counting the fixed atoms of a list
+
+pub record CountingFixed (ws xs : List ℕ) (i c : ℕ) : Type 0 where
+  pub passed : i ≤ length xs
+  pub most : c ≤ i
+  pub is : c + fixedAmong ws (drop i xs) ≡ fixedAmong ws xs
+
+pub fixed-begins : (ws xs : List ℕ) → CountingFixed ws xs 0 0
+fixed-begins ws xs = record { passed = omega arith; most = omega arith; is = omega arith }
+
+module _ {ws xs : List ℕ} {i c : ℕ} (h : CountingFixed ws xs i c) where
+  next-fixed : i < length xs → fixedAmong ws (drop i xs) ≡ length (keep (fixedWord? ws (getD xs i 0)) (getD xs i 0) (filter (fixedWord? ws) (drop (i + 1) xs)))
+  unfolding fixedAmong
+  next-fixed l = rw (drop-cons xs i 0 l, add-one)
+
+  module _ {d : ℕ} (l : i < length xs) {b : Bool} (g : b ≡ fixedWord? ws (getD xs i 0)) where
+    pub fixed-more : b ≡ true → d ≡ c + 1 → CountingFixed ws xs (i + 1) d
+    unfolding fixedAmong
+    fixed-more e f = record { passed = omega arith; most = omega (arith, h .most); is = omega (arith, h .is, next-fixed l ∙ ap (λ (b : Bool). length (keep b (getD xs i 0) (filter (fixedWord? ws) (drop (i + 1) xs)))) (sym g ∙ e)) }
+
+    pub fixed-same : b ≡ false → d ≡ c → CountingFixed ws xs (i + 1) d
+    unfolding fixedAmong
+    fixed-same e f = record { passed = omega arith; most = omega (arith, h .most); is = omega (arith, h .is, next-fixed l ∙ ap (λ (b : Bool). length (keep b (getD xs i 0) (filter (fixedWord? ws) (drop (i + 1) xs)))) (sym g ∙ e)) }
+
+  pub fixed-ends : length xs ≤ i → c ≡ fixedAmong ws xs
+  unfolding fixedAmong
+  fixed-ends l = omega (arith, h .is, ap (fixedAmong ws) (drop-of-length-le xs l))

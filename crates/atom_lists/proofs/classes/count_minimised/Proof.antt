@@ -1,0 +1,55 @@
+use Rattle.atom_lists.proofs.Roles.{Counting, count-begins, count-more, count-same, count-ends, minimised?, some-class, no-class}
+use Rattle.atom_lists.specs.Roles.{minimisedCount}
+use mathlib.Core.Logic.{⊎-elim}
+use native.Mathlib.Omega.{arith}
+use lib.ListN.{length}
+use Prim.Native.Nat.{_-_}
+use borrow.Author.Needs.{needs}
+use Rattle.atom_lists.proofs.classes.count_minimised.Statement.{statement}
+use Rattle.atom_lists.proofs.classes.count_minimised.Tie as tie
+
+abbrev Inv-loop : tie.InvT-loop
+Inv-loop classes count₀ i₀ count i = Counting (minimised? classes) (length classes) i count
+
+abbrev μ-loop : tie.MeasureT-loop
+μ-loop classes count₀ i₀ count i = length classes - i
+
+loop-holds : tie.Need-loop-holds Inv-loop μ-loop
+loop-holds c = count-begins _ _
+
+cast-loop : tie.Need-cast-loop Inv-loop μ-loop
+cast-loop c = search needs
+
+class-of-requires : tie.Need-class-of-requires Inv-loop μ-loop
+class-of-requires c κs = search needs
+
+add-count : tie.Need-add-count Inv-loop μ-loop
+add-count c = search needs
+
+add-i : tie.Need-add-i Inv-loop μ-loop
+add-i c = search needs
+
+loop-less : tie.Need-loop-less Inv-loop μ-loop
+loop-less c = search needs
+
+loop-again : tie.Need-loop-again Inv-loop μ-loop
+loop-again c = ⊎-elim (λ w. count-more (c .before .before .before .loop .inv) (c .before .before .loop-test .taken) (some-class (c .before .before .before .before .before .pre .1) (c .before .before .loop-test .taken) (c .before .class-of .ensures) (w .0 .taken)) (omega arith)) (λ w. count-same (c .before .before .before .loop .inv) (c .before .before .loop-test .taken) (no-class (c .before .before .before .before .before .pre .1) (c .before .before .loop-test .taken) (c .before .class-of .ensures) (w .0 .left)) (omega arith)) (c .if1 .came)
+
+returns : tie.Need-returns Inv-loop μ-loop
+unfolding minimisedCount
+returns c = count-ends (c .before .loop .inv) (c .loop-test .left)
+
+pub count-minimised-spec : {M : Type 1} → statement M
+count-minimised-spec =
+    tie.close
+    (tie.spec
+    Inv-loop
+    μ-loop
+    loop-holds
+    cast-loop
+    class-of-requires
+    add-count
+    add-i
+    loop-less
+    loop-again
+    returns)
