@@ -1,10 +1,10 @@
 // Steps 2 and 3, which go by rules.
-use output::words::emit;
-use output::words::push;
 use atom_lists::classes::count_fixed;
 use atom_lists::classes::emit_copies;
 use atom_lists::classes::emit_fixed;
 use atom_lists::words::emit_raised;
+use output::words::emit;
+use output::words::push;
 use stores::rule_words::rule_size;
 ghost use Prim.Native.Nat.{_≤_};
 ghost use lib.ListN.{length};

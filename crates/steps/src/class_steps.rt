@@ -1,6 +1,6 @@
 // Step 5, which goes by classes.
-use atom_lists::classes::class_end;
 use crate::offsets::Offsets;
+use atom_lists::classes::class_end;
 use atom_lists::words::emit_run;
 use output::words::emit;
 ghost use Prim.Native.Nat.{_+_, _-_, _≤_};

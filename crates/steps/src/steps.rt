@@ -1,6 +1,6 @@
 // The steps that go by atoms, and those of one or two rules: 1, 4 and 6 to 10.
-use atom_lists::classes::class_of;
 use crate::offsets::Offsets;
+use atom_lists::classes::class_of;
 use output::words::emit;
 ghost use Prim.Native.Nat.{_-_, _≤_};
 ghost use lib.ListN.{length};

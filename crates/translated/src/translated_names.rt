@@ -1,7 +1,7 @@
 // The name store of the translation.
-use output::bytes::emit;
 use atom_lists::classes::count_minimised;
 use atom_lists::classes::count_unfixed;
+use output::bytes::emit;
 ghost use Prim.Native.Nat.{_+_, _-_, _≤_};
 ghost use Rattle.kinds.specs.declared.limits.Kind.the-variants.{Preference};
 ghost use Rattle.rules.specs.Lists.{from};

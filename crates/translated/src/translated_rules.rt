@@ -1,10 +1,10 @@
 // The rule store of the translation.
+use atom_lists::classes::count_minimised;
+use atom_lists::classes::count_unfixed;
 use output::words::emit;
 use rule_steps::rule_steps::step2;
 use rule_steps::rule_steps::step3;
 use steps::class_steps::step5;
-use atom_lists::classes::count_minimised;
-use atom_lists::classes::count_unfixed;
 use steps::offsets::Offsets;
 use steps::offsets::numbered;
 use steps::steps::step1;
