@@ -1,8 +1,8 @@
 // The check of a name store (document 01, refusal 14).
-use crate::index;
-use crate::index::Found;
 use kinds::limits::Kind;
 use kinds::limits::Plain;
+use name_store::index;
+use name_store::index::Found;
 use names::forms;
 ghost use mathlib.Core.Path.{_≡_};
 ghost use mathlib.Core.Bool.{true};

@@ -4,5 +4,4 @@ pub mod ByteLoops
 pub mod NamePlaces
 pub mod NameChains
 pub mod NameEntries
-pub mod NameChecks
 pub mod NameClauses

@@ -1,3 +1,2 @@
-// The name store of a program, and its index by hash (document 01, "The two kinds of file").
+// The name store of a program: its index by hash (document 01, "The two kinds of file").
 pub mod index;
-pub mod store;

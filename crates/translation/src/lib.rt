@@ -3,7 +3,7 @@ use answers::Written;
 use kinds::limits::Kind;
 use kinds::limits::Plain;
 use kinds::refusals::Refusal;
-use name_store::store::check_names;
+use name_check::check_names;
 use store_check::store_forms::check_rules;
 use stores::rule_store::RuleStore;
 use translated::translated_names::translate_names;

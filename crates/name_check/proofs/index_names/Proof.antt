@@ -3,9 +3,9 @@ use borrow.Author.Needs.{needs}
 use borrow.Author.Tests.{not-true, not-false}
 use native.Mathlib.Omega.{arith}
 use Prim.Native.Nat.{_-_}
-use Rattle.name_store.proofs.NameChecks.{Checking, check-begins, check-passed, check-short, check-room, check-part, check-wrong, check-twice, check-again, never}
-use Rattle.name_store.proofs.store.index_names.Statement.{statement}
-use Rattle.name_store.proofs.store.index_names.Tie as tie
+use Rattle.name_check.proofs.NameChecks.{Checking, check-begins, check-passed, check-short, check-room, check-part, check-wrong, check-twice, check-again, never}
+use Rattle.name_check.proofs.index_names.Statement.{statement}
+use Rattle.name_check.proofs.index_names.Tie as tie
 
 abbrev Inv-loop : tie.InvT-loop
 Inv-loop bytes kind atoms starts₀ firsts₀ links₀ at₀ atom₀ starts firsts links at atom = Checking kind bytes atoms starts₀ firsts₀ links₀ starts firsts links at atom

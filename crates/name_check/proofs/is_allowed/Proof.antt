@@ -1,8 +1,8 @@
 use mathlib.Core.Path.{ap, _∙_}
 use Rattle.names.specs.Names.{allowed, takes}
 use borrow.Author.Needs.{needs}
-use Rattle.name_store.proofs.store.is_allowed.Statement.{statement}
-use Rattle.name_store.proofs.store.is_allowed.Tie as tie
+use Rattle.name_check.proofs.is_allowed.Statement.{statement}
+use Rattle.name_check.proofs.is_allowed.Tie as tie
 
 name-class-requires : tie.Need-name-class-requires
 name-class-requires c κs = search needs

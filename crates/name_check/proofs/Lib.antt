@@ -1,0 +1,2 @@
+-- The laws of the check of a name store.
+pub mod NameChecks
