@@ -65,11 +65,11 @@ extern "C" {
 /* ---- Sizes ---- */
 
 /* The most bytes of a text; what the writer and the translator give is never longer. */
-#define RIGTOMATO_TEXT_LIMIT 655360
+#define RIGTOMATO_TEXT_LIMIT 917504
 /* The most words of a rule store: 4, and three lengths for each of 4,200 rules, and 24,000 atoms. */
 #define RIGTOMATO_RULES_LIMIT 36604
-/* The most bytes of a name store: 1,100 names of 18 bytes, each with its length. */
-#define RIGTOMATO_NAMES_LIMIT 20900
+/* The most bytes of a name store: 1,100 names of 26 bytes, each with its length. */
+#define RIGTOMATO_NAMES_LIMIT 29700
 /* The largest budget, 2^40. */
 #define RIGTOMATO_BUDGET_LIMIT (UINT64_C(1) << 40)
 

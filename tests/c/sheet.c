@@ -197,6 +197,42 @@ static void refusals(void)
     CHECK(is(preferred(0, 0), RIGTOMATO_REFUSED, RIGTOMATO_RULE_STORE, 0));
 }
 
+static int read_gives(const char *text, uint64_t refusal, uint64_t line)
+{
+    struct rigtomato_read_answer answer = read_text(text, strlen(text));
+    return answer.refusal == refusal && answer.line == line;
+}
+
+/* Document 02, W-201: names of 24 and 25 bytes, and numbers as names. */
+static void names(void)
+{
+    CHECK(read_gives("(vary 7 1999_12)\n(fix 1999_12_31_lender_000417)\n", 0, 0));
+    CHECK(read_gives("(vary)\n(fix 1999_12_31_lender_0004175)\n", RIGTOMATO_NAME, 2));
+    CHECK(read_gives("(vary _a)\n(fix)\n", RIGTOMATO_FORM, 1));
+    CHECK(read_gives("(atoms abcdefghijklmnopqrstuvwx N.abcdefghijklmnopqrstuvwx "
+                     "S.7bcdefghijklmnopqrstuvwx D.abcdefghijklmnopqrstuvwx)\n", 0, 0));
+    CHECK(file.names_len == 4 + 24 + 3 * 26);
+    CHECK(read_gives("(atoms abcdefghijklmnopqrstuvwxy)\n", RIGTOMATO_NAME, 1));
+    CHECK(read_gives("(atoms N.abcdefghijklmnopqrstuvwxy)\n", RIGTOMATO_NAME, 1));
+    CHECK(read_gives("(atoms S.abcdefghijklmnopqrstuvwxy)\n", RIGTOMATO_NAME, 1));
+    CHECK(read_gives("(atoms D.7bcdefghijklmnopqrstuvwxy)\n", RIGTOMATO_NAME, 1));
+}
+
+/* The sizes that the header names, met and passed by one. */
+static void sizes(void)
+{
+    static char text[RIGTOMATO_TEXT_LIMIT + 1];
+    memset(text, 'a', sizeof text);
+    CHECK(read_text(text, sizeof text - 1).refusal == RIGTOMATO_FORM);
+    CHECK(read_text(text, sizeof text).refusal == RIGTOMATO_TEXT_TOO_LONG);
+    size_t length = (size_t)sprintf(text, "(atoms");
+    for (int i = 0; i < 1100; i++)
+        length += (size_t)sprintf(text + length, " N.%024d", i);
+    length += (size_t)sprintf(text + length, ")\n");
+    CHECK(read_text(text, length).refusal == 0);
+    CHECK(file.names_len == RIGTOMATO_NAMES_LIMIT);
+}
+
 int main(void)
 {
     file_a();
@@ -205,6 +241,8 @@ int main(void)
             "(rule (head sensor lamp) (body) (not))\n(rule (head dark) (body lamp) (not))\n");
     small_files();
     refusals();
+    names();
+    sizes();
     printf("tests/c/sheet.c: %d checks, %d failed\n", checks, failures);
     return failures != 0;
 }

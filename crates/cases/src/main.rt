@@ -48,11 +48,13 @@ fn translation(path: &[u8]) {
 
 fn first_states() {
     states(b"inverters.pref");
+    states(b"catalogue.pref");
     states(b"no_state.pref");
     states(b"too_long.pref");
     states(b"spacing.pref");
     states(b"missing_line.pref");
     states(b"generated_name.pref");
+    states(b"long_name.pref");
     states(b"declared_twice.pref");
 }
 

@@ -19,7 +19,7 @@ use Rattle.name_store.specs.NameStore.{sameBytes}
 use Rattle.name_store.proofs.NameStores.{same-equal, same-self}
 use Rattle.lines.specs.Items.{delimiter?, run, itemsFrom, items, span}
 use Rattle.lines.specs.Forms.{Word, atoms, min, vary, fix, LineForm, declares, rules, broken, isName, begins, Split, split, none, splitNames, splitList, onSplit, tagOf, headTag, bodyTag, notTag, listEnd, ruleEnd, closed, declaredForm, ruleForm, formOf}
-use Rattle.faults.specs.NameForms.{NameByte, HouseBytes, Marked, ClassNumber}
+use Rattle.faults.specs.NameForms.{Letter, Digit, NameByte, HouseBytes, Marked, ClassNumber}
 use Rattle.faults.specs.LineForms.{IsName, spaced, DeclaringLine, RuleLine, HasForm}
 use Rattle.faults.specs.Sentences.{namesOf}
 use Rattle.faults.proofs.Connectives.{or-law, on-cond}
@@ -35,9 +35,13 @@ byte-high b (inl h) = let l = h .0 in omega arith
 byte-high b (inr (inl h)) = let l = h .0 in omega arith
 byte-high b (inr (inr e)) = omega arith
 
+first-high : (b : ℕ) → Letter b ⊎ Digit b → 46 ≤ b
+first-high b (inl h) = byte-high b (inl h)
+first-high b (inr h) = byte-high b (inr (inl h))
+
 house-high : (x : List ℕ) → HouseBytes x → High x
 house-high [] h = absurd h
-house-high (b ∷ x) h = (byte-high b (inl (h .0)), all-imp NameByte (λ c. 46 ≤ c) byte-high x (h .1))
+house-high (b ∷ x) h = (first-high b (h .0), all-imp NameByte (λ c. 46 ≤ c) byte-high x (h .1))
 
 marked-high : (x y : List ℕ) → Marked x y → HouseBytes y → High x
 marked-high x y m h = go m

@@ -15,7 +15,7 @@ use Rattle.rules.proofs.Booleans.{eq→eqb, is-true, is-false}
 use Rattle.rules.proofs.Lists.{every-all}
 use Rattle.names.specs.declared.forms.NameClass.{NameClass}
 use Rattle.names.specs.declared.forms.NameClass.the-variants.{House, Generated, TooLong, Wrong}
-use Rattle.names.specs.Names.{letter?, digit?, nameByte?, house?, classNumber?, byLength, dotted, generated, nameClass}
+use Rattle.names.specs.Names.{letter?, digit?, firstByte?, nameByte?, house?, classNumber?, byLength, dotted, generated, nameClass}
 use Rattle.faults.specs.NameForms.{NameByte, HouseBytes, HouseName, Marked, ClassNumber, GeneratedName, TooLongName}
 use Rattle.faults.proofs.Connectives.{or-law, and-law, on-cond}
 
@@ -34,7 +34,7 @@ byte-law b = or-law (letter? b) (digit? b || eqb b 95) (between 97 b 122) (or-la
 house-law : (x : List ℕ) → T (house? x) ↔ HouseBytes x
 unfolding house?
 house-law [] = (λ t. t, λ h. h)
-house-law (b ∷ x) = and-law (letter? b) (every nameByte? x) (between 97 b 122) (every-all nameByte? NameByte byte-law x)
+house-law (b ∷ x) = and-law (firstByte? b) (every nameByte? x) (or-law (letter? b) (digit? b) (between 97 b 122) (between 48 b 57)) (every-all nameByte? NameByte byte-law x)
 
 -- a name of one or two bytes
 
@@ -158,7 +158,7 @@ house-class : (x : List ℕ) → HouseBytes x → nameClass x ≡ byLength x Hou
 unfolding nameClass
 house-class x h = ap (λ b. cond b (byLength x House) (generated x)) (is-true (house? x) (house-law x .1 h))
 
-dotted-class : (c : ℕ) (y : List ℕ) → letter? c ≡ false → nameClass (c ∷ 46 ∷ y) ≡ dotted c y
+dotted-class : (c : ℕ) (y : List ℕ) → firstByte? c ≡ false → nameClass (c ∷ 46 ∷ y) ≡ dotted c y
 unfolding nameClass house?
 dotted-class c y n =
     ap (λ b. cond (b && every nameByte? (46 ∷ y)) (byLength (c ∷ 46 ∷ y) House) (generated (c ∷ 46 ∷ y))) n

@@ -1,4 +1,4 @@
--- The names in document 01's words ("The two kinds of file").
+-- The names in document 01's words ("The two kinds of file"), house names in those of document 02, W-201.
 use Prim.Native.Nat.{ℕ, _+_, _≤_, _<_}
 use mathlib.Core.Path.{_≡_}
 use mathlib.Core.Logic.{_⊎_}
@@ -19,12 +19,12 @@ Digit b = (byte "0" ≤ b) × (b ≤ byte "9")
 abbrev pub NameByte : ℕ → Type 0
 NameByte b = Letter b ⊎ (Digit b ⊎ (b ≡ byte "_"))
 
--- "a letter a to z, then letters a to z, digits or `_`", of any length
+-- "may start with a digit" or a letter, "then letters a to z, digits or `_`", of any length
 abbrev pub HouseBytes : List ℕ → Type 0
 HouseBytes [] = ⊥
-HouseBytes (b ∷ bs) = Letter b × All NameByte bs
+HouseBytes (b ∷ bs) = (Letter b ⊎ Digit b) × All NameByte bs
 
--- "A house name is 1 to 16 bytes"
+-- "A house name may be up to 24 bytes"
 abbrev pub HouseName : List ℕ → Type 0
 HouseName x = HouseBytes x × (length x ≤ nameLimit)
 

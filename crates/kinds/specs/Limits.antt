@@ -1,4 +1,4 @@
--- The limits of the two kinds of file (document 01, the table of "The two kinds of file").
+-- The limits of the two kinds of file (document 01, the table of "The two kinds of file"; document 02, W-201).
 use mathlib.Core.Bool.{Bool, _&&_}
 use Prim.Native.Nat.{ℕ, _^_}
 use lib.Dec.{leb}
@@ -31,7 +31,7 @@ fixed = 18
 
 -- bytes of a text
 abbrev pub textLimit : ℕ
-textLimit = 655360
+textLimit = 917504
 
 -- bytes that the two programs read and write
 abbrev pub streamLimit : ℕ
@@ -39,7 +39,7 @@ streamLimit = 65536
 
 -- bytes of a house name
 abbrev pub nameLimit : ℕ
-nameLimit = 16
+nameLimit = 24
 
 -- atoms for a verdict or the lister, and the largest budget
 abbrev pub walkAtoms : ℕ

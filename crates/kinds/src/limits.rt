@@ -54,9 +54,9 @@ impl ClassWord {
 
 impl Kind {
     // Bytes of a text, of a house name, and of what the two programs read and write.
-    pub const TEXT: usize = 655360;
+    pub const TEXT: usize = 917504;
 
-    pub const NAME: usize = 16;
+    pub const NAME: usize = 24;
 
     // A generated name has two bytes more than the house name in it.
     pub const LONGEST_NAME: usize = Kind::NAME + 2;

@@ -63,7 +63,7 @@ module _ (names : List (List ℕ)) (short : All (λ x. length x ≤ longestName)
         members-short c (i + 1) n (omega arith),
       )
 
-  state-short : length names ≤ walkAtoms → length (stateLine names s) ≤ 1148
+  state-short : length names ≤ walkAtoms → length (stateLine names s) ≤ 8 + longestEntry * walkAtoms
   state-short few =
       omega (
         arith,

@@ -1,6 +1,6 @@
 -- Names and name stores at the edges of what document 01 takes.
 use mathlib.Core.Path.{_≡_, refl}
-use mathlib.Core.List.{List, [], _∷_}
+use mathlib.Core.List.{List, [], _∷_, _++_}
 use mathlib.Core.Bool.{true, false}
 use Prim.Native.Nat.{ℕ}
 use lib.ListN.{replicate}
@@ -16,13 +16,26 @@ use Rattle.name_store.specs.NameIndex.{foundFrom, found}
 abbrev as-of : ℕ → List ℕ
 as-of n = replicate n 97
 
--- names of 16 and of 17 bytes, alone and after `N.`
-pub lengths : (nameClass (as-of 16) ≡ House)
-    × (nameClass (as-of 17) ≡ TooLong)
-    × (nameClass (78 ∷ 46 ∷ as-of 16) ≡ Generated)
-    × (nameClass (78 ∷ 46 ∷ as-of 17) ≡ TooLong)
+-- names of 24 and of 25 bytes, alone and after `N.`, `S.` and `D.`
+pub lengths : (nameClass (as-of 24) ≡ House)
+    × (nameClass (as-of 25) ≡ TooLong)
+    × (nameClass (bytes "N." ++ as-of 24) ≡ Generated)
+    × (nameClass (bytes "N." ++ as-of 25) ≡ TooLong)
+    × (nameClass (bytes "S." ++ as-of 24) ≡ Generated)
+    × (nameClass (bytes "S." ++ as-of 25) ≡ TooLong)
+    × (nameClass (bytes "D." ++ as-of 24) ≡ Generated)
+    × (nameClass (bytes "D." ++ as-of 25) ≡ TooLong)
 unfolding nameClass house?
-lengths = (refl, refl, refl, refl)
+lengths = (refl, refl, refl, refl, refl, refl, refl, refl)
+
+-- catalogue numbers: 7, 1999_12, alone and after `N.`; _a, N._7
+pub numbers-as-names : (nameClass (bytes "7") ≡ House)
+    × (nameClass (bytes "1999_12") ≡ House)
+    × (nameClass (bytes "N.1999_12") ≡ Generated)
+    × (nameClass (bytes "_a") ≡ Wrong)
+    × (nameClass (bytes "N._7") ≡ Wrong)
+unfolding nameClass house? classNumber?
+numbers-as-names = (refl, refl, refl, refl, refl)
 
 -- E.0, E.16, E.17, E.01
 pub class-numbers : (nameClass (bytes "E.0") ≡ Generated)
@@ -32,14 +45,13 @@ pub class-numbers : (nameClass (bytes "E.0") ≡ Generated)
 unfolding nameClass house? classNumber?
 class-numbers = (refl, refl, refl, refl)
 
--- U, U.a, 1a, the empty name, aB
+-- U, U.a, the empty name, aB
 pub forms : (nameClass (bytes "U") ≡ Generated)
     × (nameClass (bytes "U.a") ≡ Wrong)
-    × (nameClass (bytes "1a") ≡ Wrong)
     × (nameClass [] ≡ Wrong)
     × (nameClass (bytes "aB") ≡ Wrong)
 unfolding nameClass house? classNumber?
-forms = (refl, refl, refl, refl, refl)
+forms = (refl, refl, refl, refl)
 
 -- a generated name, and `a`, in either kind
 pub kinds : (allowed Plain (bytes "U") ≡ true)

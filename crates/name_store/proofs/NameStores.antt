@@ -9,6 +9,7 @@ use mathlib.Core.Bool.{Bool, true, false, not, _&&_, _||_, cond}
 use lib.Dec.{T, leb, eqb, leb→le, le→leb, eqb→eq, eqb-refl}
 use lib.ListN.{length, getD, take, drop, length-append, length-drop, take-append-drop}
 use lib.Seq.{length-take-le, take-append-seam, drop-append-seam}
+use Rattle.kinds.specs.Limits.{nameLimit}
 use Rattle.kinds.specs.Sizes.{longestName, longestEntry}
 use Rattle.kinds.specs.declared.limits.Kind.{Kind}
 use Rattle.kinds.specs.declared.limits.Kind.the-variants.{Plain, Preference}
@@ -38,7 +39,7 @@ same-self (a ∷ x) = T-and (eqb a a) (sameBytes x x) (eqb-refl a) (same-self x)
 pub same-law : (x y : List ℕ) → T (sameBytes x y) ↔ (x ≡ y)
 same-law x y = (same-equal x y, λ e. subst (λ z. T (sameBytes x z)) e (same-self x))
 
--- no allowed name is longer than 18 bytes
+-- no allowed name is longer than the longest
 
 module _ (kind : Kind) where
   picked : {P : Type 0} (b : Bool) (c d : NameClass) → (T b → T (takes kind c) → P) → (T (takes kind d) → P) → T (takes kind (cond b c d)) → P
@@ -59,8 +60,8 @@ module _ (kind : Kind) where
       go Plain h = h
       go Preference h = h
 
-  sized-short : (bs : List ℕ) (c : NameClass) → T (takes kind (byLength bs c)) → length bs ≤ 16
-  sized-short bs c h = picked (leb (length bs) 16) c TooLong (λ t k. leb→le (length bs) 16 t) (λ k. absurd (no-long k)) h
+  sized-short : (bs : List ℕ) (c : NameClass) → T (takes kind (byLength bs c)) → length bs ≤ nameLimit
+  sized-short bs c h = picked (leb (length bs) nameLimit) c TooLong (λ t k. leb→le (length bs) nameLimit t) (λ k. absurd (no-long k)) h
 
   number-short : (bs : List ℕ) → T (classNumber? bs) → length bs ≤ 2
   unfolding classNumber?
@@ -73,7 +74,7 @@ module _ (kind : Kind) where
       go (inl t) = omega (arith, eqb→eq (length bs) 1 (T-and-l (eqb (length bs) 1) (digit? (getD bs 0 0)) t))
       go (inr t) = omega (arith, eqb→eq (length bs) 2 (T-and-l (eqb (length bs) 2) high t))
 
-  dotted-short : (c : ℕ) (bs : List ℕ) → T (takes kind (dotted c bs)) → length bs ≤ 16
+  dotted-short : (c : ℕ) (bs : List ℕ) → T (takes kind (dotted c bs)) → length bs ≤ nameLimit
   dotted-short c bs h =
       picked ((eqb c 78 || (eqb c 83 || eqb c 68)) && house? bs) (byLength bs Generated) (cond (eqb c 69 && classNumber? bs) Generated Wrong)
       (λ t k. sized-short bs Generated k)

@@ -13,7 +13,7 @@ use borrow.Author.Tests.{le-leb, lt-leb, ne-eqb}
 use Rattle.kinds.specs.declared.limits.Kind.{Kind}
 use Rattle.kinds.specs.declared.limits.Kind.the-variants.{Plain, Preference}
 use Rattle.rules.specs.Lists.{every}
-use Rattle.names.specs.Names.{letter?, digit?, nameByte?, house?, classNumber?, byLength, dotted, generated, nameClass, takes}
+use Rattle.names.specs.Names.{firstByte?, digit?, nameByte?, house?, classNumber?, byLength, dotted, generated, nameClass, takes}
 use Rattle.names.specs.declared.forms.NameClass.{NameClass}
 use Rattle.names.specs.declared.forms.NameClass.the-variants.{House, Generated, TooLong, Wrong}
 
@@ -48,17 +48,19 @@ unfolding house?
 house-empty [] e = refl
 house-empty (b ∷ bs) e = absurd (omega arith)
 
-house-is : (bs : List ℕ) → (length bs ≡ 0 → ⊥) → house? bs ≡ letter? (getD bs 0 0) && every nameByte? (drop 1 bs)
+pub house-underscore : (bs : List ℕ) → (length bs ≡ 0 → ⊥) → getD bs 0 0 ≡ 95 → false ≡ house? bs
 unfolding house?
-house-is [] e = absurd (e refl)
-house-is (b ∷ bs) e = refl
+house-underscore [] some e = absurd (some refl)
+house-underscore (b ∷ bs) some e = sym (ap (λ c. firstByte? c && every nameByte? bs) e)
 
-module _ (bs : List ℕ) (some : length bs ≡ 0 → ⊥) {r : Bool} (is : r ≡ letter? (getD bs 0 0)) where
-  pub house-letter : r ≡ true → every nameByte? (take (length bs - 1) (drop 1 bs)) ≡ house? bs
-  house-letter e = ap (every nameByte?) (rest-is bs 1) ∙ sym (rw (sym is ∙ e) at (house-is bs some))
+-- of a name's bytes only `_` cannot be the first
+first-byte : (b : ℕ) → (b ≡ 95 → ⊥) → nameByte? b ≡ firstByte? b
+first-byte b n = simp (ne-eqb b 95 n, or-false)
 
-  pub house-other : r ≡ false → false ≡ house? bs
-  house-other e = sym (rw (sym is ∙ e) at (house-is bs some))
+pub house-bytes : (bs : List ℕ) → (length bs ≡ 0 → ⊥) → (getD bs 0 0 ≡ 95 → ⊥) → every nameByte? bs ≡ house? bs
+unfolding house?
+house-bytes [] some n = absurd (some refl)
+house-bytes (b ∷ bs) some n = ap (λ t. t && every nameByte? bs) (first-byte b n)
 
 pub number-one : (bs : List ℕ) {r : Bool} → length bs ≡ 1 → r ≡ digit? (getD bs 0 0) → r ≡ classNumber? bs
 unfolding classNumber?

@@ -1,4 +1,4 @@
--- Names: which bytes each kind of program takes (document 01, "The two kinds of file").
+-- Names: which bytes each kind of program takes (document 01, "The two kinds of file"; document 02, W-201).
 use Prim.Native.Nat.{ℕ}
 use mathlib.Core.Bool.{Bool, true, false, _&&_, _||_, cond}
 use mathlib.Core.List.{List, [], _∷_}
@@ -19,14 +19,18 @@ letter? b = leb (byte "a") b && leb b (byte "z")
 abbrev pub digit? : ℕ → Bool
 digit? b = leb (byte "0") b && leb b (byte "9")
 
+-- a letter or a digit
+abbrev pub firstByte? : ℕ → Bool
+firstByte? b = letter? b || digit? b
+
 -- a letter, a digit or `_`
 abbrev pub nameByte? : ℕ → Bool
 nameByte? b = letter? b || (digit? b || eqb b (byte "_"))
 
--- a letter, then letters, digits or `_`: a house name but for its length
+-- a letter or a digit, then letters, digits or `_`: a house name but for its length
 unfoldable pub house? : List ℕ → Bool
 house? [] = false
-house? (b ∷ bs) = letter? b && every nameByte? bs
+house? (b ∷ bs) = firstByte? b && every nameByte? bs
 
 -- 0 to 16 without leading zero
 unfoldable pub classNumber? : List ℕ → Bool

@@ -2,7 +2,7 @@
 use kinds::limits::Kind;
 ghost use mathlib.Core.Path.{_≡_};
 ghost use Rattle.rules.specs.Lists.{every};
-ghost use Rattle.names.specs.Names.{letter?, digit?, nameByte?, house?, classNumber?, byLength, dotted, generated, nameClass, takes};
+ghost use Rattle.names.specs.Names.{digit?, nameByte?, house?, classNumber?, byLength, dotted, generated, nameClass, takes};
 
 pub enum NameClass {
     // A house name.
@@ -13,12 +13,6 @@ pub enum NameClass {
     TooLong,
     // Any other bytes.
     Wrong,
-}
-
-pub fn is_letter(b: u8) -> bool
-    ensures { λ r. ⌜ r ≡ letter? b ⌝ }
-{
-    b'a' <= b && b <= b'z'
 }
 
 pub fn is_digit(b: u8) -> bool
@@ -55,14 +49,17 @@ pub fn all_name_bytes(bytes: &[u8]) -> bool
     true
 }
 
-// A house name but for its length.
+// A house name but for its length: of a name's bytes only `_` cannot be the first.
 pub fn house_form(bytes: &[u8]) -> bool
     ensures { λ r. ⌜ r ≡ house? (now (bytes .entry)) ⌝ }
 {
     if bytes.len() == 0 {
         return false;
     }
-    is_letter(bytes[0]) && all_name_bytes(&bytes[1..])
+    if bytes[0] == b'_' {
+        return false;
+    }
+    all_name_bytes(bytes)
 }
 
 // 0 to 16 without leading zero.

@@ -16,7 +16,7 @@ use Rattle.rules.specs.Lists.{All, Distinct, from}
 use Rattle.rules.proofs.Booleans.{T-not-out, eq→eqb}
 use Rattle.rules.proofs.Lists.{all-imp, all-app, all-map, all-from, app-iff, every-from}
 use Rattle.stores.specs.Program.{Program, ProgramForm}
-use Rattle.names.specs.Names.{letter?, house?, classNumber?, nameClass, byLength, dotted, generated, takes, allowed}
+use Rattle.names.specs.Names.{firstByte?, house?, classNumber?, nameClass, byLength, dotted, generated, takes, allowed}
 use Rattle.name_store.specs.NameStore.{NamesForm}
 use Rattle.names.specs.declared.forms.NameClass.{NameClass}
 use Rattle.names.specs.declared.forms.NameClass.the-variants.{House, Generated, TooLong, Wrong}
@@ -60,7 +60,7 @@ house-allowed : (x : List ℕ) → HouseName x → T (allowed Plain x)
 unfolding allowed nameClass
 house-allowed x h = simp (h .form, h .short) tt
 
-dot-allowed : (c : ℕ) (x : List ℕ) → letter? c ≡ false → (eqb c 78 || (eqb c 83 || eqb c 68)) ≡ true → HouseName x → T (allowed Plain (dot c x))
+dot-allowed : (c : ℕ) (x : List ℕ) → firstByte? c ≡ false → (eqb c 78 || (eqb c 83 || eqb c 68)) ≡ true → HouseName x → T (allowed Plain (dot c x))
 unfolding allowed nameClass house?
 dot-allowed c x l d h =
     let long : eqb (suc (suc (length x))) 1 ≡ false = ne-eqb (suc (suc (length x))) 1 (λ e. omega arith) in
@@ -107,7 +107,7 @@ module _ (p : Program) (kind : p .kind ≡ Preference) (form : ProgramForm p) (n
   house : All HouseName names
   house = all-imp (λ x. T (allowed Preference x)) HouseName house-name names (names-form .all-allowed)
 
-  dots-allowed : (c : ℕ) (l : List (List ℕ)) → letter? c ≡ false → (eqb c 78 || (eqb c 83 || eqb c 68)) ≡ true → All HouseName l → All (λ x. T (allowed Plain x)) (map (dot c) l)
+  dots-allowed : (c : ℕ) (l : List (List ℕ)) → firstByte? c ≡ false → (eqb c 78 || (eqb c 83 || eqb c 68)) ≡ true → All HouseName l → All (λ x. T (allowed Plain x)) (map (dot c) l)
   dots-allowed c l f d h = all-map (λ x. T (allowed Plain x)) (dot c) l (all-imp HouseName (λ x. T (allowed Plain (dot c x))) (λ x. dot-allowed c x f d) l h)
 
   plain-allowed : All (λ x. T (allowed Plain x)) (loopedNames p names)
@@ -144,7 +144,7 @@ module _ (p : Program) (kind : p .kind ≡ Preference) (form : ProgramForm p) (n
   abbrev NotHouse : List ℕ → Type 0
   NotHouse y = (house? y ≡ true) → ⊥
 
-  not-house : (c : ℕ) (x : List ℕ) → letter? c ≡ false → NotHouse (c ∷ x)
+  not-house : (c : ℕ) (x : List ℕ) → firstByte? c ≡ false → NotHouse (c ∷ x)
   unfolding house?
   not-house c x l h = subst T (sym (simp l at h)) tt
 

@@ -8,7 +8,7 @@ use mathlib.Core.List.{List, [], _∷_, _++_}
 use lib.Dec.{T, eqb}
 use lib.ListN.{length, getD, length-append, length-map}
 use Rattle.kinds.specs.Sizes.{longestName, longestEntry}
-use Rattle.kinds.specs.Limits.{atomLimit, ruleLimit, occurrenceLimit, textLimit, varying, fixed}
+use Rattle.kinds.specs.Limits.{atomLimit, ruleLimit, occurrenceLimit, classLimit, textLimit, varying, fixed}
 use Rattle.kinds.specs.declared.limits.Kind.{Kind}
 use Rattle.kinds.specs.declared.limits.Kind.the-variants.{Plain, Preference}
 use Rattle.rules.specs.Lists.{All, keep, filter, sum, flat, from}
@@ -75,15 +75,15 @@ module _ (p : Program) (names : List (List ℕ)) (short : Short names) where
       omega (arith, length-append (classLine p names minWord s) (flat (classLine p names minWord) (from (suc s) c)), class-line-length minWord (omega arith) s, min-lines-length (suc s) c)
 
   declared-bytes : Kind → ℕ
-  declared-bytes Plain = 20908
-  declared-bytes Preference = 90000
+  declared-bytes Plain = 8 + longestEntry * atomLimit Plain
+  declared-bytes Preference = (classLimit + 2) * (7 + longestEntry * atomLimit Preference)
 
   declarations-length : (kind : Kind) → length names ≡ p .atoms → p .atoms ≤ atomLimit kind → ClassesForm kind (p .atoms) (p .classes) (p .words) → length (declarations kind p names) ≤ declared-bytes kind
   unfolding listLine openText declared-bytes
   declarations-length Plain e l c = simp length-append (omega (arith, items-short names short))
   declarations-length Preference e l c =
-      let line : 7 + longestEntry * length (p .words) ≤ 4871 = omega (arith, c .1) in
-      let all : p .classes * (7 + longestEntry * length (p .words)) ≤ 16 * 4871 = mul-le-mul (c .0) line in
+      let line : 7 + longestEntry * length (p .words) ≤ 7 + longestEntry * atomLimit Preference = omega (arith, c .1) in
+      let all : p .classes * (7 + longestEntry * length (p .words)) ≤ classLimit * (7 + longestEntry * atomLimit Preference) = mul-le-mul (c .0) line in
       omega (
         arith,
         length-append (flat (classLine p names minWord) (from 1 (p .classes))) (classLine p names varyWord varying ++ classLine p names fixWord fixed),
@@ -93,7 +93,7 @@ module _ (p : Program) (names : List (List ℕ)) (short : Short names) where
         class-line-length fixWord (omega arith) fixed,
       )
 
-  rules-fit-in : (kind : Kind) → length (p .rules) ≤ ruleLimit kind → sum occurrences (p .rules) ≤ occurrenceLimit kind → declared-bytes kind + length (flat (ruleText names) (p .rules)) ≤ 590308
+  rules-fit-in : (kind : Kind) → length (p .rules) ≤ ruleLimit kind → sum occurrences (p .rules) ≤ occurrenceLimit kind → declared-bytes kind + length (flat (ruleText names) (p .rules)) ≤ textLimit
   unfolding declared-bytes
   rules-fit-in Plain r o = omega (arith, rules-length names short (p .rules), r, o)
   rules-fit-in Preference r o = omega (arith, rules-length names short (p .rules), r, o)

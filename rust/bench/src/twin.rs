@@ -35,8 +35,8 @@ fn name_fault(name: &[u8], plain: bool) -> u64 {
     let house = |name: &[u8]| -> u64 {
         let rest = |b: &u8| b.is_ascii_lowercase() || b.is_ascii_digit() || *b == b'_';
         match name.first() {
-            Some(first) if first.is_ascii_lowercase() && name.iter().all(rest) => {
-                if name.len() > 16 {
+            Some(first) if *first != b'_' && name.iter().all(rest) => {
+                if name.len() > 24 {
                     3
                 } else {
                     0
@@ -165,7 +165,7 @@ impl<'t> Reader<'t> {
 }
 
 pub fn read(text: &[u8]) -> Result<Stores, Refused> {
-    if text.len() > 655_360 {
+    if text.len() > 917_504 {
         return Err((1, 0));
     }
     let plain = text.starts_with(b"(atoms");

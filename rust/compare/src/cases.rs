@@ -1,11 +1,11 @@
 //! The families of cases, each of which compares some calls.
 
 use crate::checker::{Checked, Checker};
-use crate::generate::{either, plain, preference, Size};
+use crate::generate::{edge_name, either, plain, preference, Size};
 use crate::random::Random;
 use crate::spoil;
 use reference::lent;
-use reference::limits::{Kind, BUDGET_LIMIT, TEXT_LIMIT};
+use reference::limits::{Kind, BUDGET_LIMIT, HOUSE_NAME_LIMIT, TEXT_LIMIT};
 use reference::program::{Names, Program, Role, Rule};
 use reference::reader;
 use reference::stores::{name_store, rule_store};
@@ -192,6 +192,22 @@ pub fn damaged_text(check: &mut Checker, random: &mut Random) -> Checked {
     Ok(())
 }
 
+/// A small file with one name at the edges of what is allowed, as a text and as stores.
+pub fn edges_of_names(check: &mut Checker, random: &mut Random) -> Checked {
+    let (program, mut names) = either(random, Size::SMALL);
+    if names.is_empty() {
+        return Ok(());
+    }
+    for _ in 0..10 {
+        let place = random.below(names.len());
+        let kept = std::mem::replace(&mut names[place], edge_name(random));
+        read(check, random, &writer::write(&program, &names))?;
+        texts_of_stores(check, random, &rule_store(&program), &name_store(&names))?;
+        names[place] = kept;
+    }
+    Ok(())
+}
+
 /// No file at all.
 pub fn soup(check: &mut Checker, random: &mut Random) -> Checked {
     for _ in 0..20 {
@@ -330,8 +346,8 @@ pub fn long(check: &mut Checker, random: &mut Random) -> Checked {
         } else {
             spoil::names(random, &mut names);
         }
-        check.write(&rules, &names, 700_000)?;
-        check.translate(&rules, &names, 700_000)?;
+        check.write(&rules, &names, TEXT_LIMIT)?;
+        check.translate(&rules, &names, TEXT_LIMIT)?;
         check.preferred(&rules, random.any(), 5)?;
         check.stable(&rules, random.any(), 5)?;
         check.next_state(&rules, random.any(), 5)?;
@@ -339,8 +355,14 @@ pub fn long(check: &mut Checker, random: &mut Random) -> Checked {
     Ok(())
 }
 
-fn numbered(count: usize) -> Names {
-    (0..count).map(|i| format!("a{i}").into_bytes()).collect()
+/// Names as long as the kind takes them.
+fn longest(kind: Kind, count: usize) -> Names {
+    let before = match kind {
+        Kind::Plain => "N.",
+        Kind::Preference => "",
+    };
+    let name = |i: usize| format!("{before}{i:0HOUSE_NAME_LIMIT$}").into_bytes();
+    (0..count).map(name).collect()
 }
 
 /// A program with exactly so many atoms, rules and occurrences.
@@ -362,7 +384,7 @@ fn exact(kind: Kind, atoms: usize, rules: usize, occurrences: usize) -> (Program
             not: Vec::new(),
         });
     }
-    (program, numbered(atoms))
+    (program, longest(kind, atoms))
 }
 
 /// Each limit met and passed by one, as a text and as a store. Done once a run.

@@ -23,7 +23,7 @@ impl Size {
 }
 
 fn house_name(random: &mut Random) -> Vec<u8> {
-    const FIRST: &[u8] = b"abcdefghijklmnopqrstuvwxyz";
+    const FIRST: &[u8] = b"abcdefghijklmnopqrstuvwxyz0123456789";
     const REST: &[u8] = b"abcdefghijklmnopqrstuvwxyz0123456789_";
     const WORDS: [&str; 14] = [
         "min", "vary", "fix", "atoms", "rule", "head", "body", "not", "a", "b", "lamp", "lamp_",
@@ -34,8 +34,8 @@ fn house_name(random: &mut Random) -> Vec<u8> {
     }
     let length = match random.below(5) {
         0 => 1,
-        1 => 16,
-        2 => random.within(1, 16),
+        1 => 24,
+        2 => random.within(1, 24),
         _ => random.within(1, 3),
     };
     let mut name = vec![*random.pick(FIRST)];
@@ -57,6 +57,27 @@ fn name(random: &mut Random, kind: Kind) -> Vec<u8> {
             [prefix, &house_name(random)].concat()
         }
     }
+}
+
+/// A name at the edges of what is allowed, or just past them: its length, its first byte, what
+/// stands before it.
+pub fn edge_name(random: &mut Random) -> Vec<u8> {
+    const FIRST: &[u8] = b"az09_/:`{-";
+    const REST: &[u8] = b"abcxyz0189_";
+    const BEFORE: [&str; 9] = ["", "", "", "N.", "S.", "D.", "E.", "U.", "N"];
+    let length = match random.below(3) {
+        0 => random.within(1, 3),
+        _ => random.within(23, 26),
+    };
+    let mut name = random.pick(&BEFORE).as_bytes().to_vec();
+    name.push(match random.below(3) {
+        0 => *random.pick(FIRST),
+        _ => *random.pick(b"az09_"),
+    });
+    for _ in 1..length {
+        name.push(*random.pick(REST));
+    }
+    name
 }
 
 /// This many different names allowed to the kind.

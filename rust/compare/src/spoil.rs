@@ -30,9 +30,11 @@ fn random_place(random: &mut Random, text: &[u8], value: u8) -> Option<usize> {
 }
 
 fn odd_name(random: &mut Random) -> Vec<u8> {
-    const ODD: [&str; 34] = [
+    const ODD: [&str; 36] = [
         "A",
         "1a",
+        "7",
+        "1999_12",
         "_a",
         "a-b",
         "a.b",
@@ -68,12 +70,12 @@ fn odd_name(random: &mut Random) -> Vec<u8> {
     ];
     match random.below(6) {
         0 => {
-            let length = random.within(15, 18);
+            let length = random.within(23, 26);
             vec![b'a'; length]
         }
         1 => {
             let prefix = *random.pick(&["N.", "S.", "D.", "E.", "T.", "X."]);
-            let length = random.within(15, 18);
+            let length = random.within(23, 26);
             [prefix.as_bytes(), &vec![b'q'; length]].concat()
         }
         2 => {

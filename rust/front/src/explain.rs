@@ -10,13 +10,14 @@ A preference file has (min ..) lines, one (vary ..) line, one (fix ..) line and 
 form
     (rule (head a b) (body c) (not))
 with one space between items, no other spacing, no blank line and no comment; a name is a letter
-a to z and then letters, digits or _.";
+a to z or a digit and then letters, digits or _.";
 
 const PLAIN_FORMS: &str = "\
 A plain program has one (atoms ..) line and then rules of the form
     (rule (head a b) (body c) (not d))
 with one space between items, no other spacing, no blank line and no comment; a name is a letter
-a to z and then letters, digits or _, also after N., S. or D.; E.0 to E.16 and U are names too.";
+a to z or a digit and then letters, digits or _, also after N., S. or D.; E.0 to E.16 and U are
+names too.";
 
 /// The kind that a text has by its first bytes, also where it is refused.
 fn kind(file: &File) -> Kind {

@@ -14,8 +14,8 @@ and one space between items:
     (rule (head sensor lamp) (body) (not))    the sensor or the lamp is at fault
     (rule (head dark) (body lamp) (not))      a lamp at fault means dark
 
-A rule says: if all of the body, then some of the head. A name is 1 to 16 bytes,
-a letter a to z, then letters, digits or _. For this file 'states' prints
+A rule says: if all of the body, then some of the head. A name is 1 to 24 bytes,
+letters a to z, digits or _, the first no _. For this file 'states' prints
 
     (state lamp dark)
     (total 1)

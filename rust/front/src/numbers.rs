@@ -37,14 +37,14 @@ mod tests {
 
     #[test]
     fn commas() {
-        let texts = [0, 7, 999, 1_000, 65_536, 655_360, 1 << 40].map(grouped);
+        let texts = [0, 7, 999, 1_000, 65_536, 917_504, 1 << 40].map(grouped);
         let expected = [
             "0",
             "7",
             "999",
             "1,000",
             "65,536",
-            "655,360",
+            "917,504",
             "1,099,511,627,776",
         ];
         assert_eq!(texts, expected);

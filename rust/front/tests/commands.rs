@@ -398,5 +398,5 @@ fn help() {
         assert_eq!(rigtomato(&format!("{name} x -h"), ""), own);
     }
     let states = rigtomato("help states", "").out;
-    assert!(states.contains("65,536 bytes") && states.contains("655,360 bytes"));
+    assert!(states.contains("65,536 bytes") && states.contains("917,504 bytes"));
 }

@@ -102,7 +102,7 @@ fn each_refusal() {
     let many = |what: &str, count: usize| -> String { what.repeat(count) };
     let names = |count: usize| -> String { (0..count).map(|i| format!(" a{i}")).collect() };
     let texts = [
-        (1, many("a", 655_361)),
+        (1, many("a", 917_505)),
         (2, String::new()),
         (2, "(vary  a)\n".to_string()),
         (2, "(vary)\n(fix)".to_string()),
@@ -110,7 +110,7 @@ fn each_refusal() {
         (2, "(min a)\n".to_string()),
         (2, "(atomsx)\n".to_string()),
         (3, "(min N.a)\n".to_string()),
-        (3, "(min aaaaaaaaaaaaaaaaa)\n".to_string()),
+        (3, "(min aaaaaaaaaaaaaaaaaaaaaaaaa)\n".to_string()),
         (4, "(min a)\n(vary a)\n".to_string()),
         (
             5,
@@ -158,7 +158,7 @@ fn long_texts_and_listings() {
     assert!(expected("states", many_states.as_bytes()).len() > 65_536);
     compare_both(many_states.as_bytes());
 
-    for length in [65_535, 65_536, 65_537, 655_360, 655_361] {
+    for length in [65_535, 65_536, 65_537, 917_504, 917_505] {
         compare_both(&vec![b'a'; length]);
     }
 }

@@ -20,8 +20,8 @@ fn refusals() -> Vec<(u64, u64, &'static str, String, &'static str, String)> {
             0,
             "the text is too long",
             none(),
-            "655,360 bytes",
-            many("a", 655_361),
+            "917,504 bytes",
+            many("a", 917_505),
         ),
         (2, 1, FORM, none(), "ends too early", none()),
         (
@@ -69,7 +69,7 @@ fn refusals() -> Vec<(u64, u64, &'static str, String, &'static str, String)> {
             1,
             "a name is too long, or is a generated one in a preference file",
             "(min N.a)".to_string(),
-            "at most 16 bytes",
+            "at most 24 bytes",
             "(min N.a)\n".to_string(),
         ),
         (

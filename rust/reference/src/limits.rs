@@ -39,11 +39,11 @@ impl Kind {
 }
 
 /// The most bytes of a text.
-pub const TEXT_LIMIT: usize = 655_360;
+pub const TEXT_LIMIT: usize = 917_504;
 /// The most bytes that the two programs read, and the size of the outputs that they lend.
 pub const PROGRAM_LIMIT: usize = 65_536;
 /// The most bytes of a house name.
-pub const HOUSE_NAME_LIMIT: usize = 16;
+pub const HOUSE_NAME_LIMIT: usize = 24;
 /// The most atoms with which a verdict or the lister answers.
 pub const VERDICT_ATOM_LIMIT: usize = 60;
 /// The largest budget.

@@ -14,12 +14,12 @@ enum Shape {
     Other,
 }
 
-/// Is it a letter a to z and then letters a to z, digits or `_`, of any length?
+/// Is it a letter a to z or a digit and then letters a to z, digits or `_`, of any length?
 fn house_bytes(name: &[u8]) -> bool {
     match name.split_first() {
         None => false,
         Some((first, rest)) => {
-            first.is_ascii_lowercase()
+            (first.is_ascii_lowercase() || first.is_ascii_digit())
                 && rest
                     .iter()
                     .all(|b| b.is_ascii_lowercase() || b.is_ascii_digit() || *b == b'_')

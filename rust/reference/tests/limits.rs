@@ -87,28 +87,27 @@ fn classes() {
 #[test]
 fn bytes() {
     let mut text = b"(vary)\n(fix)\n".to_vec();
-    text.resize(655_360, b'x');
+    text.resize(917_504, b'x');
     assert_eq!(refused(&text), (2, 3));
     text.push(b'x');
     assert_eq!(refused(&text), (1, 0));
-    assert_eq!(refused(&vec![b'\n'; 655_361]), (1, 0));
+    assert_eq!(refused(&vec![b'\n'; 917_505]), (1, 0));
 }
 
 #[test]
 fn name_lengths() {
-    let longest = "abcdefghijklmnop";
-    assert_eq!(longest.len(), 16);
-    accepted(&format!("(vary {longest})\n(fix)\n"));
-    assert_eq!(
-        refused(format!("(vary {longest}q)\n(fix)\n").as_bytes()),
-        (3, 1)
-    );
-    for prefix in ["", "N.", "S.", "D."] {
-        accepted(&format!("(atoms {prefix}{longest})\n"));
-        assert_eq!(
-            refused(format!("(atoms {prefix}{longest}q)\n").as_bytes()),
-            (3, 1)
-        );
+    for longest in ["abcdefghijklmnopqrstuvwx", "1999_12_31_lender_000417"] {
+        assert_eq!(longest.len(), 24);
+        accepted(&format!("(vary {longest})\n(fix)\n"));
+        for prefix in ["", "N.", "S.", "D."] {
+            accepted(&format!("(atoms {prefix}{longest})\n"));
+            for text in [
+                format!("(atoms {prefix}{longest}9)\n"),
+                format!("(vary {prefix}{longest}9)\n(fix)\n"),
+            ] {
+                assert_eq!(refused(text.as_bytes()), (3, 1));
+            }
+        }
     }
 }
 

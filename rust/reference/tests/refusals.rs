@@ -31,8 +31,10 @@ fn form_of_a_line() {
         "(varya)",
         "(rule)",
         "(vary A)",
-        "(vary 1a)",
         "(vary _a)",
+        "(vary _1)",
+        "(vary _)",
+        "(vary 1-a)",
         "(vary a-b)",
         "(vary a.b)",
         "(vary N.)",
@@ -125,7 +127,14 @@ fn names() {
         let in_rule = format!("(vary a)\n(fix)\n(rule (head {name}) (body) (not))\n");
         assert_eq!(refused(in_rule.as_bytes()), (3, 3));
     }
-    let long = "a".repeat(17);
+    // Catalogue numbers.
+    for name in ["7", "0", "1999_12", "00", "1a", "17", "e0"] {
+        accepted(&format!("(vary {name})\n(fix)\n"));
+        for prefix in ["", "N.", "S.", "D."] {
+            accepted(&format!("(atoms {prefix}{name})\n"));
+        }
+    }
+    let long = "a".repeat(25);
     for prefix in ["N.", "S.", "D."] {
         assert_eq!(
             refused(format!("(vary {prefix}{long})\n(fix)\n").as_bytes()),
@@ -133,7 +142,7 @@ fn names() {
         );
     }
     for name in [
-        "N.", "N.A", "N.1", "N.N.a", "E.17", "E.00", "E.016", "E.a", "E.", "T.1", "U1", "Ua",
+        "N.", "N.A", "N._1", "N.N.a", "E.17", "E.00", "E.016", "E.a", "E.", "T.1", "U1", "Ua",
     ] {
         assert_eq!(
             refused(format!("(atoms {name})\n").as_bytes()),
@@ -199,7 +208,7 @@ fn filled_not() {
 #[test]
 fn which_fault_counts() {
     let file = |rule: &str| format!("(vary a b)\n(fix)\n(rule {rule})\n(rule\n").into_bytes();
-    let long = "a".repeat(17);
+    let long = "a".repeat(25);
     assert_eq!(
         refused(&file(&format!("(head {long}) (body A) (not)"))),
         (2, 3)
@@ -311,7 +320,7 @@ fn name_stores() {
     let (rules, names) = stores("(vary a bc)\n(fix)\n");
     assert_eq!(names, b"\x01a\x02bc");
     let mut out = [0; 4096];
-    let bad: [&[u8]; 12] = [
+    let bad: [&[u8]; 13] = [
         b"",
         b"\x01a",
         b"\x01a\x02b",
@@ -323,7 +332,8 @@ fn name_stores() {
         b"\x01a\x03N.a",
         b"\x01a\x02BC",
         b"\x01a\xffbc",
-        b"\x01a\x11abcdefghijklmnopq",
+        b"\x01a\x19abcdefghijklmnopqrstuvwxy",
+        b"\x01a\x02_7",
     ];
     for names in bad {
         assert_eq!(lent::write(&rules, names, &mut out), Err(Reason::NameStore));
@@ -332,7 +342,12 @@ fn name_stores() {
             Err(Reason::NameStore)
         );
     }
-    let good: [&[u8]; 3] = [b"\x01a\x01b", b"\x01b\x01a", b"\x01a\x10abcdefghijklmnop"];
+    let good: [&[u8]; 4] = [
+        b"\x01a\x01b",
+        b"\x01b\x01a",
+        b"\x01a\x017",
+        b"\x01a\x18abcdefghijklmnopqrstuvwx",
+    ];
     for names in good {
         assert!(lent::write(&rules, names, &mut out).is_ok());
     }

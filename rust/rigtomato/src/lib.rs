@@ -31,9 +31,9 @@ use std::fmt;
 /// The largest budget of units, 2^40.
 pub const LARGEST_BUDGET: u64 = 1 << 40;
 /// The most bytes of a text.
-pub const TEXT_LIMIT: usize = 655_360;
+pub const TEXT_LIMIT: usize = 917_504;
 /// The most bytes of a house name.
-pub const HOUSE_NAME_LIMIT: usize = 16;
+pub const HOUSE_NAME_LIMIT: usize = 24;
 /// The most atoms with which a verdict is given or states are listed.
 pub const VERDICT_ATOM_LIMIT: usize = 60;
 

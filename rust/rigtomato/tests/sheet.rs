@@ -77,7 +77,7 @@ fn texts() {
         refused(Refusal::DeclaredTwice, Some(1))
     );
     assert_eq!(
-        Program::read(&[b'a'; 655_361]),
+        Program::read(&[b'a'; 917_505]),
         refused(Refusal::TextTooLong, None)
     );
 }
@@ -85,8 +85,10 @@ fn texts() {
 /// The largest file on a thread of the ordinary size.
 #[test]
 fn an_ordinary_thread_is_enough() {
-    let names: String = (0..256).map(|i| format!(" abcdefghijklm{i:03}")).collect();
-    let rule = "(rule (head abcdefghijklm000) (body abcdefghijklm001) (not))\n";
+    let names: String = (0..256)
+        .map(|i| format!(" abcdefghijklmnopqrstu{i:03}"))
+        .collect();
+    let rule = "(rule (head abcdefghijklmnopqrstu000) (body abcdefghijklmnopqrstu001) (not))\n";
     let text = format!("(min{names})\n(vary)\n(fix)\n{}", rule.repeat(1_024));
     let work = move || {
         let file = Program::read(text.as_bytes()).unwrap();

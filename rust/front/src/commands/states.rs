@@ -31,7 +31,7 @@ total, first, spent or interrupted, or {\"refused\":{\"number\":..,\"line\":..,\
 A file has at most 60 atoms here; 'solve' takes up to 256. Without options the
 output is byte for byte that of the proved program target/bin/states, but for
 this: that program takes and prints at most 65,536 bytes; here a text has at
-most 655,360 bytes, and a listing may have any length.
+most 917,504 bytes, and a listing may have any length.
 ";
 
 type Step = Result<Next, Refusal>;

@@ -13,7 +13,7 @@ pub const MORE: &str = "\
 The stable models of the plain program, cut down to the file's own atoms, are the
 file's preferred states, each from just one stable model. The output is byte for
 byte that of the proved program target/bin/translate, which takes and prints at
-most 65,536 bytes; here both may have 655,360.
+most 65,536 bytes; here both may have 917,504.
 
 With --asp a name a of the file is holds(\"a\"), and N.a, S.a, D.a, E.3 and U are
 n(\"a\"), s(\"a\"), d(\"a\"), e(3) and u; only holds/1 is shown:
