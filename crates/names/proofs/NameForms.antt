@@ -4,7 +4,7 @@ use native.Mathlib.Numerals.{add-one}
 use native.Mathlib.Omega.{arith}
 use mathlib.Core.Path.{_≡_, refl, sym, ap, _∙_}
 use mathlib.Core.List.{List, [], _∷_}
-use mathlib.Core.Bool.{Bool, true, false, _&&_, or-false}
+use mathlib.Core.Bool.{Bool, true, false, _&&_, _||_, or-false}
 use mathlib.Core.Logic.{_⊎_, inl, inr}
 use lib.Dec.{leb}
 use lib.ListN.{length, getD, take, drop, length-drop, drop-of-length-le}
@@ -13,7 +13,7 @@ use borrow.Author.Tests.{le-leb, lt-leb, ne-eqb}
 use Rattle.kinds.specs.declared.limits.Kind.{Kind}
 use Rattle.kinds.specs.declared.limits.Kind.the-variants.{Plain, Preference}
 use Rattle.rules.specs.Lists.{every}
-use Rattle.names.specs.Names.{firstByte?, digit?, nameByte?, house?, classNumber?, byLength, dotted, generated, nameClass, takes}
+use Rattle.names.specs.Names.{letter?, digit?, firstByte?, nameByte?, house?, classNumber?, byLength, dotted, generated, nameClass, takes}
 use Rattle.names.specs.declared.forms.NameClass.{NameClass}
 use Rattle.names.specs.declared.forms.NameClass.the-variants.{House, Generated, TooLong, Wrong}
 
@@ -43,24 +43,29 @@ module _ {p : ℕ → Bool} {xs : List ℕ} {i : ℕ} (h : Every p xs i) where
 pub rest-is : (xs : List ℕ) (k : ℕ) → take (length xs - k) (drop k xs) ≡ drop k xs
 rest-is xs k = take-all (length xs - k) (drop k xs) (omega (arith, length-drop k xs))
 
+module _ (b : ℕ) {r : Bool} (is : r ≡ letter? b) where
+  pub first-letter : r ≡ true → r ≡ firstByte? b
+  first-letter e = e ∙ sym (ap (λ t. t || digit? b) (sym is ∙ e))
+
+  pub first-digit : r ≡ false → {s : Bool} → s ≡ digit? b → s ≡ firstByte? b
+  first-digit e d = d ∙ sym (ap (λ t. t || digit? b) (sym is ∙ e))
+
 pub house-empty : (bs : List ℕ) → length bs ≡ 0 → false ≡ house? bs
 unfolding house?
 house-empty [] e = refl
 house-empty (b ∷ bs) e = absurd (omega arith)
 
-pub house-underscore : (bs : List ℕ) → (length bs ≡ 0 → ⊥) → getD bs 0 0 ≡ 95 → false ≡ house? bs
+house-is : (bs : List ℕ) → (length bs ≡ 0 → ⊥) → house? bs ≡ firstByte? (getD bs 0 0) && every nameByte? (drop 1 bs)
 unfolding house?
-house-underscore [] some e = absurd (some refl)
-house-underscore (b ∷ bs) some e = sym (ap (λ c. firstByte? c && every nameByte? bs) e)
+house-is [] e = absurd (e refl)
+house-is (b ∷ bs) e = refl
 
--- of a name's bytes only `_` cannot be the first
-first-byte : (b : ℕ) → (b ≡ 95 → ⊥) → nameByte? b ≡ firstByte? b
-first-byte b n = simp (ne-eqb b 95 n, or-false)
+module _ (bs : List ℕ) (some : length bs ≡ 0 → ⊥) {r : Bool} (is : r ≡ firstByte? (getD bs 0 0)) where
+  pub house-first : r ≡ true → every nameByte? (take (length bs - 1) (drop 1 bs)) ≡ house? bs
+  house-first e = ap (every nameByte?) (rest-is bs 1) ∙ sym (rw (sym is ∙ e) at (house-is bs some))
 
-pub house-bytes : (bs : List ℕ) → (length bs ≡ 0 → ⊥) → (getD bs 0 0 ≡ 95 → ⊥) → every nameByte? bs ≡ house? bs
-unfolding house?
-house-bytes [] some n = absurd (some refl)
-house-bytes (b ∷ bs) some n = ap (λ t. t && every nameByte? bs) (first-byte b n)
+  pub house-other : r ≡ false → false ≡ house? bs
+  house-other e = sym (rw (sym is ∙ e) at (house-is bs some))
 
 pub number-one : (bs : List ℕ) {r : Bool} → length bs ≡ 1 → r ≡ digit? (getD bs 0 0) → r ≡ classNumber? bs
 unfolding classNumber?

@@ -2,7 +2,7 @@
 use kinds::limits::Kind;
 ghost use mathlib.Core.Path.{_≡_};
 ghost use Rattle.rules.specs.Lists.{every};
-ghost use Rattle.names.specs.Names.{digit?, nameByte?, house?, classNumber?, byLength, dotted, generated, nameClass, takes};
+ghost use Rattle.names.specs.Names.{letter?, digit?, firstByte?, nameByte?, house?, classNumber?, byLength, dotted, generated, nameClass, takes};
 
 pub enum NameClass {
     // A house name.
@@ -15,10 +15,22 @@ pub enum NameClass {
     Wrong,
 }
 
+pub fn is_letter(b: u8) -> bool
+    ensures { λ r. ⌜ r ≡ letter? b ⌝ }
+{
+    b'a' <= b && b <= b'z'
+}
+
 pub fn is_digit(b: u8) -> bool
     ensures { λ r. ⌜ r ≡ digit? b ⌝ }
 {
     b'0' <= b && b <= b'9'
+}
+
+pub fn is_first_byte(b: u8) -> bool
+    ensures { λ r. ⌜ r ≡ firstByte? b ⌝ }
+{
+    is_letter(b) || is_digit(b)
 }
 
 // By one bit for each byte below 128: a branch on letter or digit would often be mispredicted.
@@ -49,17 +61,14 @@ pub fn all_name_bytes(bytes: &[u8]) -> bool
     true
 }
 
-// A house name but for its length: of a name's bytes only `_` cannot be the first.
+// A house name but for its length.
 pub fn house_form(bytes: &[u8]) -> bool
     ensures { λ r. ⌜ r ≡ house? (now (bytes .entry)) ⌝ }
 {
     if bytes.len() == 0 {
         return false;
     }
-    if bytes[0] == b'_' {
-        return false;
-    }
-    all_name_bytes(bytes)
+    is_first_byte(bytes[0]) && all_name_bytes(&bytes[1..])
 }
 
 // 0 to 16 without leading zero.
