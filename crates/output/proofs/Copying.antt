@@ -80,16 +80,27 @@ rest-gone i k s l = let m : length (drop i s) ≤ k = omega (arith, length-drop 
 
 -- the first k elements, then the last k: all of them, where they meet
 module _ (k : ℕ) (s d : List ℕ) (e : length d ≡ length s) (l : k ≤ length s) (m : length s ≤ k + k) where
+  ends-meet : (now tail : List ℕ) → now ≡ overlaid s d k → tail ≡ drop (length s - k) s → putMid (length s - k) (length now - (length s - k)) now tail ≡ s
+  ends-meet now tail p back =
+      let i : ℕ = length s - k in
+      let n : length now ≡ length s = ap length p ∙ omega (arith, length-append (take k s) (drop k d), length-take-le k s l, length-drop k d) in
+      let front : take i now ≡ take i s = ap (take i) p ∙ take-append-le i (take k s) (drop k d) (omega (arith, length-take-le k s l)) ∙ take-take i k s (omega arith) in
+      ap₂ (λ (a b : List ℕ). a ++ (b ++ postOf i (length now - i) now)) front back
+      ∙ ap (λ (r : List ℕ). take i s ++ (drop i s ++ r)) (rest-gone i (length now - i) now (omega arith))
+      ∙ ap (λ (r : List ℕ). take i s ++ r) (append-nil (drop i s))
+      ∙ take-append-drop i s
+
+  -- both are put as parts
+  pub both-parts : (front tail : List ℕ) → front ≡ midOf 0 k s → tail ≡ midOf (length s - k) (length s - (length s - k)) s
+      → putMid (length s - k) (length (putMid 0 k d front) - (length s - k)) (putMid 0 k d front) tail ≡ s
+  both-parts front tail p q = ends-meet (putMid 0 k d front) tail (ap (λ (r : List ℕ). r ++ drop k d) p) (q ∙ part-rest (length s - k) s)
+
+  -- each is stored over what is there
   pub both-ends : (now tail : List ℕ) → now ≡ overlaid s d k → tail ≡ overlaid (midOf (length s - k) (length s - (length s - k)) s) (midOf (length s - k) (length now - (length s - k)) now) k
       → putMid (length s - k) (length now - (length s - k)) now tail ≡ s
   both-ends now tail p q =
       let i : ℕ = length s - k in
       let n : length now ≡ length s = ap length p ∙ omega (arith, length-append (take k s) (drop k d), length-take-le k s l, length-drop k d) in
-      let front : take i now ≡ take i s = ap (take i) p ∙ take-append-le i (take k s) (drop k d) (omega (arith, length-take-le k s l)) ∙ take-take i k s (omega arith) in
       let kept : take k (midOf i (length s - i) s) ≡ drop i s = ap (take k) (part-rest i s) ∙ take-all k (drop i s) (omega (arith, length-drop i s)) in
       let past : drop k (midOf i (length now - i) now) ≡ [] = ap (drop k) (part-rest i now) ∙ rest-gone i k now (omega arith) in
-      let back : tail ≡ drop i s = q ∙ ap₂ (λ (a b : List ℕ). a ++ b) kept past ∙ append-nil (drop i s) in
-      ap₂ (λ (a b : List ℕ). a ++ (b ++ postOf i (length now - i) now)) front back
-      ∙ ap (λ (r : List ℕ). take i s ++ (drop i s ++ r)) (rest-gone i (length now - i) now (omega arith))
-      ∙ ap (λ (r : List ℕ). take i s ++ r) (append-nil (drop i s))
-      ∙ take-append-drop i s
+      ends-meet now tail p (q ∙ ap₂ (λ (a b : List ℕ). a ++ b) kept past ∙ append-nil (drop i s))

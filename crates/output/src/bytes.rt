@@ -114,6 +114,15 @@ fn copy_by_eights(bytes: &[u8], part: &mut [u8])
     copy_eight(&bytes[last..], &mut part[last..]);
 }
 
+fn copy_by_sixteens(bytes: &[u8], part: &mut [u8])
+    requires { ⌜ (length (now part) ≡ length (now bytes)) × (16 ≤ length (now bytes)) × (length (now bytes) ≤ 32) ⌝ }
+    ensures { λ r. ⌜ now (part .exit) ≡ now (bytes .entry) ⌝ }
+{
+    let last = bytes.len() - 16;
+    copy_by_eights(&bytes[0..16], &mut part[0..16]);
+    copy_by_eights(&bytes[last..], &mut part[last..]);
+}
+
 fn copy_name(bytes: &[u8], part: &mut [u8])
     requires { ⌜ length (now part) ≡ length (now bytes) ⌝ }
     ensures { λ r. ⌜ now (part .exit) ≡ now (bytes .entry) ⌝ }
@@ -129,6 +138,10 @@ fn copy_name(bytes: &[u8], part: &mut [u8])
     }
     if size <= 16 {
         copy_by_eights(bytes, part);
+        return;
+    }
+    if size <= 32 {
+        copy_by_sixteens(bytes, part);
         return;
     }
     copy(bytes, part);
