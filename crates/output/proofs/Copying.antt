@@ -1,5 +1,5 @@
 -- A copy of a list over another one.
-use Prim.Native.Nat.{ℕ, zero, suc, _+_, _-_, _≤_, _<_}
+use Prim.Native.Nat.{ℕ, zero, suc, _+_, _-_, _/_, _≤_, _<_}
 use native.Mathlib.Nat.{zero-add}
 use native.Mathlib.Numerals.{add-one}
 use native.Mathlib.Omega.{arith}
@@ -72,6 +72,34 @@ first-stored k s d l m =
     sets-eq (elements k 0 s) d 0 (omega arith)
     ∙ ap (λ (j : ℕ). elements k 0 s ++ drop j d) (zero-add (length (elements k 0 s)) ∙ n)
     ∙ ap (λ (r : List ℕ). r ++ drop k d) e
+
+-- the first, the middle and the last of at most three
+
+pub none-stored : (s d : List ℕ) → length d ≡ length s → length s ≡ 0 → d ≡ s
+none-stored [] [] e z = refl
+none-stored [] (x ∷ d) e z = absurd (omega arith)
+none-stored (a ∷ s) d e z = absurd (omega arith)
+
+module _ (s d : List ℕ) (e : length d ≡ length s) (some : length s ≡ 0 → ⊥) where
+  pub middle-below : (x : ℕ) → length s / 2 < length (set d 0 x)
+  middle-below x = omega (arith, length-set d 0 x)
+
+  pub last-below : (x y : ℕ) → length s - 1 < length (set (set d 0 x) (length s / 2) y)
+  last-below x y = omega (arith, length-set (set d 0 x) (length s / 2) y, length-set d 0 x)
+
+pub few-stored : (s d : List ℕ) → length d ≡ length s → (length s ≡ 0 → ⊥) → length s ≤ 3
+    → set (set (set d 0 (getD s 0 0)) (length s / 2) (getD s (length s / 2) 0)) (length s - 1) (getD s (length s - 1) 0) ≡ s
+few-stored [] d e some m = absurd (some refl)
+few-stored (a ∷ s) [] e some m = absurd (omega arith)
+few-stored (a ∷ []) (x ∷ []) e some m = refl
+few-stored (a ∷ []) (x ∷ y ∷ d) e some m = absurd (omega arith)
+few-stored (a ∷ b ∷ s) (x ∷ []) e some m = absurd (omega arith)
+few-stored (a ∷ b ∷ []) (x ∷ y ∷ []) e some m = refl
+few-stored (a ∷ b ∷ []) (x ∷ y ∷ z ∷ d) e some m = absurd (omega arith)
+few-stored (a ∷ b ∷ c ∷ s) (x ∷ y ∷ []) e some m = absurd (omega arith)
+few-stored (a ∷ b ∷ c ∷ []) (x ∷ y ∷ z ∷ []) e some m = refl
+few-stored (a ∷ b ∷ c ∷ []) (x ∷ y ∷ z ∷ w ∷ d) e some m = absurd (omega arith)
+few-stored (a ∷ b ∷ c ∷ f ∷ s) (x ∷ y ∷ z ∷ d) e some m = absurd (omega arith)
 
 -- the elements from the i-th on are no more than are left
 

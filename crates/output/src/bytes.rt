@@ -58,6 +58,21 @@ pub fn emit(bytes: &[u8], out: &mut [u8], at: usize) -> usize
     emit_each(bytes, out, at)
 }
 
+// The first, the middle and the last, which may be the same: a branch on their number would often be mispredicted.
+fn copy_few(bytes: &[u8], part: &mut [u8])
+    requires { ⌜ (length (now part) ≡ length (now bytes)) × (length (now bytes) ≤ 3) ⌝ }
+    ensures { λ r. ⌜ now (part .exit) ≡ now (bytes .entry) ⌝ }
+{
+    if bytes.len() == 0 {
+        return;
+    }
+    let middle = bytes.len() / 2;
+    let last = bytes.len() - 1;
+    part[0] = bytes[0];
+    part[middle] = bytes[middle];
+    part[last] = bytes[last];
+}
+
 // All four are loaded before the first is stored, so that they go as one.
 fn copy_four(bytes: &[u8], part: &mut [u8])
     requires { ⌜ (4 ≤ length (now bytes)) × (4 ≤ length (now part)) ⌝ }
@@ -129,7 +144,7 @@ fn copy_name(bytes: &[u8], part: &mut [u8])
 {
     let size = bytes.len();
     if size < 4 {
-        copy(bytes, part);
+        copy_few(bytes, part);
         return;
     }
     if size < 8 {
