@@ -1,11 +1,12 @@
 // The stable verdict: the walk over the proper subsets.
+use crate::reduct::fill_reduct;
+use crate::reduct::marked_at;
 use kinds::limits::Kind;
 use kinds::limits::Plain;
 use kinds::limits::Walk;
 use masks::guard::Guard;
 use masks::guard::check_call;
 use masks::masks::bit_of;
-use masks::masks::fill_rules;
 use masks::masks::first_broken;
 use masks::masks::gather;
 use masks::masks::least;
@@ -112,17 +113,18 @@ fn stable_of(words: &[u16], set: u64, budget: u64) -> Verdict
     ensures { λ r. ⌜ r ≡ stableVerdict (decode (now (words .entry)) .atoms) (decode (now (words .entry)) .rules) set budget ⌝ }
 {
     let rules = wide(words[3]);
+    let mut marks = [false; Plain::RULES];
     let mut care = [0u64; Plain::RULES];
     let mut want = [0u64; Plain::RULES];
-    fill_rules(&words[4..], rules, set, &mut care, &mut want);
-    let broken = first_broken(&care[..rules], &want[..rules], set);
-    if broken != rules {
+    let kept = fill_reduct(&words[4..], rules, set, &mut marks, &mut care, &mut want);
+    let broken = first_broken(&care[..kept], &want[..kept], set);
+    if broken != kept {
         return Verdict::Broken {
-            rule: broken as u64,
+            rule: marked_at(&marks[..rules], broken) as u64,
         };
     }
-    let kept = gather(&mut care, &mut want, rules);
-    stable_walk(&care[..kept], &want[..kept], set, budget)
+    let tried = gather(&mut care, &mut want, kept);
+    stable_walk(&care[..tried], &want[..tried], set, budget)
 }
 
 // Whether `set` is stable, by the rules of a plain store.

@@ -1,11 +1,12 @@
-use mathlib.Core.Path.{sym, _∙_}
+use mathlib.Core.Path.{refl, sym, _∙_}
 use Prim.Native.Nat.{_≤_}
 use native.Mathlib.Omega.{arith}
 use lib.ListN.{length}
 use lib.Seq.{length-take-le}
-use Rattle.stable_verdict.proofs.ProperSubsets.{below-60}
-use Rattle.masks.proofs.CheckedStore.{PlainHeader, PlainReady, has-header, plain-stored, plain-rules, plain-ready, plain-care-length, plain-want-length, stable-broken-ready, stable-ready}
+use Rattle.masks.proofs.CheckedStore.{PlainHeader, has-header, plain-stored, plain-rules}
 use Rattle.masks.proofs.FilledMasks.{taken-fits}
+use Rattle.stable_verdict.proofs.ProperSubsets.{below-60}
+use Rattle.stable_verdict.proofs.KeptRules.{ReductReady, kept-care-length, kept-want-length, marks-length, marks-fit, broken-ready, walk-ready}
 use borrow.Author.Needs.{needs}
 use Rattle.stable_verdict.proofs.stable.stable_of.Statement.{statement}
 use Rattle.stable_verdict.proofs.stable.stable_of.Tie as tie
@@ -13,14 +14,14 @@ use Rattle.stable_verdict.proofs.stable.stable_of.Tie as tie
 header : (c : tie.After-wide) → PlainHeader (c .before .before .before .args .words .now) (c .wide .result)
 header c = record { store = c .before .before .before .pre .0; few = c .before .before .before .pre .1 .0; is-plain = c .before .before .before .pre .1 .1 .0; rules-read = c .wide .ensures }
 
-masks : (c : tie.After-fill-rules) → PlainReady (c .before .before .before .before .before .before .before .args .words .now) (c .before .before .before .before .wide .result) (c .before .before .before .before .before .before .before .args .set) (c .fill-rules .last .1 .1 .1 .0) (c .fill-rules .last .1 .1 .1 .1 .0)
-masks c = plain-ready _ _ (header (c .before .before .before .before)) _ _ _ _ _ (c .fill-rules .ensures)
+ready : (c : tie.After-fill-reduct) → ReductReady (c .before .before .before .before .before .before .before .before .args .words .now) (c .before .before .before .before .before .wide .result) (c .before .before .before .before .before .before .before .before .args .set) (c .fill-reduct .last .1 .1 .1 .0) (c .fill-reduct .last .1 .1 .1 .1 .0) (c .fill-reduct .last .1 .1 .1 .1 .1 .0) (c .fill-reduct .result)
+ready c = record { header = header (c .before .before .before .before .before); marked = c .fill-reduct .ensures .0; masks = c .fill-reduct .ensures .1 }
 
 care-fits : (c : tie.After-gather) → c .gather .result ≤ length (c .gather .last .0)
-care-fits c = omega (arith, c .gather .ensures .1 .1, taken-fits _ _ (plain-care-length (masks (c .before .before .before .before .before .before .before .before .before))), c .gather .kept .0)
+care-fits c = omega (arith, c .gather .ensures .1 .1, taken-fits _ _ (kept-care-length (ready (c .before .before .before .before .before .before .before .before .before .before))), c .gather .kept .0)
 
 want-fits : (c : tie.After-gather) → c .gather .result ≤ length (c .gather .last .1 .0)
-want-fits c = omega (arith, c .gather .ensures .1 .1, taken-fits _ _ (plain-want-length (masks (c .before .before .before .before .before .before .before .before .before))), c .gather .kept .1 .0)
+want-fits c = omega (arith, c .gather .ensures .1 .1, taken-fits _ _ (kept-want-length (ready (c .before .before .before .before .before .before .before .before .before .before))), c .gather .kept .1 .0)
 
 shared-slice-read-wide : tie.Need-shared-slice-read-wide
 shared-slice-read-wide c = omega (arith, has-header _ _ (c .before .before .pre .0))
@@ -28,41 +29,53 @@ shared-slice-read-wide c = omega (arith, has-header _ _ (c .before .before .pre 
 wide-requires : tie.Need-wide-requires
 wide-requires c κs = search needs
 
-sub-fill-rules : tie.Need-sub-fill-rules
-sub-fill-rules c = has-header _ _ (c .before .before .before .pre .0)
+sub-fill-reduct : tie.Need-sub-fill-reduct
+sub-fill-reduct c = has-header _ _ (c .before .before .before .pre .0)
 
-part-fill-rules-start : tie.Need-part-fill-rules-start
-part-fill-rules-start c = has-header _ _ (c .before .before .before .pre .0)
+part-fill-reduct-start : tie.Need-part-fill-reduct-start
+part-fill-reduct-start c = has-header _ _ (c .before .before .before .pre .0)
 
-part-fill-rules-end : tie.Need-part-fill-rules-end
-part-fill-rules-end c = search needs
+part-fill-reduct-end : tie.Need-part-fill-reduct-end
+part-fill-reduct-end c = search needs
 
-slice-aggregate-fill-rules : tie.Need-slice-aggregate-fill-rules
-slice-aggregate-fill-rules c = search needs
+slice-aggregate-fill-reduct : tie.Need-slice-aggregate-fill-reduct
+slice-aggregate-fill-reduct c = search needs
 
-slice-aggregate-fill-rules-2 : tie.Need-slice-aggregate-fill-rules-2
-slice-aggregate-fill-rules-2 c = search needs
+slice-aggregate-fill-reduct-2 : tie.Need-slice-aggregate-fill-reduct-2
+slice-aggregate-fill-reduct-2 c = search needs
 
-fill-rules-requires : tie.Need-fill-rules-requires
-fill-rules-requires c κs = (plain-stored _ _ (header (c .before .before .before)), (plain-rules _ _ (header (c .before .before .before)), plain-rules _ _ (header (c .before .before .before))))
+slice-aggregate-fill-reduct-3 : tie.Need-slice-aggregate-fill-reduct-3
+slice-aggregate-fill-reduct-3 c = search needs
+
+fill-reduct-requires : tie.Need-fill-reduct-requires
+fill-reduct-requires c κs = (plain-stored _ _ (header (c .before .before .before .before)), (plain-rules _ _ (header (c .before .before .before .before)), (refl, (plain-rules _ _ (header (c .before .before .before .before)), plain-rules _ _ (header (c .before .before .before .before))))))
 
 array-share-prefix-care : tie.Need-array-share-prefix-care
-array-share-prefix-care c = taken-fits _ _ (plain-care-length (masks (c .before .before)))
+array-share-prefix-care c = taken-fits _ _ (kept-care-length (ready (c .before .before .before)))
 
 slice-aggregate-first-broken : tie.Need-slice-aggregate-first-broken
-slice-aggregate-first-broken c = plain-care-length (masks (c .before .before .before))
+slice-aggregate-first-broken c = kept-care-length (ready (c .before .before .before .before))
 
 array-share-prefix-want : tie.Need-array-share-prefix-want
-array-share-prefix-want c = taken-fits _ _ (plain-want-length (masks (c .before .before .before)))
+array-share-prefix-want c = taken-fits _ _ (kept-want-length (ready (c .before .before .before .before)))
 
 slice-aggregate-first-broken-2 : tie.Need-slice-aggregate-first-broken-2
-slice-aggregate-first-broken-2 c = plain-want-length (masks (c .before .before .before .before))
+slice-aggregate-first-broken-2 c = kept-want-length (ready (c .before .before .before .before .before))
 
 first-broken-requires : tie.Need-first-broken-requires
-first-broken-requires c κs = sym (plain-want-length (masks (c .before .before .before .before))) ∙ plain-care-length (masks (c .before .before .before .before))
+first-broken-requires c κs = sym (kept-want-length (ready (c .before .before .before .before .before))) ∙ kept-care-length (ready (c .before .before .before .before .before))
+
+array-share-prefix-marks : tie.Need-array-share-prefix-marks
+array-share-prefix-marks c = marks-fit (ready (c .before .before .before .before .before .before .before))
+
+slice-aggregate-marked-at : tie.Need-slice-aggregate-marked-at
+slice-aggregate-marked-at c = marks-length (ready (c .before .before .before .before .before .before .before .before))
+
+marked-at-requires : tie.Need-marked-at-requires
+marked-at-requires c κs = search needs
 
 returns : tie.Need-returns
-returns c = stable-broken-ready (masks (c .before .before .before .before .before .before)) _ _ (c .before .first-broken .ensures) (c .if1 .taken)
+returns c = broken-ready (ready (c .before .before .before .before .before .before .before .before .before)) _ (c .before .before .before .first-broken .ensures) _ _ (c .before .before .if1 .taken) (c .marked-at .ensures)
 
 slice-aggregate-gather : tie.Need-slice-aggregate-gather
 slice-aggregate-gather c = search needs
@@ -71,7 +84,7 @@ slice-aggregate-gather-2 : tie.Need-slice-aggregate-gather-2
 slice-aggregate-gather-2 c = search needs
 
 gather-requires : tie.Need-gather-requires
-gather-requires c κs = (taken-fits _ _ (plain-care-length (masks (c .before .before .before .before .before .before .before .before))), taken-fits _ _ (plain-want-length (masks (c .before .before .before .before .before .before .before .before))))
+gather-requires c κs = (taken-fits _ _ (kept-care-length (ready (c .before .before .before .before .before .before .before .before .before))), taken-fits _ _ (kept-want-length (ready (c .before .before .before .before .before .before .before .before .before))))
 
 array-share-prefix-care-2 : tie.Need-array-share-prefix-care-2
 array-share-prefix-care-2 c = care-fits (c .before .before)
@@ -86,10 +99,10 @@ slice-aggregate-stable-walk-2 : tie.Need-slice-aggregate-stable-walk-2
 slice-aggregate-stable-walk-2 c = sym (length-take-le _ (c .before .before .before .before .gather .last .1 .0) (want-fits (c .before .before .before .before)))
 
 stable-walk-requires : tie.Need-stable-walk-requires
-stable-walk-requires c κs = (length-take-le _ (c .before .before .before .before .gather .last .1 .0) (want-fits (c .before .before .before .before)) ∙ sym (length-take-le _ (c .before .before .before .before .gather .last .0) (care-fits (c .before .before .before .before))), below-60 _ _ (c .before .before .before .before .before .before .before .before .before .before .before .before .before .before .before .before .before .before .before .before .pre .1 .0) (c .before .before .before .before .before .before .before .before .before .before .before .before .before .before .before .before .before .before .before .before .pre .1 .1 .1))
+stable-walk-requires c κs = (length-take-le _ (c .before .before .before .before .gather .last .1 .0) (want-fits (c .before .before .before .before)) ∙ sym (length-take-le _ (c .before .before .before .before .gather .last .0) (care-fits (c .before .before .before .before))), below-60 _ _ (c .before .before .before .before .before .before .before .before .before .before .before .before .before .before .before .before .before .before .before .before .before .before .pre .1 .0) (c .before .before .before .before .before .before .before .before .before .before .before .before .before .before .before .before .before .before .before .before .before .before .pre .1 .1 .1))
 
 returns-2 : tie.Need-returns-2
-returns-2 c = stable-ready (masks (c .before .before .before .before .before .before .before .before .before .before .before .before .before .before)) _ _ _ _ _ (c .before .before .before .before .before .before .before .before .before .before .before .before .before .before .before .before .before .before .before .before .before .pre .1 .1 .1) (c .before .before .before .before .before .before .before .before .before .first-broken .ensures) (c .before .before .before .before .before .before .before .before .if1 .left) (c .before .before .before .before .before .gather .ensures .0) (c .before .before .before .before .before .gather .ensures .1 .0) (c .stable-walk .ensures)
+returns-2 c = walk-ready (ready (c .before .before .before .before .before .before .before .before .before .before .before .before .before .before .before)) _ (c .before .before .before .before .before .before .before .before .before .first-broken .ensures) _ _ _ _ (c .before .before .before .before .before .before .before .before .before .before .before .before .before .before .before .before .before .before .before .before .before .before .before .pre .1 .1 .1) (c .before .before .before .before .before .before .before .before .if1 .left) (c .before .before .before .before .before .gather .ensures .0) (c .before .before .before .before .before .gather .ensures .1 .0) (c .stable-walk .ensures)
 
 pub stable-of-spec : {M : Type 1} → statement M
 stable-of-spec =
@@ -97,17 +110,21 @@ stable-of-spec =
     (tie.spec
     shared-slice-read-wide
     wide-requires
-    sub-fill-rules
-    part-fill-rules-start
-    part-fill-rules-end
-    slice-aggregate-fill-rules
-    slice-aggregate-fill-rules-2
-    fill-rules-requires
+    sub-fill-reduct
+    part-fill-reduct-start
+    part-fill-reduct-end
+    slice-aggregate-fill-reduct
+    slice-aggregate-fill-reduct-2
+    slice-aggregate-fill-reduct-3
+    fill-reduct-requires
     array-share-prefix-care
     slice-aggregate-first-broken
     array-share-prefix-want
     slice-aggregate-first-broken-2
     first-broken-requires
+    array-share-prefix-marks
+    slice-aggregate-marked-at
+    marked-at-requires
     returns
     slice-aggregate-gather
     slice-aggregate-gather-2
