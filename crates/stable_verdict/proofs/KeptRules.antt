@@ -1,12 +1,12 @@
 -- The rules that the reduct keeps, against all rules: what a mark means, the same first broken rule, the same rules to try.
 use Prim.Native.Nat.{ℕ, zero, suc, _-_, _^_, _≤_, _<_}
-use mathlib.Core.Path.{_≡_, refl, sym, ap, ap₂, _∙_, subst}
+use mathlib.Core.Path.{_≡_, refl, sym, ap, ap₂, _∙_}
 use mathlib.Core.Logic.{_↔_}
 use mathlib.Core.Bool.{Bool, true, false, not, cond, _&&_}
 use mathlib.Core.List.{List, [], _∷_, _++_, map}
 use native.Mathlib.Omega.{arith}
 use lib.Dec.{T, eqb}
-use lib.Bits.{bitAnd, bitOr, and-zero-l, and-zero-r}
+use lib.Bits.{bitAnd, bitOr, and-zero-l}
 use lib.ListN.{length, getD, take, drop, replicate, length-map, length-take}
 use lib.Seq.{take-at}
 use Rattle.kinds.specs.Limits.{ruleLimit}

@@ -1,5 +1,5 @@
 -- What the loops over a `not` list and over the marks keep.
-use Prim.Native.Nat.{ℕ, zero, suc, _+_, _-_, _≤_, _<_}
+use Prim.Native.Nat.{ℕ, suc, _+_, _-_, _≤_, _<_}
 use mathlib.Core.Path.{_≡_, sym, ap, _∙_}
 use mathlib.Core.Bool.{Bool, true, false, not, _||_}
 use mathlib.Core.List.{List, [], _∷_}
@@ -7,10 +7,13 @@ use native.Mathlib.Numerals.{add-one}
 use native.Mathlib.Omega.{arith}
 use lib.ListN.{length, getD, take, drop, drop-of-length-le}
 use lib.Seq.{drop-cons}
-use Rattle.rules.specs.Lists.{some}
+use Rattle.kinds.specs.Limits.{walkAtoms}
+use Rattle.rules.specs.Lists.{All, some}
 use Rattle.rules.specs.Sets.{has}
 use Rattle.rules.proofs.Lists.{part-sized}
 use Rattle.stores.specs.RuleStore.{heads, bodies, nots, ruleAt}
+use Rattle.stores.specs.StoredRules.{StoredRule}
+use Rattle.masks.proofs.RulesFill.{bodies-below, nots-below}
 use Rattle.stable_verdict.specs.ReductMarks.{keeps?, markedAt}
 
 -- some atom of a list is in m, one atom further
@@ -28,10 +31,20 @@ module _ (m : ℕ) (xs : List ℕ) (i : ℕ) (e : some (has m) xs ≡ some (has 
   pub some-none : length xs ≤ i → false ≡ some (has m) xs
   some-none l = sym (e ∙ ap (some (has m)) (drop-of-length-le xs l))
 
--- the `not` list of the rule at the front, as the code takes it
-pub kept-read : (ws : List ℕ) (m : ℕ) (b : Bool) → b ≡ some (has m) (take (3 + heads ws + bodies ws + nots ws - (3 + heads ws + bodies ws)) (drop (3 + heads ws + bodies ws) ws)) → not b ≡ keeps? m (ruleAt ws)
-unfolding ruleAt
-kept-read ws m b e = ap not (e ∙ ap (some (has m)) (part-sized (3 + heads ws + bodies ws) (nots ws) (drop (3 + heads ws + bodies ws) ws)))
+-- the lists of the rule at the front, as the code takes them
+module _ (ws : List ℕ) where
+  abbrev bodyPart : List ℕ
+  bodyPart = take (3 + heads ws + bodies ws - (3 + heads ws)) (drop (3 + heads ws) ws)
+
+  abbrev notPart : List ℕ
+  notPart = take (3 + heads ws + bodies ws + nots ws - (3 + heads ws + bodies ws)) (drop (3 + heads ws + bodies ws) ws)
+
+  pub lists-below : StoredRule walkAtoms ws → All (λ a. a < walkAtoms) bodyPart × All (λ a. a < walkAtoms) notPart
+  lists-below h = (bodies-below ws h, nots-below ws h)
+
+  pub kept-read : (m : ℕ) (b : Bool) → b ≡ some (has m) notPart → not b ≡ keeps? m (ruleAt ws)
+  unfolding ruleAt
+  kept-read m b e = ap not (e ∙ ap (some (has m)) (part-sized (3 + heads ws + bodies ws) (nots ws) (drop (3 + heads ws + bodies ws) ws)))
 
 -- the set mark with so many before it, one mark further
 module _ (before : ℕ) (ms : List Bool) (left j : ℕ) (e : markedAt before ms ≡ j + markedAt left (drop j ms)) where

@@ -7,7 +7,7 @@ use native.Mathlib.Nat.{add-zero}
 use native.Mathlib.Numerals.{add-one}
 use native.Mathlib.Omega.{arith}
 use lib.ListN.{length, getD, take, drop, set, replicate, length-append, length-map, length-set, length-replicate}
-use lib.Seq.{drop-cons, take-suc, take-suc-set, take-all, set-at, append-snoc, getD-set-same, lt-length-set, length-take-le}
+use lib.Seq.{drop-cons, take-suc, take-suc-set, take-all, set-at, append-snoc, getD-set-same, length-take-le}
 use borrow.Rule.Slice.PartMut.{midOf, putMid, set-mid-at}
 use Rattle.kinds.specs.Limits.{walkAtoms, ruleLimit}
 use Rattle.kinds.specs.declared.limits.Kind.the-variants.{Plain}
@@ -15,7 +15,7 @@ use Rattle.rules.specs.Lists.{keep, filter, over}
 use Rattle.rules.specs.Rules.{Rule}
 use Rattle.rules.proofs.Lists.{part-rest}
 use Rattle.stores.specs.RuleStore.{places, ruleAt, rulesFrom}
-use Rattle.stores.specs.StoredRules.{StoredRule, StoredRules}
+use Rattle.stores.specs.StoredRules.{StoredRules}
 use Rattle.stores.proofs.RuleStores.{rules-count}
 use Rattle.masks.specs.Masks.{careOf, wantOf}
 use Rattle.masks.proofs.RulesFill.{Filling, fill-begins, fill-more}
@@ -41,14 +41,6 @@ filter-last p (a ∷ l) x = step (p a) (filter-last p l x)
     step : (b : Bool) → filter p (l ++ (x ∷ [])) ≡ filter p l ++ keep (p x) x [] → keep b a (filter p (l ++ (x ∷ []))) ≡ keep b a (filter p l) ++ keep (p x) x []
     step true e = ap (λ r. a ∷ r) e
     step false e = e
-
-filter-short : {A : Type 0} (p : A → Bool) (l : List A) → length (filter p l) ≤ length l
-filter-short p [] = omega arith
-filter-short p (a ∷ l) = step (p a) (filter-short p l)
-  where
-    step : (b : Bool) → length (filter p l) ≤ length l → length (keep b a (filter p l)) ≤ suc (length l)
-    step true h = omega arith
-    step false h = omega arith
 
 module _ (m : ℕ) (rs : List (Rule ℕ)) (r : Rule ℕ) where
   -- the mark of one rule more
@@ -77,15 +69,15 @@ module _ (m : ℕ) (rs : List (Rule ℕ)) (r : Rule ℕ) where
       ∙ sym (map-append f (filter (keeps? m) rs) (r ∷ [])) ∙ ap (map f) (sym (kept-here e))
 
 module _ {m : ℕ} {rs : List (Rule ℕ)} {cs wants : List ℕ} {kept : ℕ} (d : KeptMasks m rs cs wants kept) (r : Rule ℕ) where
-  front-more : keeps? m r ≡ true → (kept < length cs) × (kept < length wants) → KeptMasks m (rs ++ (r ∷ [])) (set cs kept (careOf 0 r)) (set wants kept (wantOf 0 r)) (kept + 1)
-  front-more e l = record {
+  masks-kept : keeps? m r ≡ true → (kept < length cs) × (kept < length wants) → KeptMasks m (rs ++ (r ∷ [])) (set cs kept (careOf 0 r)) (set wants kept (wantOf 0 r)) (kept + 1)
+  masks-kept e l = record {
     count = omega (arith, d .count, ap length (kept-here m rs r e), length-append (filter (keeps? m) rs) (r ∷ []));
     care-front = masks-more m rs r (careOf 0) cs kept e (l .0) (d .care-front);
     want-front = masks-more m rs r (wantOf 0) wants kept e (l .1) (d .want-front);
   }
 
-  front-same : keeps? m r ≡ false → KeptMasks m (rs ++ (r ∷ [])) cs wants kept
-  front-same e = record {
+  masks-dropped : keeps? m r ≡ false → KeptMasks m (rs ++ (r ∷ [])) cs wants kept
+  masks-dropped e = record {
     count = d .count ∙ ap length (sym (dropped-here m rs r e));
     care-front = d .care-front ∙ ap (map (careOf 0)) (sym (dropped-here m rs r e));
     want-front = d .want-front ∙ ap (map (wantOf 0)) (sym (dropped-here m rs r e));
@@ -103,47 +95,29 @@ module _ (ws : List ℕ) (rules m : ℕ) (c₀ w₀ : List ℕ) where
     pub walk : Filling ws rules m c₀ w₀ all-care all-want at j
     pub marked : marks ≡ marksOf m (take j (rulesFrom rules ws))
     pub masked : KeptMasks m (take j (rulesFrom rules ws)) cs wants kept
-    pub same-care : length cs ≡ length c₀
-    pub same-want : length wants ≡ length w₀
+    pub few : kept ≤ j
+    pub mark-room : (rules ≤ ruleLimit Plain) × (length marks ≡ ruleLimit Plain)
+    pub care-room : (rules ≤ length c₀) × (length cs ≡ length c₀)
+    pub want-room : (rules ≤ length w₀) × (length wants ≡ length w₀)
 
-  pub reduct-begins : (marks : List Bool) → StoredRules walkAtoms rules ws → marks ≡ replicate (ruleLimit Plain) false → Reducing marks c₀ w₀ 0 0 0
+  pub reduct-begins : (marks : List Bool) → StoredRules walkAtoms rules ws → rules ≤ ruleLimit Plain → marks ≡ replicate (ruleLimit Plain) false → (rules ≤ length c₀) × (rules ≤ length w₀) → Reducing marks c₀ w₀ 0 0 0
   unfolding marksOf
-  reduct-begins marks h e = record {
+  reduct-begins marks h l e long = record {
     all-care = c₀;
     all-want = w₀;
     walk = fill-begins ws rules m c₀ w₀ h;
     marked = e;
     masked = record { count = refl; care-front = refl; want-front = refl };
-    same-care = refl;
-    same-want = refl;
+    few = omega arith;
+    mark-room = (l, ap length e ∙ length-replicate (ruleLimit Plain) false);
+    care-room = (long .0, refl);
+    want-room = (long .1, refl);
   }
 
-  module _ (marks : List Bool) (cs wants : List ℕ) (at kept j : ℕ) (d : Reducing marks cs wants at kept j) (few : rules ≤ ruleLimit Plain) where
-    passed-length : length (passed j) ≡ j
-    passed-length = length-take-le j (rulesFrom rules ws) (omega (arith, rules-count rules ws, d .walk .inside))
-
-    pub marks-length : length marks ≡ ruleLimit Plain
-    unfolding marksOf
-    marks-length =
-        let k : ℕ = ruleLimit Plain - length (passed j) in
-        omega (arith, ap length (d .marked), length-append (map (keeps? m) (passed j)) (replicate k false), length-map (passed j) (keeps? m), length-replicate k false, passed-length, d .walk .inside)
-
-  module _ (marks : List Bool) (cs wants : List ℕ) (at kept j : ℕ) (d : Reducing marks cs wants at kept j) (few : rules ≤ ruleLimit Plain) (l : j < rules) (long : (rules ≤ length c₀) × (rules ≤ length w₀)) where
+  module _ (marks : List Bool) (cs wants : List ℕ) (at kept j : ℕ) (d : Reducing marks cs wants at kept j) (l : j < rules) where
     -- what the code hands on
     abbrev front : List ℕ
     front = take (length ws - at) (drop at ws)
-
-    pub mark-room : j < length marks
-    mark-room = omega (arith, marks-length marks cs wants at kept j d few)
-
-    pub mark-again : (b : Bool) → j < length (set marks j b)
-    mark-again b = lt-length-set marks j b mark-room
-
-    pub kept-few : kept ≤ j
-    kept-few = omega (arith, d .masked .count, filter-short (keeps? m) (passed j), passed-length marks cs wants at kept j d few)
-
-    pub mask-room : (kept < length cs) × (kept < length wants)
-    mask-room = let f = kept-few in let a = d .same-care in let b = d .same-want in (omega arith, omega arith)
 
     next-rule : passed (j + 1) ≡ passed j ++ (ruleAt front ∷ [])
     unfolding rulesFrom
@@ -159,27 +133,34 @@ module _ (ws : List ℕ) (rules m : ℕ) (c₀ w₀ : List ℕ) where
     module _ (b : Bool) (is-mark : b ≡ keeps? m (ruleAt front)) (size : ℕ) (is-size : size ≡ 3 + places front) where
       -- the mark, as it is read again
       mark-is : getD (set marks j b) j false ≡ keeps? m (ruleAt front)
-      mark-is = getD-set-same marks j b false mark-room ∙ is-mark
+      mark-is = getD-set-same marks j b false (omega (arith, d .mark-room .0, d .mark-room .1)) ∙ is-mark
 
-      goes-on : {cs′ wants′ : List ℕ} {kept′ : ℕ} → length cs′ ≡ length cs → length wants′ ≡ length wants → KeptMasks m (passed j ++ (ruleAt front ∷ [])) cs′ wants′ kept′ → Reducing (set marks j b) cs′ wants′ (at + size) kept′ (j + 1)
-      goes-on {cs′} {wants′} {kept′} p q f = record {
+      goes-on : {cs′ wants′ : List ℕ} {kept′ : ℕ} → length cs′ ≡ length cs → length wants′ ≡ length wants → kept′ ≤ j + 1 → KeptMasks m (passed j ++ (ruleAt front ∷ [])) cs′ wants′ kept′ → Reducing (set marks j b) cs′ wants′ (at + size) kept′ (j + 1)
+      goes-on {cs′} {wants′} {kept′} p q n f = record {
         all-care = set (d .all-care) j (careOf m (ruleAt front));
         all-want = set (d .all-want) j (wantOf m (ruleAt front));
-        walk = fill-more ws rules m c₀ w₀ (d .all-care) (d .all-want) at j (d .walk) l long (careOf m (ruleAt front)) (wantOf m (ruleAt front)) size is-size (refl, refl);
+        walk = fill-more ws rules m c₀ w₀ (d .all-care) (d .all-want) at j (d .walk) l (d .care-room .0, d .want-room .0) (careOf m (ruleAt front)) (wantOf m (ruleAt front)) size is-size (refl, refl);
         marked =
             ap₂ (λ (l : List Bool) (t : Bool). set l j t) (d .marked) is-mark
-            ∙ marks-more m (passed j) (ruleAt front) j (passed-length marks cs wants at kept j d few) (omega arith) ∙ ap (marksOf m) (sym next-rule);
+            ∙ marks-more m (passed j) (ruleAt front) j (length-take-le j (rulesFrom rules ws) (omega (arith, rules-count rules ws))) (omega (arith, d .mark-room .0))
+            ∙ ap (marksOf m) (sym next-rule);
         masked = subst (λ (rs : List (Rule ℕ)). KeptMasks m rs cs′ wants′ kept′) (sym next-rule) f;
-        same-care = p ∙ d .same-care;
-        same-want = q ∙ d .same-want;
+        few = n;
+        mark-room = (d .mark-room .0, length-set marks j b ∙ d .mark-room .1);
+        care-room = (d .care-room .0, p ∙ d .care-room .1);
+        want-room = (d .want-room .0, q ∙ d .want-room .1);
       }
 
       pub reduct-keeps : getD (set marks j b) j false ≡ true → {cs′ wants′ : List ℕ} {kept′ : ℕ} → cs′ ≡ set cs kept (careOf 0 (ruleAt front)) → wants′ ≡ set wants kept (wantOf 0 (ruleAt front)) → kept′ ≡ kept + 1
           → Reducing (set marks j b) cs′ wants′ (at + size) kept′ (j + 1)
-      reduct-keeps t p q n = rw (p, q, n) (goes-on (length-set cs kept (careOf 0 (ruleAt front))) (length-set wants kept (wantOf 0 (ruleAt front))) (front-more (d .masked) (ruleAt front) (sym mark-is ∙ t) mask-room))
+      reduct-keeps t p q n =
+          let room : (kept < length cs) × (kept < length wants) = (omega (arith, d .few, d .care-room .0, d .care-room .1), omega (arith, d .few, d .want-room .0, d .want-room .1)) in
+          rw (p, q, n)
+          (goes-on (length-set cs kept (careOf 0 (ruleAt front))) (length-set wants kept (wantOf 0 (ruleAt front))) (omega (arith, d .few))
+          (masks-kept (d .masked) (ruleAt front) (sym mark-is ∙ t) room))
 
       pub reduct-drops : getD (set marks j b) j false ≡ false → {cs′ wants′ : List ℕ} {kept′ : ℕ} → cs′ ≡ cs → wants′ ≡ wants → kept′ ≡ kept → Reducing (set marks j b) cs′ wants′ (at + size) kept′ (j + 1)
-      reduct-drops t p q n = rw (p, q, n) (goes-on refl refl (front-same (d .masked) (ruleAt front) (sym mark-is ∙ t)))
+      reduct-drops t p q n = rw (p, q, n) (goes-on refl refl (omega (arith, d .few)) (masks-dropped (d .masked) (ruleAt front) (sym mark-is ∙ t)))
 
   pub reduct-ends : (marks : List Bool) (cs wants : List ℕ) (at kept j : ℕ) → Reducing marks cs wants at kept j → rules ≤ j → (marks ≡ marksOf m (rulesFrom rules ws)) × KeptMasks m (rulesFrom rules ws) cs wants kept
   reduct-ends marks cs wants at kept j d l =

@@ -94,15 +94,15 @@ pub fn marked_at(marks: &[bool], before: usize) -> usize
     ensures { λ r. ⌜ r ≡ markedAt before (now (marks .entry)) ⌝ }
 {
     let mut left = before;
-    let mut j = 0;
-    while j < marks.len() {
-        if marks[j] {
+    let mut place = 0;
+    while place < marks.len() {
+        if marks[place] {
             if left == 0 {
-                return j;
+                return place;
             }
             left -= 1;
         }
-        j += 1;
+        place += 1;
     }
-    j
+    place
 }

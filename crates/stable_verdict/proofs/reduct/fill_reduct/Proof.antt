@@ -2,12 +2,12 @@ use Prim.Native.Nat.{_-_}
 use mathlib.Core.Path.{sym, ap, _∙_}
 use mathlib.Core.Bool.{false}
 use mathlib.Core.Logic.{⊎-elim}
-use lib.ListN.{length, length-replicate}
+use lib.ListN.{length, length-set, length-replicate}
 use Rattle.kinds.specs.Limits.{ruleLimit}
 use Rattle.kinds.specs.declared.limits.Kind.the-variants.{Plain}
 use native.Mathlib.Omega.{arith}
 use Rattle.masks.proofs.RulesFill.{fill-rule, fill-place}
-use Rattle.stable_verdict.proofs.ReductFill.{Reducing, reduct-begins, marks-length, mark-room, mark-again, kept-few, mask-room, reduct-keeps, reduct-drops, reduct-ends}
+use Rattle.stable_verdict.proofs.ReductFill.{Reducing, reduct-begins, reduct-keeps, reduct-drops, reduct-ends}
 use borrow.Author.Needs.{needs}
 use Rattle.stable_verdict.proofs.reduct.fill_reduct.Statement.{statement}
 use Rattle.stable_verdict.proofs.reduct.fill_reduct.Tie as tie
@@ -19,7 +19,7 @@ abbrev μ-loop : tie.MeasureT-loop
 μ-loop words rules of marks₀ care₀ want₀ from₀ kept₀ j₀ marks care want from kept j = rules - j
 
 loop-holds : tie.Need-loop-holds Inv-loop μ-loop
-loop-holds c = reduct-begins _ _ _ _ _ _ (c .before .before .before .before .pre .0) (c .before .before .before .before .pre .1 .1 .0)
+loop-holds c = reduct-begins _ _ _ _ _ _ (c .before .before .before .before .pre .0) (c .before .before .before .before .pre .1 .0) (c .before .before .before .before .pre .1 .1 .0) (c .before .before .before .before .pre .1 .1 .1)
 
 mul-rule-size : tie.Need-mul-rule-size Inv-loop μ-loop
 mul-rule-size c = omega (arith, fill-place _ _ _ _ _ _ _ _ _ (c .before .loop .inv .walk) (c .loop-test .taken))
@@ -52,10 +52,10 @@ is-kept-requires : tie.Need-is-kept-requires Inv-loop μ-loop
 is-kept-requires c κs = fill-rule _ _ _ _ _ _ _ _ _ (c .before .before .before .before .loop .inv .walk) (c .before .before .before .loop-test .taken)
 
 slice-write-marks : tie.Need-slice-write-marks Inv-loop μ-loop
-slice-write-marks c = mark-room _ _ _ _ _ _ _ _ _ _ _ (c .before .before .before .before .before .loop .inv) (c .before .before .before .before .before .before .before .before .before .before .pre .1 .0) (c .before .before .before .before .loop-test .taken) (c .before .before .before .before .before .before .before .before .before .before .pre .1 .1 .1)
+slice-write-marks c = search needs
 
 slice-read-if1 : tie.Need-slice-read-if1 Inv-loop μ-loop
-slice-read-if1 c = mark-again _ _ _ _ _ _ _ _ _ _ _ (c .before .before .before .before .before .before .loop .inv) (c .before .before .before .before .before .before .before .before .before .before .before .pre .1 .0) (c .before .before .before .before .before .loop-test .taken) (c .before .before .before .before .before .before .before .before .before .before .before .pre .1 .1 .1) _
+slice-read-if1 c = simp length-set (omega arith)
 
 mul-put-rule : tie.Need-mul-put-rule Inv-loop μ-loop
 mul-put-rule c = omega (arith, fill-place _ _ _ _ _ _ _ _ _ (c .before .before .before .before .before .before .before .loop .inv .walk) (c .before .before .before .before .before .before .loop-test .taken))
@@ -70,10 +70,10 @@ part-put-rule-end : tie.Need-part-put-rule-end Inv-loop μ-loop
 part-put-rule-end c = search needs
 
 put-rule-requires : tie.Need-put-rule-requires Inv-loop μ-loop
-put-rule-requires c κs = (fill-rule _ _ _ _ _ _ _ _ _ (c .before .before .before .before .before .before .before .before .before .before .loop .inv .walk) (c .before .before .before .before .before .before .before .before .before .loop-test .taken), mask-room _ _ _ _ _ _ _ _ _ _ _ (c .before .before .before .before .before .before .before .before .before .before .loop .inv) (c .before .before .before .before .before .before .before .before .before .before .before .before .before .before .before .pre .1 .0) (c .before .before .before .before .before .before .before .before .before .loop-test .taken) (c .before .before .before .before .before .before .before .before .before .before .before .before .before .before .before .pre .1 .1 .1))
+put-rule-requires c κs = (fill-rule _ _ _ _ _ _ _ _ _ (c .before .before .before .before .before .before .before .before .before .before .loop .inv .walk) (c .before .before .before .before .before .before .before .before .before .loop-test .taken), (search needs, search needs))
 
 add-kept : tie.Need-add-kept Inv-loop μ-loop
-add-kept c = omega (arith, kept-few _ _ _ _ _ _ _ _ _ _ _ (c .before .before .before .before .before .before .before .before .before .before .before .before .before .before .before .loop .inv) (c .before .before .before .before .before .before .before .before .before .before .before .before .before .before .before .before .before .before .before .before .pre .1 .0) (c .before .before .before .before .before .before .before .before .before .before .before .before .before .before .loop-test .taken) (c .before .before .before .before .before .before .before .before .before .before .before .before .before .before .before .before .before .before .before .before .pre .1 .1 .1))
+add-kept c = search needs
 
 add-from : tie.Need-add-from Inv-loop μ-loop
 add-from c = omega (arith, fill-place _ _ _ _ _ _ _ _ _ (c .before .before .before .before .before .before .before .loop .inv .walk) (c .before .before .before .before .before .before .loop-test .taken), c .before .before .before .before .rule-size .ensures)
@@ -86,12 +86,12 @@ loop-less c = search needs
 
 loop-again : tie.Need-loop-again Inv-loop μ-loop
 loop-again c = ⊎-elim
-    (λ w. reduct-keeps _ _ _ _ _ _ _ _ _ _ _ (c .before .before .before .before .before .before .before .loop .inv) (c .before .before .before .before .before .before .before .before .before .before .before .before .pre .1 .0) (c .before .before .before .before .before .before .loop-test .taken) (c .before .before .before .before .before .before .before .before .before .before .before .before .pre .1 .1 .1) _ (c .before .before .is-kept .ensures) _ (c .before .before .before .before .rule-size .ensures) (w .0 .taken) (w .9 ∙ w .4 .ensures .0) (w .10 ∙ w .4 .ensures .1) (w .11))
-    (λ w. reduct-drops _ _ _ _ _ _ _ _ _ _ _ (c .before .before .before .before .before .before .before .loop .inv) (c .before .before .before .before .before .before .before .before .before .before .before .before .pre .1 .0) (c .before .before .before .before .before .before .loop-test .taken) (c .before .before .before .before .before .before .before .before .before .before .before .before .pre .1 .1 .1) _ (c .before .before .is-kept .ensures) _ (c .before .before .before .before .rule-size .ensures) (w .0 .left) (w .1) (w .2) (w .3))
+    (λ w. reduct-keeps _ _ _ _ _ _ _ _ _ _ _ (c .before .before .before .before .before .before .before .loop .inv) (c .before .before .before .before .before .before .loop-test .taken) _ (c .before .before .is-kept .ensures) _ (c .before .before .before .before .rule-size .ensures) (w .0 .taken) (w .9 ∙ w .4 .ensures .0) (w .10 ∙ w .4 .ensures .1) (w .11))
+    (λ w. reduct-drops _ _ _ _ _ _ _ _ _ _ _ (c .before .before .before .before .before .before .before .loop .inv) (c .before .before .before .before .before .before .loop-test .taken) _ (c .before .before .is-kept .ensures) _ (c .before .before .before .before .rule-size .ensures) (w .0 .left) (w .1) (w .2) (w .3))
     (c .if1 .came)
 
 same-length : tie.Need-same-length Inv-loop μ-loop
-same-length c = marks-length _ _ _ _ _ _ _ _ _ _ _ (c .before .loop .inv) (c .before .before .before .before .before .before .pre .1 .0) ∙ sym (ap length (c .before .before .before .before .before .before .pre .1 .1 .0) ∙ length-replicate (ruleLimit Plain) false)
+same-length c = c .before .loop .inv .mark-room .1 ∙ sym (ap length (c .before .before .before .before .before .before .pre .1 .1 .0) ∙ length-replicate (ruleLimit Plain) false)
 
 same-length-2 : tie.Need-same-length-2 Inv-loop μ-loop
 same-length-2 c = search needs

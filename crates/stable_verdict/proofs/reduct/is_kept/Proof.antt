@@ -1,5 +1,4 @@
-use Rattle.masks.proofs.RulesFill.{nots-below}
-use Rattle.stable_verdict.proofs.MarkLoops.{kept-read}
+use Rattle.stable_verdict.proofs.MarkLoops.{lists-below, kept-read}
 use borrow.Author.Needs.{needs}
 use Rattle.stable_verdict.proofs.reduct.is_kept.Statement.{statement}
 use Rattle.stable_verdict.proofs.reduct.is_kept.Tie as tie
@@ -44,7 +43,7 @@ part-some-in-end : tie.Need-part-some-in-end
 part-some-in-end c = search needs
 
 some-in-requires : tie.Need-some-in-requires
-some-in-requires c κs = nots-below _ (c .before .before .before .before .before .pre)
+some-in-requires c κs = let h = lists-below _ (c .before .before .before .before .before .pre) in search needs
 
 returns : tie.Need-returns
 returns c = kept-read _ _ _ (c .some-in .ensures)

@@ -1,4 +1,4 @@
-use Prim.Native.Nat.{_-_, _≤_}
+use Prim.Native.Nat.{_-_}
 use mathlib.Core.Path.{_≡_, refl, ap, _∙_}
 use lib.ListN.{length, drop}
 use Rattle.rules.specs.Lists.{some}
@@ -10,13 +10,13 @@ use Rattle.stable_verdict.proofs.reduct.some_in.Statement.{statement}
 use Rattle.stable_verdict.proofs.reduct.some_in.Tie as tie
 
 abbrev Inv-loop : tie.InvT-loop
-Inv-loop set atoms i₀ i = (i ≤ length atoms) × (some (has set) atoms ≡ some (has set) (drop i atoms))
+Inv-loop set atoms i₀ i = some (has set) atoms ≡ some (has set) (drop i atoms)
 
 abbrev μ-loop : tie.MeasureT-loop
 μ-loop set atoms i₀ i = length atoms - i
 
 loop-holds : tie.Need-loop-holds Inv-loop μ-loop
-loop-holds c = (search needs, refl)
+loop-holds c = refl
 
 mul-wide : tie.Need-mul-wide Inv-loop μ-loop
 mul-wide c = search needs
@@ -31,7 +31,7 @@ is-in-requires : tie.Need-is-in-requires Inv-loop μ-loop
 is-in-requires c κs = atom-below (c .before .before .before .before .before .args .atoms .now) (c .before .before .before .before .before .pre) _ _ (c .before .before .loop-test .taken) (c .wide .ensures)
 
 returns : tie.Need-returns Inv-loop μ-loop
-returns c = some-found _ _ _ (c .before .before .before .before .before .loop .inv .1) (c .before .before .before .before .loop-test .taken) _ (c .before .is-in .ensures ∙ ap (has _) (c .before .before .wide .ensures)) (c .if1 .taken)
+returns c = some-found _ _ _ (c .before .before .before .before .before .loop .inv) (c .before .before .before .before .loop-test .taken) _ (c .before .is-in .ensures ∙ ap (has _) (c .before .before .wide .ensures)) (c .if1 .taken)
 
 add-i : tie.Need-add-i Inv-loop μ-loop
 add-i c = search needs
@@ -40,10 +40,10 @@ loop-less : tie.Need-loop-less Inv-loop μ-loop
 loop-less c = search needs
 
 loop-again : tie.Need-loop-again Inv-loop μ-loop
-loop-again c = (search needs, some-more _ _ _ (c .before .before .before .before .before .loop .inv .1) (c .before .before .before .before .loop-test .taken) _ (c .before .is-in .ensures ∙ ap (has _) (c .before .before .wide .ensures)) (c .if1 .left))
+loop-again c = some-more _ _ _ (c .before .before .before .before .before .loop .inv) (c .before .before .before .before .loop-test .taken) _ (c .before .is-in .ensures ∙ ap (has _) (c .before .before .wide .ensures)) (c .if1 .left)
 
 returns-2 : tie.Need-returns-2 Inv-loop μ-loop
-returns-2 c = some-none _ _ _ (c .before .loop .inv .1) (c .loop-test .left)
+returns-2 c = some-none _ _ _ (c .before .loop .inv) (c .loop-test .left)
 
 pub some-in-spec : {M : Type 1} → statement M
 some-in-spec =
