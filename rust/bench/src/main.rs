@@ -126,6 +126,15 @@ fn walk_row(what: &str, which: usize, walk: &Walk, number: u64, budget: u64) {
     row(what, expected.units as f64, "Mu/s", &contestants);
 }
 
+fn stable_row(atoms: usize, rules: usize) {
+    let plain = inputs::stable(atoms, rules);
+    let what = format!(
+        "stable, {atoms} atoms, {rules} rules, {} units",
+        plain.units
+    );
+    walk_row(&what, 1, &plain, plain.set, 1 << 40);
+}
+
 fn walk_rows() {
     for (atoms, rules) in [(20, 20), (24, 200), (24, 1_000)] {
         let walk = inputs::preferred(atoms, rules);
@@ -134,16 +143,13 @@ fn walk_rows() {
             walk.units
         );
         walk_row(&what, 0, &walk, walk.set, 1 << 40);
-        let plain = inputs::stable(atoms, rules);
-        let what = format!(
-            "stable, {atoms} atoms, {rules} rules, {} units",
-            plain.units
-        );
-        walk_row(&what, 1, &plain, plain.set, 1 << 40);
+        stable_row(atoms, rules);
         let budget = 1 << 24;
         let what = format!("listing, {atoms} atoms, {rules} rules, {budget} units");
         walk_row(&what, 2, &walk, 0, budget);
     }
+    // As many rules as a plain program may have.
+    stable_row(24, 4_200);
 }
 
 /// A call that writes a text into a lent output; true where it is written.

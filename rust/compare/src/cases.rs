@@ -315,6 +315,52 @@ pub fn many_atoms(check: &mut Checker, random: &mut Random) -> Checked {
     Ok(())
 }
 
+/// A rule of short lists that holds at the set, or one that the set breaks. There is an atom.
+fn rule_at(random: &mut Random, atoms: usize, set: u64, holds: bool) -> Rule {
+    loop {
+        let mut list = || {
+            let count = random.below(3);
+            random.choose(count, atoms)
+        };
+        let rule = Rule {
+            head: list(),
+            body: list(),
+            not: list(),
+        };
+        if is_model(std::slice::from_ref(&rule), set) == holds {
+            return rule;
+        }
+    }
+}
+
+/// Stable verdicts by programs of which the reduct drops some rules, small ones and the largest:
+/// on a model, on a set that breaks a rule or two, and on sets beside it.
+pub fn reducts(check: &mut Checker, random: &mut Random) -> Checked {
+    let mut program = Program::empty(Kind::Plain);
+    program.atoms = random.within(1, 9);
+    let sets = 1u64 << program.atoms;
+    let set = random.any() % sets;
+    let most = *random.pick(&[4, 4, 12, 12, 12, 60, 300, 4_200]);
+    let count = random.within(most / 2, most);
+    for _ in 0..count {
+        let rule = rule_at(random, program.atoms, set, true);
+        program.rules.push(rule);
+    }
+    for _ in 0..random.below(3) {
+        let place = random.below(count);
+        program.rules[place] = rule_at(random, program.atoms, set, false);
+    }
+    let rules = rule_store(&program);
+    let beside = set ^ (1 << random.below(program.atoms));
+    for set in [set, beside, random.any() % sets] {
+        let verdict = lent::stable(&rules, set, BUDGET_LIMIT);
+        for budget in budgets(random, verdict.as_ref().map_or(0, verdict_units)) {
+            check.stable(&rules, set, budget)?;
+        }
+    }
+    Ok(())
+}
+
 /// A long file of either kind, near the limits or past them, and the same damaged.
 pub fn long(check: &mut Checker, random: &mut Random) -> Checked {
     let sizes = [(256, 1_024, 8), (256, 60, 256), (120, 300, 12)];

@@ -10,7 +10,7 @@ use std::time::{Duration, Instant};
 type Family = fn(&mut Checker, &mut Random) -> Checked;
 
 /// The families with how often each has its turn in a round.
-const FAMILIES: [(&str, Family, usize); 9] = [
+const FAMILIES: [(&str, Family, usize); 10] = [
     ("valid files", cases::valid, 60),
     ("damaged texts", cases::damaged_text, 40),
     ("no files", cases::soup, 20),
@@ -20,6 +20,7 @@ const FAMILIES: [(&str, Family, usize); 9] = [
     ("every word of a store", cases::every_word, 1),
     ("long files", cases::long, 2),
     ("edges of names", cases::edges_of_names, 20),
+    ("reducts", cases::reducts, 40),
 ];
 
 /// When a run ends: when both are reached.

@@ -2,6 +2,10 @@
 
 use compare::engine::{Engine, ReadAnswer, Reference, TextAnswer, VerdictAnswer};
 use compare::run::{run, Until};
+use reference::limits::Kind;
+use reference::program::Rule;
+use reference::stores::{check_rules_of, rule_store};
+use reference::verdicts::reduct;
 use std::time::Duration;
 
 /// What is wrong with an engine.
@@ -21,9 +25,13 @@ enum Slip {
     FirstStateOnly,
     ChecksBudgetBeforeSet,
     EmptySetTakesAUnit,
+    FirstNotAtomSkipped,
+    MarkOfTheRuleBefore,
+    MarkByTheBody,
+    NumberedAmongTheKept,
 }
 
-const SLIPS: [Slip; 14] = [
+const SLIPS: [Slip; 18] = [
     Slip::RefusesEverything,
     Slip::WritesOnRefusal,
     Slip::WritesPastTheEnd,
@@ -38,7 +46,24 @@ const SLIPS: [Slip; 14] = [
     Slip::FirstStateOnly,
     Slip::ChecksBudgetBeforeSet,
     Slip::EmptySetTakesAUnit,
+    Slip::FirstNotAtomSkipped,
+    Slip::MarkOfTheRuleBefore,
+    Slip::MarkByTheBody,
+    Slip::NumberedAmongTheKept,
 ];
+
+/// The store with other `not` lists, by which the reduct then keeps other rules; as it is where
+/// it is none of a plain program.
+fn with_nots(rules: &[u16], nots: impl Fn(&[Rule], usize) -> Vec<usize>) -> Vec<u16> {
+    let Ok(mut program) = check_rules_of(Kind::Plain, rules) else {
+        return rules.to_vec();
+    };
+    let before = program.rules.clone();
+    for (place, rule) in program.rules.iter_mut().enumerate() {
+        rule.not = nots(&before, place);
+    }
+    rule_store(&program)
+}
 
 struct Wrong(Slip);
 
@@ -118,8 +143,27 @@ impl Engine for Wrong {
 
     fn stable(&self, rules: &[u16], set: u64, budget: u64) -> VerdictAnswer {
         let mut answer = Reference.stable(rules, set, budget);
-        if self.0 == Slip::EmptySetTakesAUnit && answer.kind == 0 && set == 0 {
-            answer.units += 1;
+        match self.0 {
+            Slip::EmptySetTakesAUnit if answer.kind == 0 && set == 0 => answer.units += 1,
+            Slip::FirstNotAtomSkipped => {
+                let nots =
+                    |rules: &[Rule], i: usize| rules[i].not.iter().skip(1).copied().collect();
+                answer = Reference.stable(&with_nots(rules, nots), set, budget);
+            }
+            Slip::MarkOfTheRuleBefore => {
+                let nots = |rules: &[Rule], i: usize| rules[i.saturating_sub(1)].not.clone();
+                answer = Reference.stable(&with_nots(rules, nots), set, budget);
+            }
+            Slip::MarkByTheBody => {
+                let nots = |rules: &[Rule], i: usize| rules[i].body.clone();
+                answer = Reference.stable(&with_nots(rules, nots), set, budget);
+            }
+            Slip::NumberedAmongTheKept if answer.kind == 1 => {
+                let program = check_rules_of(Kind::Plain, rules).expect("it was judged");
+                let earlier = &program.rules[..answer.value as usize];
+                answer.value = reduct(earlier, set).len() as u64;
+            }
+            _ => {}
         }
         answer
     }
