@@ -1,4 +1,4 @@
--- The laws of the walk over the proper subsets.
+-- The laws of the reduct and of the walk over the proper subsets.
 pub mod SubsetSteps
 pub mod ProperSubsets
 pub mod MarkLoops
