@@ -127,7 +127,7 @@ module _ (m : ℕ) where
       step false i l q = omega (arith, q i l)
 
   -- the rules that some set breaks are the same, gathered from all or from those kept
-  module _ (gathered : List ℕ → List ℕ → List ℕ) (pick : ℕ → ℕ → ℕ) (none : gathered [] [] ≡ []) (one : (c w : ℕ) (cs ws : List ℕ) → gathered (c ∷ cs) (w ∷ ws) ≡ keep (eqb (bitAnd w c) w) (pick c w) (gathered cs ws)) where
+  module _ (gathered : List ℕ → List ℕ → List ℕ) (pick : ℕ → ℕ → ℕ) (one : (c w : ℕ) (cs ws : List ℕ) → gathered (c ∷ cs) (w ∷ ws) ≡ keep (eqb (bitAnd w c) w) (pick c w) (gathered cs ws)) where
     gathered-alike : (rs : List (Rule ℕ)) → gathered (care rs) (want rs) ≡ gathered (keptCare rs) (keptWant rs)
     gathered-alike [] = refl
     gathered-alike (r ∷ rs) = one (careOf m r) (wantOf m r) (care rs) (want rs) ∙ step (keeps? m r) refl (gathered-alike rs)
@@ -145,11 +145,11 @@ module _ (m : ℕ) where
 
   care-gathered : (rs : List (Rule ℕ)) → gatherCare (care rs) (want rs) ≡ gatherCare (keptCare rs) (keptWant rs)
   unfolding gatherCare
-  care-gathered = gathered-alike gatherCare (λ c w. c) refl (λ c w cs ws. refl)
+  care-gathered = gathered-alike gatherCare (λ c w. c) (λ c w cs ws. refl)
 
   want-gathered : (rs : List (Rule ℕ)) → gatherWant (care rs) (want rs) ≡ gatherWant (keptCare rs) (keptWant rs)
   unfolding gatherWant
-  want-gathered = gathered-alike gatherWant (λ c w. w) refl (λ c w cs ws. refl)
+  want-gathered = gathered-alike gatherWant (λ c w. w) (λ c w cs ws. refl)
 
 first-le : (s : ℕ) (cs ws : List ℕ) → firstM s cs ws ≤ length cs
 unfolding firstM
