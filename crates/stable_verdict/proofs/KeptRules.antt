@@ -1,4 +1,4 @@
--- The rules that the reduct keeps, against all rules: what a mark means, the same first broken rule, the same rules to try.
+-- The reduct against all rules: what a mark means, the same first broken rule, the same rules to try.
 use Prim.Native.Nat.{ℕ, zero, suc, _-_, _^_, _≤_, _<_}
 use mathlib.Core.Path.{_≡_, refl, sym, ap, ap₂, _∙_}
 use mathlib.Core.Logic.{_↔_}
@@ -6,14 +6,14 @@ use mathlib.Core.Bool.{Bool, true, false, not, cond, _&&_}
 use mathlib.Core.List.{List, [], _∷_, _++_, map}
 use native.Mathlib.Omega.{arith}
 use lib.Dec.{T, eqb}
-use lib.Bits.{bitAnd, bitOr, and-zero-l}
+use lib.Bits.{bitAnd, bitOr}
 use lib.ListN.{length, getD, take, drop, replicate, length-map, length-take}
 use lib.Seq.{take-at}
 use Rattle.kinds.specs.Limits.{ruleLimit}
 use Rattle.kinds.specs.declared.limits.Kind.the-variants.{Plain}
-use Rattle.rules.specs.Lists.{All, keep, filter, over}
+use Rattle.rules.specs.Lists.{All, keep, over}
 use Rattle.rules.specs.Sets.{has, Out}
-use Rattle.rules.specs.Rules.{Rule, rule, countIf}
+use Rattle.rules.specs.Rules.{Rule, rule, reduct, countIf}
 use Rattle.rules.proofs.Booleans.{bool-ext, is-false}
 use Rattle.rules.proofs.Rules.{all-out}
 use Rattle.stores.specs.RuleStore.{rulesFrom, decode}
@@ -26,20 +26,20 @@ use Rattle.masks.proofs.MaskBits.{some-mask, disjoint}
 use Rattle.masks.proofs.RuleMasks.{never}
 use Rattle.masks.proofs.RulesFill.{front-of}
 use Rattle.masks.proofs.CheckedStore.{PlainHeader, PlainReady, plain-ready, stable-broken-ready, stable-ready}
-use Rattle.stable_verdict.specs.ReductMarks.{keeps?, marksOf, markedAt, KeptMasks}
+use Rattle.stable_verdict.specs.ReductMarks.{MarksMean, keeps?, marksOf, markedAt}
+use Rattle.stable_verdict.proofs.ReductFill.{bare, asked-none}
 
--- a mark is set exactly when its place is that of a rule none of whose `not` atoms is in m
-pub mark-law : (m : ℕ) (rs : List (Rule ℕ)) (i : ℕ) → T (getD (marksOf m rs) i false) ↔ ((i < length rs) × All (Out (has m)) (getD rs i (rule [] [] []) .nots))
+pub mark-law : (m : ℕ) (rs : List (Rule ℕ)) → MarksMean m rs (marksOf m rs)
 unfolding marksOf
 mark-law m rs i = at rs i (ruleLimit Plain - length rs)
   where
+    none : (i k : ℕ) → T (getD (replicate k false) i false) → ⊥
+    none i zero t = t
+    none zero (suc k) t = t
+    none (suc i) (suc k) t = none i k t
+
     at : (rs : List (Rule ℕ)) (i k : ℕ) → T (getD (map (keeps? m) rs ++ replicate k false) i false) ↔ ((i < length rs) × All (Out (has m)) (getD rs i (rule [] [] []) .nots))
     at [] i k = (λ t. absurd (none i k t), λ h. absurd (let l = h .0 in omega arith))
-      where
-        none : (i k : ℕ) → T (getD (replicate k false) i false) → ⊥
-        none i zero t = t
-        none zero (suc k) t = t
-        none (suc i) (suc k) t = none i k t
     at (r ∷ rs) zero k = (λ t. (omega arith, all-out (has m) (r .nots) .0 t), λ h. all-out (has m) (r .nots) .1 (h .1))
     at (r ∷ rs) (suc i) k = let q = at rs i k in (λ t. let h = q .0 t in (omega (arith, h .0), h .1), λ h. q .1 (let l = h .0 in omega arith, h .1))
 
@@ -54,14 +54,14 @@ module _ (m : ℕ) where
 
   -- the masks of a rule that is kept are those without its `not` list; the others are never met
   module _ (r : Rule ℕ) where
-    alike : keeps? m r ≡ true → asked m r ≡ asked 0 r
-    alike e = asked-is r e ∙ ap (λ (n : ℕ). eqb n 0 && breakable (maskOf (r .head)) (maskOf (r .body))) (sym (and-zero-l (maskOf (r .nots))))
+    alike : keeps? m r ≡ true → asked m r ≡ asked 0 (bare r)
+    alike e = asked-is r e ∙ sym (asked-none (bare r))
 
-    care-kept : keeps? m r ≡ true → careOf m r ≡ careOf 0 r
+    care-kept : keeps? m r ≡ true → careOf m r ≡ careOf 0 (bare r)
     unfolding careOf
     care-kept e = ap (λ (t : Bool). cond t (bitOr (maskOf (r .head)) (maskOf (r .body))) 0) (alike e)
 
-    want-kept : keeps? m r ≡ true → wantOf m r ≡ wantOf 0 r
+    want-kept : keeps? m r ≡ true → wantOf m r ≡ wantOf 0 (bare r)
     unfolding wantOf
     want-kept e = ap (λ (t : Bool). cond t (maskOf (r .body)) 1) (alike e)
 
@@ -73,21 +73,21 @@ module _ (m : ℕ) where
     unfolding wantOf
     want-dropped e = ap (λ (t : Bool). cond t (maskOf (r .body)) 1) (asked-is r e)
 
-  -- the masks of all rules, and of those kept
+  -- the masks of all rules, and of the reduct
   abbrev care : List (Rule ℕ) → List ℕ
   care rs = map (careOf m) rs
 
   abbrev want : List (Rule ℕ) → List ℕ
   want rs = map (wantOf m) rs
 
-  abbrev keptCare : List (Rule ℕ) → List ℕ
-  keptCare rs = map (careOf 0) (filter (keeps? m) rs)
+  abbrev reductCare : List (Rule ℕ) → List ℕ
+  reductCare rs = map (careOf 0) (reduct rs (has m))
 
-  abbrev keptWant : List (Rule ℕ) → List ℕ
-  keptWant rs = map (wantOf 0) (filter (keeps? m) rs)
+  abbrev reductWant : List (Rule ℕ) → List ℕ
+  reductWant rs = map (wantOf 0) (reduct rs (has m))
 
-  -- the first broken rule of all is the one marked as the first broken rule of those kept
-  first-marked : (rs : List (Rule ℕ)) → firstM m (care rs) (want rs) ≡ markedAt (firstM m (keptCare rs) (keptWant rs)) (map (keeps? m) rs)
+  -- the first broken rule is the one marked as the first broken rule of the reduct
+  first-marked : (rs : List (Rule ℕ)) → firstM m (care rs) (want rs) ≡ markedAt (firstM m (reductCare rs) (reductWant rs)) (map (keeps? m) rs)
   unfolding firstM markedAt
   first-marked [] = refl
   first-marked (r ∷ rs) = step (keeps? m r) refl (first-marked rs)
@@ -96,58 +96,58 @@ module _ (m : ℕ) where
       told true f c ms e = ap suc e
       told false f c ms e = refl
 
-      step : (b : Bool) → keeps? m r ≡ b → firstM m (care rs) (want rs) ≡ markedAt (firstM m (keptCare rs) (keptWant rs)) (map (keeps? m) rs)
+      step : (b : Bool) → keeps? m r ≡ b → firstM m (care rs) (want rs) ≡ markedAt (firstM m (reductCare rs) (reductWant rs)) (map (keeps? m) rs)
           → countIf (not (eqb (bitAnd m (careOf m r)) (wantOf m r))) (firstM m (care rs) (want rs))
-          ≡ markedAt (firstM m (map (careOf 0) (keep b r (filter (keeps? m) rs))) (map (wantOf 0) (keep b r (filter (keeps? m) rs)))) (b ∷ map (keeps? m) rs)
+          ≡ markedAt (firstM m (map (careOf 0) (keep b (bare r) (reduct rs (has m)))) (map (wantOf 0) (keep b (bare r) (reduct rs (has m))))) (b ∷ map (keeps? m) rs)
       step true e q =
           ap₂ (λ (c w : ℕ). countIf (not (eqb (bitAnd m c) w)) (firstM m (care rs) (want rs))) (care-kept r e) (want-kept r e)
-          ∙ told (not (eqb (bitAnd m (careOf 0 r)) (wantOf 0 r))) (firstM m (care rs) (want rs)) (firstM m (keptCare rs) (keptWant rs)) (map (keeps? m) rs) q
+          ∙ told (not (eqb (bitAnd m (careOf 0 (bare r))) (wantOf 0 (bare r)))) (firstM m (care rs) (want rs)) (firstM m (reductCare rs) (reductWant rs)) (map (keeps? m) rs) q
       step false e q =
           ap₂ (λ (c w : ℕ). countIf (not (eqb (bitAnd m c) w)) (firstM m (care rs) (want rs))) (care-dropped r e) (want-dropped r e)
           ∙ ap (λ (t : Bool). countIf (not t) (firstM m (care rs) (want rs))) (is-false (eqb (bitAnd m 0) 1) (never m)) ∙ ap suc q
 
-  -- as many marks are set as rules are kept
-  marked-all : (rs : List (Rule ℕ)) → markedAt (length (filter (keeps? m) rs)) (map (keeps? m) rs) ≡ length rs
+  -- as many marks are set as the reduct has rules
+  marked-all : (rs : List (Rule ℕ)) → markedAt (length (reduct rs (has m))) (map (keeps? m) rs) ≡ length rs
   unfolding markedAt
   marked-all [] = refl
   marked-all (r ∷ rs) = step (keeps? m r) (marked-all rs)
     where
-      step : (b : Bool) → markedAt (length (filter (keeps? m) rs)) (map (keeps? m) rs) ≡ length rs → markedAt (length (keep b r (filter (keeps? m) rs))) (b ∷ map (keeps? m) rs) ≡ suc (length rs)
+      step : (b : Bool) → markedAt (length (reduct rs (has m))) (map (keeps? m) rs) ≡ length rs → markedAt (length (keep b (bare r) (reduct rs (has m)))) (b ∷ map (keeps? m) rs) ≡ suc (length rs)
       step true e = ap suc e
       step false e = ap suc e
 
-  marked-inside : (rs : List (Rule ℕ)) (i : ℕ) → i < length (filter (keeps? m) rs) → markedAt i (map (keeps? m) rs) < length rs
+  marked-inside : (rs : List (Rule ℕ)) (i : ℕ) → i < length (reduct rs (has m)) → markedAt i (map (keeps? m) rs) < length rs
   unfolding markedAt
   marked-inside [] i l = absurd (omega arith)
   marked-inside (r ∷ rs) i l = step (keeps? m r) i l (marked-inside rs)
     where
-      step : (b : Bool) (i : ℕ) → i < length (keep b r (filter (keeps? m) rs)) → ((k : ℕ) → k < length (filter (keeps? m) rs) → markedAt k (map (keeps? m) rs) < length rs) → markedAt i (b ∷ map (keeps? m) rs) < suc (length rs)
+      step : (b : Bool) (i : ℕ) → i < length (keep b (bare r) (reduct rs (has m))) → ((k : ℕ) → k < length (reduct rs (has m)) → markedAt k (map (keeps? m) rs) < length rs) → markedAt i (b ∷ map (keeps? m) rs) < suc (length rs)
       step true zero l q = omega arith
       step true (suc i) l q = omega (arith, q i (omega arith))
       step false i l q = omega (arith, q i l)
 
-  -- the rules that some set breaks are the same, gathered from all or from those kept
+  -- the rules that some set breaks are the same, gathered from all rules or from the reduct
   module _ (gathered : List ℕ → List ℕ → List ℕ) (pick : ℕ → ℕ → ℕ) (one : (c w : ℕ) (cs ws : List ℕ) → gathered (c ∷ cs) (w ∷ ws) ≡ keep (eqb (bitAnd w c) w) (pick c w) (gathered cs ws)) where
-    gathered-alike : (rs : List (Rule ℕ)) → gathered (care rs) (want rs) ≡ gathered (keptCare rs) (keptWant rs)
+    gathered-alike : (rs : List (Rule ℕ)) → gathered (care rs) (want rs) ≡ gathered (reductCare rs) (reductWant rs)
     gathered-alike [] = refl
     gathered-alike (r ∷ rs) = one (careOf m r) (wantOf m r) (care rs) (want rs) ∙ step (keeps? m r) refl (gathered-alike rs)
       where
-        step : (b : Bool) → keeps? m r ≡ b → gathered (care rs) (want rs) ≡ gathered (keptCare rs) (keptWant rs)
+        step : (b : Bool) → keeps? m r ≡ b → gathered (care rs) (want rs) ≡ gathered (reductCare rs) (reductWant rs)
             → keep (eqb (bitAnd (wantOf m r) (careOf m r)) (wantOf m r)) (pick (careOf m r) (wantOf m r)) (gathered (care rs) (want rs))
-            ≡ gathered (map (careOf 0) (keep b r (filter (keeps? m) rs))) (map (wantOf 0) (keep b r (filter (keeps? m) rs)))
+            ≡ gathered (map (careOf 0) (keep b (bare r) (reduct rs (has m)))) (map (wantOf 0) (keep b (bare r) (reduct rs (has m))))
         step true e q =
             ap₂ (λ (c w : ℕ). keep (eqb (bitAnd w c) w) (pick c w) (gathered (care rs) (want rs))) (care-kept r e) (want-kept r e)
-            ∙ ap (keep (eqb (bitAnd (wantOf 0 r) (careOf 0 r)) (wantOf 0 r)) (pick (careOf 0 r) (wantOf 0 r))) q
-            ∙ sym (one (careOf 0 r) (wantOf 0 r) (keptCare rs) (keptWant rs))
+            ∙ ap (keep (eqb (bitAnd (wantOf 0 (bare r)) (careOf 0 (bare r))) (wantOf 0 (bare r))) (pick (careOf 0 (bare r)) (wantOf 0 (bare r)))) q
+            ∙ sym (one (careOf 0 (bare r)) (wantOf 0 (bare r)) (reductCare rs) (reductWant rs))
         step false e q =
             ap₂ (λ (c w : ℕ). keep (eqb (bitAnd w c) w) (pick c w) (gathered (care rs) (want rs))) (care-dropped r e) (want-dropped r e)
             ∙ ap (λ (t : Bool). keep t (pick 0 1) (gathered (care rs) (want rs))) (is-false (eqb (bitAnd 1 0) 1) (never 1)) ∙ q
 
-  care-gathered : (rs : List (Rule ℕ)) → gatherCare (care rs) (want rs) ≡ gatherCare (keptCare rs) (keptWant rs)
+  care-gathered : (rs : List (Rule ℕ)) → gatherCare (care rs) (want rs) ≡ gatherCare (reductCare rs) (reductWant rs)
   unfolding gatherCare
   care-gathered = gathered-alike gatherCare (λ c w. c) (λ c w cs ws. refl)
 
-  want-gathered : (rs : List (Rule ℕ)) → gatherWant (care rs) (want rs) ≡ gatherWant (keptCare rs) (keptWant rs)
+  want-gathered : (rs : List (Rule ℕ)) → gatherWant (care rs) (want rs) ≡ gatherWant (reductCare rs) (reductWant rs)
   unfolding gatherWant
   want-gathered = gathered-alike gatherWant (λ c w. w) (λ c w cs ws. refl)
 
@@ -161,27 +161,48 @@ first-le s (c ∷ cs) (w ∷ ws) = step (not (eqb (bitAnd s c) w)) (first-le s c
     step true h = omega arith
     step false h = omega arith
 
--- the rules of a checked store are marked by m, and the masks of those kept stand at the front
+-- the rules of a plain store, as the code takes their words
+abbrev rulesIn : List ℕ → ℕ → List (Rule ℕ)
+rulesIn ws r = rulesFrom r (take (length ws - 4) (drop 4 ws))
+
+-- the rules of a checked store are marked by m, and the masks of its reduct stand at the front
 pub record ReductReady (ws : List ℕ) (r m : ℕ) (marks : List Bool) (cs wants : List ℕ) (kept : ℕ) : Type 0 where
   pub header : PlainHeader ws r
-  pub marked : marks ≡ marksOf m (rulesFrom r (take (length ws - 4) (drop 4 ws)))
-  pub masks : KeptMasks m (rulesFrom r (take (length ws - 4) (drop 4 ws))) cs wants kept
+  pub marked : marks ≡ marksOf m (rulesIn ws r)
+  pub care-front : take kept cs ≡ map (careOf 0) (reduct (rulesIn ws r) (has m))
+  pub want-front : take kept wants ≡ map (wantOf 0) (reduct (rulesIn ws r) (has m))
+  pub count : kept ≡ length (reduct (rulesIn ws r) (has m))
+
+module _ (ws : List ℕ) (r m : ℕ) where
+  abbrev inReduct : List (Rule ℕ)
+  inReduct = reduct (rulesIn ws r) (has m)
+
+  reduct-front : (f : Rule ℕ → ℕ) (d l : List ℕ) (n : ℕ) → l ≡ over (map f inReduct) d → n ≡ length inReduct → take n l ≡ map f inReduct
+  reduct-front f d l n e k = ap (take n) e ∙ front-of (map f inReduct) d n (length-map inReduct f ∙ sym k)
+
+  pub reduct-ready : {marks : List Bool} {cs wants : List ℕ} {kept : ℕ} (c₀ w₀ : List ℕ) → PlainHeader ws r
+      → (marks ≡ marksOf m (rulesIn ws r)) × ((cs ≡ over (map (careOf 0) inReduct) c₀) × ((wants ≡ over (map (wantOf 0) inReduct) w₀) × (kept ≡ length inReduct)))
+      → ReductReady ws r m marks cs wants kept
+  reduct-ready {marks} {cs} {wants} {kept} c₀ w₀ h q = record {
+    header = h;
+    marked = q .0;
+    care-front = reduct-front (careOf 0) c₀ cs kept (q .1 .0) (q .1 .1 .1);
+    want-front = reduct-front (wantOf 0) w₀ wants kept (q .1 .1 .0) (q .1 .1 .1);
+    count = q .1 .1 .1;
+  }
 
 module _ {ws : List ℕ} {r m : ℕ} {marks : List Bool} {cs wants : List ℕ} {kept : ℕ} (d : ReductReady ws r m marks cs wants kept) where
   abbrev rules : List (Rule ℕ)
-  rules = rulesFrom r (take (length ws - 4) (drop 4 ws))
+  rules = rulesIn ws r
 
   rules-length : length rules ≡ r
   rules-length = rules-count r (take (length ws - 4) (drop 4 ws))
 
-  kept-length : (f : Rule ℕ → ℕ) → length (map f (filter (keeps? m) rules)) ≡ kept
-  kept-length f = length-map (filter (keeps? m) rules) f ∙ sym (d .masks .count)
-
   pub kept-care-length : kept ≡ length (take kept cs)
-  kept-care-length = sym (ap length (d .masks .care-front) ∙ kept-length (careOf 0))
+  kept-care-length = sym (ap length (d .care-front) ∙ length-map (reduct rules (has m)) (careOf 0) ∙ sym (d .count))
 
   pub kept-want-length : kept ≡ length (take kept wants)
-  kept-want-length = sym (ap length (d .masks .want-front) ∙ kept-length (wantOf 0))
+  kept-want-length = sym (ap length (d .want-front) ∙ length-map (reduct rules (has m)) (wantOf 0) ∙ sym (d .count))
 
   marks-front : take r marks ≡ map (keeps? m) rules
   unfolding marksOf
@@ -204,19 +225,19 @@ module _ {ws : List ℕ} {r m : ℕ} {marks : List Bool} {cs wants : List ℕ} {
     first-is : firstM m (take r (over (map (careOf m) rules) [])) (take r (over (map (wantOf m) rules) [])) ≡ markedAt i (map (keeps? m) rules)
     first-is =
         ap₂ (firstM m) (all-front (careOf m)) (all-front (wantOf m)) ∙ first-marked m rules
-        ∙ ap (λ (k : ℕ). markedAt k (map (keeps? m) rules)) (ap₂ (firstM m) (sym (d .masks .care-front)) (sym (d .masks .want-front)) ∙ sym e)
+        ∙ ap (λ (k : ℕ). markedAt k (map (keeps? m) rules)) (ap₂ (firstM m) (sym (d .care-front)) (sym (d .want-front)) ∙ sym e)
 
     pub broken-ready : (b n : ℕ) → (i ≡ kept → ⊥) → n ≡ markedAt i (take r marks) → Broken n ≡ stableVerdict (decode ws .atoms) (decode ws .rules) m b
     broken-ready b n ne q =
         let p : n ≡ markedAt i (map (keeps? m) rules) = q ∙ ap (markedAt i) marks-front in
-        let l : i < length (filter (keeps? m) rules) = omega (arith, first-le m (take kept cs) (take kept wants), kept-care-length, d .masks .count) in
+        let l : i < length (reduct rules (has m)) = omega (arith, first-le m (take kept cs) (take kept wants), kept-care-length, d .count) in
         stable-broken-ready all-ready b n (p ∙ sym first-is) (λ z. omega (arith, marked-inside m rules i l, rules-length))
 
     pub walk-ready : (b : ℕ) (v : Verdict) (gc gw : List ℕ) → m < 2 ^ decode ws .atoms → i ≡ kept
         → gc ≡ gatherCare (take kept cs) (take kept wants) → gw ≡ gatherWant (take kept cs) (take kept wants) → v ≡ capped b (stableWalkM gc gw m) → v ≡ stableVerdict (decode ws .atoms) (decode ws .rules) m b
     walk-ready b v gc gw inside z x y w =
-        let all : r ≡ markedAt i (map (keeps? m) rules) = sym (ap (λ (k : ℕ). markedAt k (map (keeps? m) rules)) (z ∙ d .masks .count) ∙ marked-all m rules ∙ rules-length) in
-        stable-ready all-ready b r v gc gw inside (all ∙ sym first-is) refl
-        (x ∙ ap₂ gatherCare (d .masks .care-front) (d .masks .want-front) ∙ sym (ap₂ gatherCare (all-front (careOf m)) (all-front (wantOf m)) ∙ care-gathered m rules))
-        (y ∙ ap₂ gatherWant (d .masks .care-front) (d .masks .want-front) ∙ sym (ap₂ gatherWant (all-front (careOf m)) (all-front (wantOf m)) ∙ want-gathered m rules))
+        let whole : r ≡ markedAt i (map (keeps? m) rules) = sym (ap (λ (k : ℕ). markedAt k (map (keeps? m) rules)) (z ∙ d .count) ∙ marked-all m rules ∙ rules-length) in
+        stable-ready all-ready b r v gc gw inside (whole ∙ sym first-is) refl
+        (x ∙ ap₂ gatherCare (d .care-front) (d .want-front) ∙ sym (ap₂ gatherCare (all-front (careOf m)) (all-front (wantOf m)) ∙ care-gathered m rules))
+        (y ∙ ap₂ gatherWant (d .care-front) (d .want-front) ∙ sym (ap₂ gatherWant (all-front (careOf m)) (all-front (wantOf m)) ∙ want-gathered m rules))
         w

@@ -1,32 +1,54 @@
 -- What the loops over a `not` list and over the marks keep.
-use Prim.Native.Nat.{ℕ, suc, _+_, _-_, _≤_, _<_}
-use mathlib.Core.Path.{_≡_, sym, ap, _∙_}
+use Prim.Native.Nat.{ℕ, suc, _+_, _-_, _^_, _≤_, _<_}
+use mathlib.Core.Path.{_≡_, sym, ap, _∙_, subst}
 use mathlib.Core.Bool.{Bool, true, false, not, _||_}
 use mathlib.Core.List.{List, [], _∷_}
 use native.Mathlib.Numerals.{add-one}
 use native.Mathlib.Omega.{arith}
+use lib.Dec.{T, eqb}
+use lib.Bits.{bitAnd}
 use lib.ListN.{length, getD, take, drop, drop-of-length-le}
 use lib.Seq.{drop-cons}
+use borrow.Author.Tests.{eq-eqb, ne-eqb, not-true, not-false}
 use Rattle.kinds.specs.Limits.{walkAtoms}
 use Rattle.rules.specs.Lists.{All, some}
 use Rattle.rules.specs.Sets.{has}
+use Rattle.rules.proofs.Booleans.{bool-ext, T-not-in, T-not-out}
 use Rattle.rules.proofs.Lists.{part-sized}
 use Rattle.stores.specs.RuleStore.{heads, bodies, nots, ruleAt}
 use Rattle.stores.specs.StoredRules.{StoredRule}
+use Rattle.masks.proofs.MaskBits.{has-own, has-only, disjoint}
 use Rattle.masks.proofs.RulesFill.{bodies-below, nots-below}
 use Rattle.stable_verdict.specs.ReductMarks.{keeps?, markedAt}
 
+-- the mask of one atom tells whether it is in m
+module _ (m a : ℕ) where
+  bit-test : eqb (bitAnd m (2 ^ a)) 0 ≡ not (has m a)
+  bit-test = bool-ext (eqb (bitAnd m (2 ^ a)) 0) (not (has m a))
+      (λ t. T-not-in (has m a) (λ k. disjoint m (2 ^ a) .0 t a (has-own a) k))
+      (λ t. disjoint m (2 ^ a) .1 (λ i h k. T-not-out (has m a) t (subst (λ (x : ℕ). T (has m x)) (has-only a i h) k)))
+
+  module _ (b : ℕ) (q : b ≡ 2 ^ a) where
+    told : eqb (bitAnd m b) 0 ≡ not (has m a)
+    told = ap (λ (x : ℕ). eqb (bitAnd m x) 0) q ∙ bit-test
+
+    pub bit-in : (bitAnd m b ≡ 0 → ⊥) → has m a ≡ true
+    bit-in e = not-false (has m a) (sym told ∙ ne-eqb (bitAnd m b) 0 e)
+
+    pub bit-out : bitAnd m b ≡ 0 → has m a ≡ false
+    bit-out e = not-true (has m a) (sym told ∙ eq-eqb (bitAnd m b) 0 e)
+
 -- some atom of a list is in m, one atom further
 module _ (m : ℕ) (xs : List ℕ) (i : ℕ) (e : some (has m) xs ≡ some (has m) (drop i xs)) where
-  module _ (h : i < length xs) (b : Bool) (q : b ≡ has m (getD xs i 0)) where
-    here : some (has m) xs ≡ (b || some (has m) (drop (suc i) xs))
-    here = e ∙ ap (some (has m)) (drop-cons xs i 0 h) ∙ ap (λ (t : Bool). t || some (has m) (drop (suc i) xs)) (sym q)
+  module _ (h : i < length xs) where
+    here : (b : Bool) → has m (getD xs i 0) ≡ b → some (has m) xs ≡ (b || some (has m) (drop (suc i) xs))
+    here b q = e ∙ ap (some (has m)) (drop-cons xs i 0 h) ∙ ap (λ (t : Bool). t || some (has m) (drop (suc i) xs)) q
 
-    pub some-found : b ≡ true → true ≡ some (has m) xs
-    some-found t = sym (here ∙ ap (λ (x : Bool). x || some (has m) (drop (suc i) xs)) t)
+    pub some-found : has m (getD xs i 0) ≡ true → true ≡ some (has m) xs
+    some-found t = sym (here true t)
 
-    pub some-more : b ≡ false → some (has m) xs ≡ some (has m) (drop (i + 1) xs)
-    some-more f = here ∙ ap (λ (x : Bool). x || some (has m) (drop (suc i) xs)) f ∙ ap (λ (k : ℕ). some (has m) (drop k xs)) (sym (add-one i))
+    pub some-more : has m (getD xs i 0) ≡ false → some (has m) xs ≡ some (has m) (drop (i + 1) xs)
+    some-more f = here false f ∙ ap (λ (k : ℕ). some (has m) (drop k xs)) (sym (add-one i))
 
   pub some-none : length xs ≤ i → false ≡ some (has m) xs
   some-none l = sym (e ∙ ap (some (has m)) (drop-of-length-le xs l))

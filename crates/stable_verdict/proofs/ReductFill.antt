@@ -1,25 +1,28 @@
 -- What the loop that fills the reduct keeps: the marks of the rules passed, and the masks of those that are marked.
 use Prim.Native.Nat.{ℕ, suc, _+_, _-_, _≤_, _<_}
 use mathlib.Core.Path.{_≡_, refl, sym, ap, ap₂, _∙_, subst}
-use mathlib.Core.Bool.{Bool, true, false}
+use mathlib.Core.Bool.{Bool, true, false, cond, _&&_}
 use mathlib.Core.List.{List, [], _∷_, _++_, map, map-append, append-nil}
 use native.Mathlib.Nat.{add-zero}
 use native.Mathlib.Numerals.{add-one}
 use native.Mathlib.Omega.{arith}
+use lib.Dec.{eqb}
+use lib.Bits.{bitOr, and-zero-l}
 use lib.ListN.{length, getD, take, drop, set, replicate, length-append, length-map, length-set, length-replicate}
-use lib.Seq.{drop-cons, take-suc, take-suc-set, take-all, set-at, append-snoc, getD-set-same, length-take-le}
+use lib.Seq.{drop-cons, take-suc, take-all, set-at, append-snoc, getD-set-same, length-take-le}
 use borrow.Rule.Slice.PartMut.{midOf, putMid, set-mid-at}
 use Rattle.kinds.specs.Limits.{walkAtoms, ruleLimit}
 use Rattle.kinds.specs.declared.limits.Kind.the-variants.{Plain}
-use Rattle.rules.specs.Lists.{keep, filter, over}
-use Rattle.rules.specs.Rules.{Rule}
+use Rattle.rules.specs.Lists.{keep, over}
+use Rattle.rules.specs.Sets.{has}
+use Rattle.rules.specs.Rules.{Rule, rule, reduct}
 use Rattle.rules.proofs.Lists.{part-rest}
 use Rattle.stores.specs.RuleStore.{places, ruleAt, rulesFrom}
 use Rattle.stores.specs.StoredRules.{StoredRules}
 use Rattle.stores.proofs.RuleStores.{rules-count}
-use Rattle.masks.specs.Masks.{careOf, wantOf}
+use Rattle.masks.specs.Masks.{maskOf, breakable, asked, careOf, wantOf}
 use Rattle.masks.proofs.RulesFill.{Filling, fill-begins, fill-more}
-use Rattle.stable_verdict.specs.ReductMarks.{keeps?, marksOf, KeptMasks}
+use Rattle.stable_verdict.specs.ReductMarks.{keeps?, marksOf}
 
 -- one entry, put at the front of a part that goes to the end
 put-first : (a v : ℕ) (xs ys : List ℕ) → a < length xs → ys ≡ over (v ∷ []) (midOf a (length xs - a) xs) → putMid a (length xs - a) xs ys ≡ set xs a v
@@ -34,54 +37,88 @@ pub put-masks : (f : Rule ℕ → ℕ) (ws : List ℕ) (a : ℕ) (xs ys : List �
 unfolding rulesFrom
 put-masks f ws a xs ys h e = put-first a (f (ruleAt ws)) xs ys h e
 
-filter-last : {A : Type 0} (p : A → Bool) (l : List A) (x : A) → filter p (l ++ (x ∷ [])) ≡ filter p l ++ keep (p x) x []
-filter-last p [] x = refl
-filter-last p (a ∷ l) x = step (p a) (filter-last p l x)
-  where
-    step : (b : Bool) → filter p (l ++ (x ∷ [])) ≡ filter p l ++ keep (p x) x [] → keep b a (filter p (l ++ (x ∷ []))) ≡ keep b a (filter p l) ++ keep (p x) x []
-    step true e = ap (λ r. a ∷ r) e
-    step false e = e
+-- one entry more over what was there
+over-more : (l d : List ℕ) (n v : ℕ) → length l ≡ n → n < length d → set (over l d) n v ≡ over (l ++ (v ∷ [])) d
+over-more l d n v e h =
+    let k : suc (length l) ≡ length (l ++ (v ∷ [])) = omega (arith, length-append l (v ∷ [])) in
+    ap (λ (x : List ℕ). set (l ++ x) n v) (drop-cons d (length l) 0 (omega arith))
+    ∙ set-at l (getD d (length l) 0) (drop (suc (length l)) d) v n e
+    ∙ sym (append-snoc l v (drop (suc (length l)) d)) ∙ ap (λ (i : ℕ). (l ++ (v ∷ [])) ++ drop i d) k
 
-module _ (m : ℕ) (rs : List (Rule ℕ)) (r : Rule ℕ) where
-  -- the mark of one rule more
-  marks-more : (j : ℕ) → length rs ≡ j → j < ruleLimit Plain → set (marksOf m rs) j (keeps? m r) ≡ marksOf m (rs ++ (r ∷ []))
-  unfolding marksOf
-  marks-more j e l =
-      let k : ruleLimit Plain - length rs ≡ suc (ruleLimit Plain - length (rs ++ (r ∷ []))) = omega (arith, length-append rs (r ∷ [])) in
-      let rest : List Bool = replicate (ruleLimit Plain - length (rs ++ (r ∷ []))) false in
-      ap (λ (n : ℕ). set (map (keeps? m) rs ++ replicate n false) j (keeps? m r)) k
-      ∙ set-at (map (keeps? m) rs) false rest (keeps? m r) j (length-map rs (keeps? m) ∙ e)
-      ∙ sym (append-snoc (map (keeps? m) rs) (keeps? m r) rest)
-      ∙ ap (λ (l : List Bool). l ++ rest) (sym (map-append (keeps? m) rs (r ∷ [])))
+-- the masks of a rule by the reduct by the empty set are those without its `not` list
+module _ (r : Rule ℕ) where
+  abbrev pub bare : Rule ℕ
+  bare = rule (r .head) (r .body) []
 
-  kept-here : keeps? m r ≡ true → filter (keeps? m) (rs ++ (r ∷ [])) ≡ filter (keeps? m) rs ++ (r ∷ [])
-  kept-here e = filter-last (keeps? m) rs r ∙ ap (λ (b : Bool). filter (keeps? m) rs ++ keep b r []) e
+  pub asked-none : asked 0 r ≡ breakable (maskOf (r .head)) (maskOf (r .body))
+  asked-none = ap (λ (n : ℕ). eqb n 0 && breakable (maskOf (r .head)) (maskOf (r .body))) (and-zero-l (maskOf (r .nots)))
 
-  dropped-here : keeps? m r ≡ false → filter (keeps? m) (rs ++ (r ∷ [])) ≡ filter (keeps? m) rs
-  dropped-here e = filter-last (keeps? m) rs r ∙ ap (λ (b : Bool). filter (keeps? m) rs ++ keep b r []) e ∙ append-nil (filter (keeps? m) rs)
+module _ (r : Rule ℕ) where
+  care-bare : careOf 0 r ≡ careOf 0 (bare r)
+  unfolding careOf
+  care-bare = ap (λ (t : Bool). cond t (bitOr (maskOf (r .head)) (maskOf (r .body))) 0) (asked-none r ∙ sym (asked-none (bare r)))
 
-  -- the masks of one rule more
-  masks-more : (f : Rule ℕ → ℕ) (cs : List ℕ) (kept : ℕ) → keeps? m r ≡ true → kept < length cs → take kept cs ≡ map f (filter (keeps? m) rs)
-      → take (kept + 1) (set cs kept (f r)) ≡ map f (filter (keeps? m) (rs ++ (r ∷ [])))
-  masks-more f cs kept e l q =
-      ap (λ (n : ℕ). take n (set cs kept (f r))) (add-one kept)
-      ∙ take-suc-set cs kept (f r) l ∙ ap (λ (l : List ℕ). l ++ (f r ∷ [])) q
-      ∙ sym (map-append f (filter (keeps? m) rs) (r ∷ [])) ∙ ap (map f) (sym (kept-here e))
+  want-bare : wantOf 0 r ≡ wantOf 0 (bare r)
+  unfolding wantOf
+  want-bare = ap (λ (t : Bool). cond t (maskOf (r .body)) 1) (asked-none r ∙ sym (asked-none (bare r)))
 
-module _ {m : ℕ} {rs : List (Rule ℕ)} {cs wants : List ℕ} {kept : ℕ} (d : KeptMasks m rs cs wants kept) (r : Rule ℕ) where
-  masks-kept : keeps? m r ≡ true → (kept < length cs) × (kept < length wants) → KeptMasks m (rs ++ (r ∷ [])) (set cs kept (careOf 0 r)) (set wants kept (wantOf 0 r)) (kept + 1)
+module _ (m : ℕ) (r : Rule ℕ) where
+  reduct-last : (rs : List (Rule ℕ)) → reduct (rs ++ (r ∷ [])) (has m) ≡ reduct rs (has m) ++ keep (keeps? m r) (bare r) []
+  reduct-last [] = refl
+  reduct-last (q ∷ rs) = step (keeps? m q) (reduct-last rs)
+    where
+      step : (b : Bool) → reduct (rs ++ (r ∷ [])) (has m) ≡ reduct rs (has m) ++ keep (keeps? m r) (bare r) [] → keep b (bare q) (reduct (rs ++ (r ∷ [])) (has m)) ≡ keep b (bare q) (reduct rs (has m)) ++ keep (keeps? m r) (bare r) []
+      step true e = ap (λ (l : List (Rule ℕ)). bare q ∷ l) e
+      step false e = e
+
+  module _ (rs : List (Rule ℕ)) where
+    -- the mark of one rule more
+    marks-more : (j : ℕ) → length rs ≡ j → j < ruleLimit Plain → set (marksOf m rs) j (keeps? m r) ≡ marksOf m (rs ++ (r ∷ []))
+    unfolding marksOf
+    marks-more j e l =
+        let k : ruleLimit Plain - length rs ≡ suc (ruleLimit Plain - length (rs ++ (r ∷ []))) = omega (arith, length-append rs (r ∷ [])) in
+        let rest : List Bool = replicate (ruleLimit Plain - length (rs ++ (r ∷ []))) false in
+        ap (λ (n : ℕ). set (map (keeps? m) rs ++ replicate n false) j (keeps? m r)) k
+        ∙ set-at (map (keeps? m) rs) false rest (keeps? m r) j (length-map rs (keeps? m) ∙ e)
+        ∙ sym (append-snoc (map (keeps? m) rs) (keeps? m r) rest)
+        ∙ ap (λ (l : List Bool). l ++ rest) (sym (map-append (keeps? m) rs (r ∷ [])))
+
+    kept-here : keeps? m r ≡ true → reduct (rs ++ (r ∷ [])) (has m) ≡ reduct rs (has m) ++ (bare r ∷ [])
+    kept-here e = reduct-last rs ∙ ap (λ (b : Bool). reduct rs (has m) ++ keep b (bare r) []) e
+
+    dropped-here : keeps? m r ≡ false → reduct (rs ++ (r ∷ [])) (has m) ≡ reduct rs (has m)
+    dropped-here e = reduct-last rs ∙ ap (λ (b : Bool). reduct rs (has m) ++ keep b (bare r) []) e ∙ append-nil (reduct rs (has m))
+
+    -- the masks of one rule more
+    masks-more : (f : Rule ℕ → ℕ) → f r ≡ f (bare r) → (d : List ℕ) (kept : ℕ) → keeps? m r ≡ true → kept < length d → kept ≡ length (reduct rs (has m))
+        → set (over (map f (reduct rs (has m))) d) kept (f r) ≡ over (map f (reduct (rs ++ (r ∷ [])) (has m))) d
+    masks-more f q d kept e l k =
+        over-more (map f (reduct rs (has m))) d kept (f r) (length-map (reduct rs (has m)) f ∙ sym k) l
+        ∙ ap (λ (v : ℕ). over (map f (reduct rs (has m)) ++ (v ∷ [])) d) q
+        ∙ ap (λ (x : List ℕ). over x d) (sym (ap (map f) (kept-here e) ∙ map-append f (reduct rs (has m)) (bare r ∷ [])))
+
+-- the masks of the reduct of the rules stand over what was there
+pub record Masked (m : ℕ) (rs : List (Rule ℕ)) (c₀ w₀ cs wants : List ℕ) (kept : ℕ) : Type 0 where
+  pub cares : cs ≡ over (map (careOf 0) (reduct rs (has m))) c₀
+  pub want-masks : wants ≡ over (map (wantOf 0) (reduct rs (has m))) w₀
+  pub count : kept ≡ length (reduct rs (has m))
+
+module _ {m : ℕ} {rs : List (Rule ℕ)} {c₀ w₀ cs wants : List ℕ} {kept : ℕ} (d : Masked m rs c₀ w₀ cs wants kept) (r : Rule ℕ) where
+  masks-kept : keeps? m r ≡ true → (kept < length c₀) × (kept < length w₀) → Masked m (rs ++ (r ∷ [])) c₀ w₀ (set cs kept (careOf 0 r)) (set wants kept (wantOf 0 r)) (kept + 1)
   masks-kept e l = record {
-    count = omega (arith, d .count, ap length (kept-here m rs r e), length-append (filter (keeps? m) rs) (r ∷ []));
-    care-front = masks-more m rs r (careOf 0) cs kept e (l .0) (d .care-front);
-    want-front = masks-more m rs r (wantOf 0) wants kept e (l .1) (d .want-front);
+    cares = ap (λ (x : List ℕ). set x kept (careOf 0 r)) (d .cares) ∙ masks-more m r rs (careOf 0) (care-bare r) c₀ kept e (l .0) (d .count);
+    want-masks = ap (λ (x : List ℕ). set x kept (wantOf 0 r)) (d .want-masks) ∙ masks-more m r rs (wantOf 0) (want-bare r) w₀ kept e (l .1) (d .count);
+    count = omega (arith, d .count, ap length (kept-here m r rs e), length-append (reduct rs (has m)) (bare r ∷ []));
   }
 
-  masks-dropped : keeps? m r ≡ false → KeptMasks m (rs ++ (r ∷ [])) cs wants kept
-  masks-dropped e = record {
-    count = d .count ∙ ap length (sym (dropped-here m rs r e));
-    care-front = d .care-front ∙ ap (map (careOf 0)) (sym (dropped-here m rs r e));
-    want-front = d .want-front ∙ ap (map (wantOf 0)) (sym (dropped-here m rs r e));
-  }
+  masks-dropped : keeps? m r ≡ false → Masked m (rs ++ (r ∷ [])) c₀ w₀ cs wants kept
+  masks-dropped e =
+      let q = sym (dropped-here m r rs e) in
+      record {
+        cares = d .cares ∙ ap (λ (x : List (Rule ℕ)). over (map (careOf 0) x) c₀) q;
+        want-masks = d .want-masks ∙ ap (λ (x : List (Rule ℕ)). over (map (wantOf 0) x) w₀) q;
+        count = d .count ∙ ap length q;
+      }
 
 module _ (ws : List ℕ) (rules m : ℕ) (c₀ w₀ : List ℕ) where
   abbrev passed : ℕ → List (Rule ℕ)
@@ -94,7 +131,7 @@ module _ (ws : List ℕ) (rules m : ℕ) (c₀ w₀ : List ℕ) where
     pub all-want : List ℕ
     pub walk : Filling ws rules m c₀ w₀ all-care all-want at j
     pub marked : marks ≡ marksOf m (take j (rulesFrom rules ws))
-    pub masked : KeptMasks m (take j (rulesFrom rules ws)) cs wants kept
+    pub masked : Masked m (take j (rulesFrom rules ws)) c₀ w₀ cs wants kept
     pub few : kept ≤ j
     pub mark-room : (rules ≤ ruleLimit Plain) × (length marks ≡ ruleLimit Plain)
     pub care-room : (rules ≤ length c₀) × (length cs ≡ length c₀)
@@ -107,7 +144,7 @@ module _ (ws : List ℕ) (rules m : ℕ) (c₀ w₀ : List ℕ) where
     all-want = w₀;
     walk = fill-begins ws rules m c₀ w₀ h;
     marked = e;
-    masked = record { count = refl; care-front = refl; want-front = refl };
+    masked = record { cares = refl; want-masks = refl; count = refl };
     few = omega arith;
     mark-room = (l, ap length e ∙ length-replicate (ruleLimit Plain) false);
     care-room = (long .0, refl);
@@ -135,16 +172,16 @@ module _ (ws : List ℕ) (rules m : ℕ) (c₀ w₀ : List ℕ) where
       mark-is : getD (set marks j b) j false ≡ keeps? m (ruleAt front)
       mark-is = getD-set-same marks j b false (omega (arith, d .mark-room .0, d .mark-room .1)) ∙ is-mark
 
-      goes-on : {cs′ wants′ : List ℕ} {kept′ : ℕ} → length cs′ ≡ length cs → length wants′ ≡ length wants → kept′ ≤ j + 1 → KeptMasks m (passed j ++ (ruleAt front ∷ [])) cs′ wants′ kept′ → Reducing (set marks j b) cs′ wants′ (at + size) kept′ (j + 1)
+      goes-on : {cs′ wants′ : List ℕ} {kept′ : ℕ} → length cs′ ≡ length cs → length wants′ ≡ length wants → kept′ ≤ j + 1 → Masked m (passed j ++ (ruleAt front ∷ [])) c₀ w₀ cs′ wants′ kept′ → Reducing (set marks j b) cs′ wants′ (at + size) kept′ (j + 1)
       goes-on {cs′} {wants′} {kept′} p q n f = record {
         all-care = set (d .all-care) j (careOf m (ruleAt front));
         all-want = set (d .all-want) j (wantOf m (ruleAt front));
         walk = fill-more ws rules m c₀ w₀ (d .all-care) (d .all-want) at j (d .walk) l (d .care-room .0, d .want-room .0) (careOf m (ruleAt front)) (wantOf m (ruleAt front)) size is-size (refl, refl);
         marked =
             ap₂ (λ (l : List Bool) (t : Bool). set l j t) (d .marked) is-mark
-            ∙ marks-more m (passed j) (ruleAt front) j (length-take-le j (rulesFrom rules ws) (omega (arith, rules-count rules ws))) (omega (arith, d .mark-room .0))
+            ∙ marks-more m (ruleAt front) (passed j) j (length-take-le j (rulesFrom rules ws) (omega (arith, rules-count rules ws))) (omega (arith, d .mark-room .0))
             ∙ ap (marksOf m) (sym next-rule);
-        masked = subst (λ (rs : List (Rule ℕ)). KeptMasks m rs cs′ wants′ kept′) (sym next-rule) f;
+        masked = subst (λ (rs : List (Rule ℕ)). Masked m rs c₀ w₀ cs′ wants′ kept′) (sym next-rule) f;
         few = n;
         mark-room = (d .mark-room .0, length-set marks j b ∙ d .mark-room .1);
         care-room = (d .care-room .0, p ∙ d .care-room .1);
@@ -154,7 +191,7 @@ module _ (ws : List ℕ) (rules m : ℕ) (c₀ w₀ : List ℕ) where
       pub reduct-keeps : getD (set marks j b) j false ≡ true → {cs′ wants′ : List ℕ} {kept′ : ℕ} → cs′ ≡ set cs kept (careOf 0 (ruleAt front)) → wants′ ≡ set wants kept (wantOf 0 (ruleAt front)) → kept′ ≡ kept + 1
           → Reducing (set marks j b) cs′ wants′ (at + size) kept′ (j + 1)
       reduct-keeps t p q n =
-          let room : (kept < length cs) × (kept < length wants) = (omega (arith, d .few, d .care-room .0, d .care-room .1), omega (arith, d .few, d .want-room .0, d .want-room .1)) in
+          let room : (kept < length c₀) × (kept < length w₀) = (omega (arith, d .few, d .care-room .0), omega (arith, d .few, d .want-room .0)) in
           rw (p, q, n)
           (goes-on (length-set cs kept (careOf 0 (ruleAt front))) (length-set wants kept (wantOf 0 (ruleAt front))) (omega (arith, d .few))
           (masks-kept (d .masked) (ruleAt front) (sym mark-is ∙ t) room))
@@ -162,7 +199,10 @@ module _ (ws : List ℕ) (rules m : ℕ) (c₀ w₀ : List ℕ) where
       pub reduct-drops : getD (set marks j b) j false ≡ false → {cs′ wants′ : List ℕ} {kept′ : ℕ} → cs′ ≡ cs → wants′ ≡ wants → kept′ ≡ kept → Reducing (set marks j b) cs′ wants′ (at + size) kept′ (j + 1)
       reduct-drops t p q n = rw (p, q, n) (goes-on refl refl (omega (arith, d .few)) (masks-dropped (d .masked) (ruleAt front) (sym mark-is ∙ t)))
 
-  pub reduct-ends : (marks : List Bool) (cs wants : List ℕ) (at kept j : ℕ) → Reducing marks cs wants at kept j → rules ≤ j → (marks ≡ marksOf m (rulesFrom rules ws)) × KeptMasks m (rulesFrom rules ws) cs wants kept
+  pub reduct-ends : (marks : List Bool) (cs wants : List ℕ) (at kept j : ℕ) → Reducing marks cs wants at kept j → rules ≤ j
+      → (marks ≡ marksOf m (rulesFrom rules ws)) × ((cs ≡ over (map (careOf 0) (reduct (rulesFrom rules ws) (has m))) c₀)
+      × ((wants ≡ over (map (wantOf 0) (reduct (rulesFrom rules ws) (has m))) w₀) × (kept ≡ length (reduct (rulesFrom rules ws) (has m)))))
   reduct-ends marks cs wants at kept j d l =
       let e : passed j ≡ rulesFrom rules ws = take-all j (rulesFrom rules ws) (omega (arith, rules-count rules ws)) in
-      (d .marked ∙ ap (marksOf m) e, subst (λ (rs : List (Rule ℕ)). KeptMasks m rs cs wants kept) e (d .masked))
+      let f = subst (λ (rs : List (Rule ℕ)). Masked m rs c₀ w₀ cs wants kept) e (d .masked) in
+      (d .marked ∙ ap (marksOf m) e, (f .cares, (f .want-masks, f .count)))

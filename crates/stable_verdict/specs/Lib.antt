@@ -1,2 +1,2 @@
--- The reduct ahead of the walk: its marks and its masks.
+-- The marks of the reduct.
 pub mod ReductMarks

@@ -1,21 +1,25 @@
--- The reduct ahead of the walk (document 02, W-204): a mark for each rule, and the masks of the rules that it keeps.
-use Prim.Native.Nat.{ℕ, zero, suc, _-_}
-use mathlib.Core.Path.{_≡_}
+-- The marks of the reduct: "a rule's mark is set exactly when none of its `not` atoms is in M" (document 02, W-204).
+use Prim.Native.Nat.{ℕ, zero, suc, _-_, _<_}
+use mathlib.Core.Logic.{_↔_}
 use mathlib.Core.Bool.{Bool, true, false, not}
 use mathlib.Core.List.{List, [], _∷_, _++_, map}
-use lib.ListN.{length, take, replicate}
+use lib.Dec.{T}
+use lib.ListN.{length, getD, replicate}
 use Rattle.kinds.specs.Limits.{ruleLimit}
 use Rattle.kinds.specs.declared.limits.Kind.the-variants.{Plain}
-use Rattle.rules.specs.Lists.{some, filter}
-use Rattle.rules.specs.Sets.{has}
-use Rattle.rules.specs.Rules.{Rule}
-use Rattle.masks.specs.Masks.{careOf, wantOf}
+use Rattle.rules.specs.Lists.{All, some}
+use Rattle.rules.specs.Sets.{has, Out}
+use Rattle.rules.specs.Rules.{Rule, rule}
 
--- the reduct by m keeps a rule when none of its `not` atoms is in m
+-- mark i is set exactly when i is the number of a rule none of whose `not` atoms is in m
+abbrev pub MarksMean : ℕ → List (Rule ℕ) → List Bool → Type 0
+MarksMean m rs marks = (i : ℕ) → T (getD marks i false) ↔ ((i < length rs) × All (Out (has m)) (getD rs i (rule [] [] []) .nots))
+
+-- the test
 abbrev pub keeps? : ℕ → Rule ℕ → Bool
 keeps? m r = not (some (has m) (r .nots))
 
--- a place for each rule that a plain program may have; those past the last rule stay false
+-- a place for each rule that a plain program may have
 unfoldable pub marksOf : ℕ → List (Rule ℕ) → List Bool
 marksOf m rs = map (keeps? m) rs ++ replicate (ruleLimit Plain - length rs) false
 
@@ -25,9 +29,3 @@ markedAt i [] = 0
 markedAt i (false ∷ ms) = suc (markedAt i ms)
 markedAt zero (true ∷ ms) = 0
 markedAt (suc i) (true ∷ ms) = suc (markedAt i ms)
-
--- the masks of the rules kept, as rules without `not` atoms, stand at the front
-pub record KeptMasks (m : ℕ) (rs : List (Rule ℕ)) (care want : List ℕ) (kept : ℕ) : Type 0 where
-  pub count : kept ≡ length (filter (keeps? m) rs)
-  pub care-front : take kept care ≡ map (careOf 0) (filter (keeps? m) rs)
-  pub want-front : take kept want ≡ map (wantOf 0) (filter (keeps? m) rs)

@@ -1,26 +1,22 @@
 // The reduct ahead of the walk (document 02, W-204): a mark for each rule, and the masks of the rules that it keeps.
+use masks::masks::bit_of;
 use masks::masks::fill_rules;
 use masks::masks::wide;
 use stores::rule_words::rule_size;
 ghost use mathlib.Core.Path.{_≡_};
 ghost use mathlib.Core.Bool.{false};
+ghost use mathlib.Core.List.{map};
 ghost use Prim.Native.Nat.{_<_, _≤_};
 ghost use lib.ListN.{length, set, replicate};
 ghost use Rattle.kinds.specs.Limits.{walkAtoms, ruleLimit};
 ghost use Rattle.kinds.specs.declared.limits.Kind.the-variants.{Plain as KindPlain};
-ghost use Rattle.rules.specs.Lists.{All, some};
+ghost use Rattle.rules.specs.Lists.{All, some, over};
 ghost use Rattle.rules.specs.Sets.{has};
+ghost use Rattle.rules.specs.Rules.{reduct};
 ghost use Rattle.stores.specs.RuleStore.{ruleAt, rulesFrom};
 ghost use Rattle.stores.specs.StoredRules.{StoredRule, StoredRules};
 ghost use Rattle.masks.specs.Masks.{careOf, wantOf};
-ghost use Rattle.stable_verdict.specs.ReductMarks.{keeps?, marksOf, markedAt, KeptMasks};
-
-fn is_in(set: u64, atom: usize) -> bool
-    requires { ⌜ atom < walkAtoms ⌝ }
-    ensures { λ r. ⌜ r ≡ has set atom ⌝ }
-{
-    (set >> atom) % 2 == 1
-}
+ghost use Rattle.stable_verdict.specs.ReductMarks.{keeps?, marksOf, markedAt};
 
 fn some_in(set: u64, atoms: &[u16]) -> bool
     requires { ⌜ All (λ a. a < walkAtoms) (now atoms) ⌝ }
@@ -28,7 +24,7 @@ fn some_in(set: u64, atoms: &[u16]) -> bool
 {
     let mut i = 0;
     while i < atoms.len() {
-        if is_in(set, wide(atoms[i])) {
+        if set & bit_of(wide(atoms[i])) != 0 {
             return true;
         }
         i += 1;
@@ -57,7 +53,7 @@ fn put_rule(words: &[u16], at: usize, care: &mut [u64], want: &mut [u64])
     fill_rules(words, 1, 0, &mut care[at..], &mut want[at..]);
 }
 
-// Marks the rules that the reduct by `of` keeps and fills their masks, one rule after the other; answers how many they are.
+// Marks the rules that the reduct by `of` keeps and fills the masks of its rules; answers how many they are.
 pub fn fill_reduct(
     words: &[u16],
     rules: usize,
@@ -71,7 +67,9 @@ pub fn fill_reduct(
     requires { ⌜ now marks ≡ replicate (ruleLimit KindPlain) false ⌝ }
     requires { ⌜ (rules ≤ length (now care)) × (rules ≤ length (now want)) ⌝ }
     ensures { λ _. ⌜ now (marks .exit) ≡ marksOf of (rulesFrom rules (now (words .entry))) ⌝ }
-    ensures { λ r. ⌜ KeptMasks of (rulesFrom rules (now (words .entry))) (now (care .exit)) (now (want .exit)) r ⌝ }
+    ensures { λ _. ⌜ now (care .exit) ≡ over (map (careOf 0) (reduct (rulesFrom rules (now (words .entry))) (has of))) (now (care .entry)) ⌝ }
+    ensures { λ _. ⌜ now (want .exit) ≡ over (map (wantOf 0) (reduct (rulesFrom rules (now (words .entry))) (has of))) (now (want .entry)) ⌝ }
+    ensures { λ r. ⌜ r ≡ length (reduct (rulesFrom rules (now (words .entry))) (has of)) ⌝ }
 {
     let mut from = 0;
     let mut kept = 0;

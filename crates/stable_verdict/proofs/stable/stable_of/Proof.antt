@@ -6,7 +6,7 @@ use lib.Seq.{length-take-le}
 use Rattle.masks.proofs.CheckedStore.{PlainHeader, has-header, plain-stored, plain-rules}
 use Rattle.masks.proofs.FilledMasks.{taken-fits}
 use Rattle.stable_verdict.proofs.ProperSubsets.{below-60}
-use Rattle.stable_verdict.proofs.KeptRules.{ReductReady, kept-care-length, kept-want-length, marks-length, marks-fit, broken-ready, walk-ready}
+use Rattle.stable_verdict.proofs.KeptRules.{ReductReady, reduct-ready, kept-care-length, kept-want-length, marks-length, marks-fit, broken-ready, walk-ready}
 use borrow.Author.Needs.{needs}
 use Rattle.stable_verdict.proofs.stable.stable_of.Statement.{statement}
 use Rattle.stable_verdict.proofs.stable.stable_of.Tie as tie
@@ -15,7 +15,7 @@ header : (c : tie.After-wide) → PlainHeader (c .before .before .before .args .
 header c = record { store = c .before .before .before .pre .0; few = c .before .before .before .pre .1 .0; is-plain = c .before .before .before .pre .1 .1 .0; rules-read = c .wide .ensures }
 
 ready : (c : tie.After-fill-reduct) → ReductReady (c .before .before .before .before .before .before .before .before .args .words .now) (c .before .before .before .before .before .wide .result) (c .before .before .before .before .before .before .before .before .args .set) (c .fill-reduct .last .1 .1 .1 .0) (c .fill-reduct .last .1 .1 .1 .1 .0) (c .fill-reduct .last .1 .1 .1 .1 .1 .0) (c .fill-reduct .result)
-ready c = record { header = header (c .before .before .before .before .before); marked = c .fill-reduct .ensures .0; masks = c .fill-reduct .ensures .1 }
+ready c = reduct-ready _ _ _ _ _ (header (c .before .before .before .before .before)) (c .fill-reduct .ensures)
 
 care-fits : (c : tie.After-gather) → c .gather .result ≤ length (c .gather .last .0)
 care-fits c = omega (arith, c .gather .ensures .1 .1, taken-fits _ _ (kept-care-length (ready (c .before .before .before .before .before .before .before .before .before .before))), c .gather .kept .0)
