@@ -1,3 +1,4 @@
 -- The laws of class words and of lists of atoms.
 pub mod Roles
+pub mod Counting
 pub mod ListLaws

@@ -3,14 +3,15 @@ use Prim.Native.Nat.{ℕ, suc, _+_, _-_, _≤_, _<_}
 use native.Mathlib.Omega.{arith}
 use native.Mathlib.Numerals.{add-one}
 use mathlib.Core.Path.{_≡_, refl, sym, ap, _∙_}
-use mathlib.Core.Bool.{Bool, true, false, not}
+use mathlib.Core.Bool.{Bool, true, false}
 use mathlib.Core.List.{List, [], _∷_, _++_}
 use lib.ListN.{length, getD, drop, drop-of-length-le}
 use lib.Seq.{drop-cons}
 use Rattle.rules.specs.Lists.{keep, from}
-use Rattle.pairing.specs.Loops.{fixedWord?}
 use Rattle.output.proofs.Emitting.{Ahead}
-use Rattle.atom_lists.specs.ListWords.{each, single, raised, copyOf, fixedOf}
+use Rattle.atom_lists.specs.ListWords.{each, single, raised}
+use Rattle.atom_lists.specs.Parts.{of?}
+use Rattle.atom_lists.specs.declared.parts.Part.{Part}
 
 pub each-single : (xs : List ℕ) → each single xs ≡ xs
 unfolding each single
@@ -45,24 +46,12 @@ pub single-is : (a : ℕ) → single a ≡ a ∷ []
 unfolding single
 single-is a = refl
 
-pub raised-is : (b a : ℕ) → raised b a ≡ (b + a) ∷ []
-unfolding raised
-raised-is b a = refl
+-- an atom of a part or of another, by its test
+module _ (part : Part) (ws : List ℕ) (b a : ℕ) {is : Bool} (h : is ≡ of? part ws a) where
+  pub of-part : is ≡ true → raised part ws b a ≡ (b + a) ∷ []
+  unfolding raised
+  of-part e = ap (λ (t : Bool). keep t (b + a) []) (sym h ∙ e)
 
-module _ (ws : List ℕ) (s a : ℕ) {fixed : Bool} (h : fixed ≡ fixedWord? ws a) where
-  pub no-copy : fixed ≡ true → [] ≡ copyOf ws s a
-  unfolding copyOf
-  no-copy e = ap (λ (b : Bool). keep (not b) (s + a) []) (sym e ∙ h)
-
-  pub a-copy : fixed ≡ false → copyOf ws s a ≡ (s + a) ∷ []
-  unfolding copyOf
-  a-copy e = ap (λ (b : Bool). keep (not b) (s + a) []) (sym h ∙ e)
-
-module _ (ws : List ℕ) (a : ℕ) {fixed : Bool} (h : fixed ≡ fixedWord? ws a) where
-  pub is-kept : fixed ≡ true → fixedOf ws a ≡ a ∷ []
-  unfolding fixedOf
-  is-kept e = ap (λ (b : Bool). keep b a []) (sym h ∙ e)
-
-  pub not-kept : fixed ≡ false → [] ≡ fixedOf ws a
-  unfolding fixedOf
-  not-kept e = ap (λ (b : Bool). keep b a []) (sym e ∙ h)
+  pub of-another : is ≡ false → [] ≡ raised part ws b a
+  unfolding raised
+  of-another e = ap (λ (t : Bool). keep t (b + a) []) (sym e ∙ h)

@@ -3,11 +3,10 @@ use Prim.Native.Nat.{ℕ, suc, _+_, _-_, _≤_, _<_}
 use native.Mathlib.Omega.{arith}
 use native.Mathlib.Numerals.{add-one}
 use mathlib.Core.Path.{_≡_, sym, ap, _∙_, subst}
-use mathlib.Core.Bool.{Bool, true, false, not}
+use mathlib.Core.Bool.{Bool, true, false}
 use mathlib.Core.List.{List}
 use lib.Dec.{leb, eqb}
-use lib.ListN.{length, getD, drop, drop-of-length-le}
-use lib.Seq.{drop-cons}
+use lib.ListN.{length, getD}
 use borrow.Author.Tests.{le-leb, lt-leb, eq-eqb, ne-eqb}
 use native.Mathlib.Decide.{decLe, ℕ-discrete}
 use Rattle.kinds.specs.Limits.{classLimit, varying, fixed}
@@ -16,10 +15,10 @@ use Rattle.stores.specs.Program.{roleOf}
 use Rattle.stores.specs.declared.roles.Role.{Role}
 use Rattle.stores.specs.declared.roles.Role.the-variants.{Minimised, Varying, Fixed, Unknown}
 use Rattle.stores.proofs.ClassWord.{minimised, varies, is-fixed, below, above}
-use Rattle.pairing.specs.Loops.{fixedWord?}
+use Rattle.pairing.specs.Loops.{minimisedWord?, fixedWord?}
 use Rattle.text.specs.ClassRuns.{upTo}
 use Rattle.text.proofs.ClassWords.{up-to-more, up-to-stop}
-use Rattle.atom_lists.specs.Roles.{pickClass, classOf, Low, fixedAmong}
+use Rattle.atom_lists.specs.Roles.{pickClass, classOf, Low}
 
 -- the class word behind a role
 pub data Told (w : ℕ) : Role → Type 0 where
@@ -42,12 +41,18 @@ tell w = first (decLe 1 w) (decLe w classLimit)
         last (no e) (yes f) = subst (Told w) (is-fixed w f) (told-fixed f)
         last (no e) (no f) = subst (Told w) (above w (omega arith) e f) (told-high (omega arith))
 
--- the class that each role stands for, and whether it is fixed
+-- the class that each role stands for, whether it is minimised, and whether it is fixed
 abbrev pub classIn : Role → ℕ
 classIn (Minimised i) = i
 classIn Varying = 0
 classIn Fixed = 0
 classIn Unknown = 0
+
+abbrev pub minimisedIn : Role → Bool
+minimisedIn (Minimised i) = true
+minimisedIn Varying = false
+minimisedIn Fixed = false
+minimisedIn Unknown = false
 
 abbrev pub fixedIn : Role → Bool
 fixedIn (Minimised i) = false
@@ -62,6 +67,13 @@ class-told {w} (told-fixed e) = let k : classLimit < w = omega arith in rw (lt-l
 class-told {w} (told-low h) = let e : w ≡ 0 = omega arith in rw e
 class-told {w} (told-high h) = let k : classLimit < w = omega arith in rw (lt-leb w classLimit k)
 
+minimised-told : {w : ℕ} {r : Role} → 1 ≤ w → Told w r → minimisedIn r ≡ leb w classLimit
+minimised-told {w} p (told-class l u) = sym (le-leb w classLimit u)
+minimised-told {w} p (told-varying e) = sym (lt-leb w classLimit (omega arith))
+minimised-told {w} p (told-fixed e) = sym (lt-leb w classLimit (omega arith))
+minimised-told {w} p (told-low h) = absurd (omega arith)
+minimised-told {w} p (told-high h) = sym (lt-leb w classLimit (omega arith))
+
 fixed-told : {w : ℕ} {r : Role} → Told w r → fixedIn r ≡ eqb w fixed
 fixed-told {w} (told-class l u) = sym (ne-eqb w fixed (λ e. omega arith))
 fixed-told {w} (told-varying e) = sym (ne-eqb w fixed (λ f. omega arith))
@@ -73,6 +85,9 @@ module _ (ws : List ℕ) (a : ℕ) {role known : Role} (h : role ≡ roleOf (get
   pub class-is : classIn known ≡ classOf ws a
   unfolding classOf
   class-is = ap classIn (sym e ∙ h) ∙ class-told (tell (getD ws a 0))
+
+  pub minimised-is : Low ws → a < length ws → minimisedIn known ≡ minimisedWord? ws a
+  minimised-is low l = ap minimisedIn (sym e ∙ h) ∙ minimised-told (low .word a l) (tell (getD ws a 0))
 
   pub fixed-is : fixedIn known ≡ fixedWord? ws a
   fixed-is = ap fixedIn (sym e ∙ h) ∙ fixed-told (tell (getD ws a 0))
@@ -143,37 +158,3 @@ module _ {t : ℕ → Bool} {n i c : ℕ} (h : Counting t n i c) where
 
   pub count-ends : n ≤ i → c ≡ length (filter t (from 0 n))
   count-ends l = let e : n - i ≡ 0 = omega arith in omega (arith, h .is, ap (λ (k : ℕ). length (filter t (from i k))) e)
-
-abbrev pub minimised? : List ℕ → ℕ → Bool
-minimised? ws a = leb (getD ws a 0) classLimit
-
-abbrev pub unfixed? : List ℕ → ℕ → Bool
-unfixed? ws a = not (fixedWord? ws a)
-
--- counting the fixed atoms of a list
-
-pub record CountingFixed (ws xs : List ℕ) (i c : ℕ) : Type 0 where
-  pub passed : i ≤ length xs
-  pub most : c ≤ i
-  pub is : c + fixedAmong ws (drop i xs) ≡ fixedAmong ws xs
-
-pub fixed-begins : (ws xs : List ℕ) → CountingFixed ws xs 0 0
-fixed-begins ws xs = record { passed = omega arith; most = omega arith; is = omega arith }
-
-module _ {ws xs : List ℕ} {i c : ℕ} (h : CountingFixed ws xs i c) where
-  next-fixed : i < length xs → fixedAmong ws (drop i xs) ≡ length (keep (fixedWord? ws (getD xs i 0)) (getD xs i 0) (filter (fixedWord? ws) (drop (i + 1) xs)))
-  unfolding fixedAmong
-  next-fixed l = rw (drop-cons xs i 0 l, add-one)
-
-  module _ {d : ℕ} (l : i < length xs) {b : Bool} (g : b ≡ fixedWord? ws (getD xs i 0)) where
-    pub fixed-more : b ≡ true → d ≡ c + 1 → CountingFixed ws xs (i + 1) d
-    unfolding fixedAmong
-    fixed-more e f = record { passed = omega arith; most = omega (arith, h .most); is = omega (arith, h .is, next-fixed l ∙ ap (λ (b : Bool). length (keep b (getD xs i 0) (filter (fixedWord? ws) (drop (i + 1) xs)))) (sym g ∙ e)) }
-
-    pub fixed-same : b ≡ false → d ≡ c → CountingFixed ws xs (i + 1) d
-    unfolding fixedAmong
-    fixed-same e f = record { passed = omega arith; most = omega (arith, h .most); is = omega (arith, h .is, next-fixed l ∙ ap (λ (b : Bool). length (keep b (getD xs i 0) (filter (fixedWord? ws) (drop (i + 1) xs)))) (sym g ∙ e)) }
-
-  pub fixed-ends : length xs ≤ i → c ≡ fixedAmong ws xs
-  unfolding fixedAmong
-  fixed-ends l = omega (arith, h .is, ap (fixedAmong ws) (drop-of-length-le xs l))

@@ -1,3 +1,4 @@
 -- Atoms by their class words, and the words of a list of atoms.
 pub mod Roles
+pub mod Parts
 pub mod ListWords

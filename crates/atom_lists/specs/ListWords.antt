@@ -1,9 +1,9 @@
 -- The words of a list of atoms, atom after atom.
 use Prim.Native.Nat.{ℕ, _+_}
-use mathlib.Core.Bool.{not}
 use mathlib.Core.List.{List, [], _∷_}
 use Rattle.rules.specs.Lists.{keep, flat}
-use Rattle.pairing.specs.Loops.{fixedWord?}
+use Rattle.atom_lists.specs.Parts.{of?}
+use Rattle.atom_lists.specs.declared.parts.Part.{Part}
 
 -- the words of each entry
 unfoldable pub each : {A : Type 0} → (A → List ℕ) → List A → List ℕ
@@ -13,14 +13,6 @@ each g xs = flat g xs
 unfoldable pub single : ℕ → List ℕ
 single a = a ∷ []
 
--- an atom with its number raised
-unfoldable pub raised : ℕ → ℕ → List ℕ
-raised b a = (b + a) ∷ []
-
--- S. of an atom that is not fixed
-unfoldable pub copyOf : List ℕ → ℕ → ℕ → List ℕ
-copyOf ws s a = keep (not (fixedWord? ws a)) (s + a) []
-
--- an atom that is fixed
-unfoldable pub fixedOf : List ℕ → ℕ → List ℕ
-fixedOf ws a = keep (fixedWord? ws a) a []
+-- an atom of a part, with its number raised
+unfoldable pub raised : Part → List ℕ → ℕ → ℕ → List ℕ
+raised part ws b a = keep (of? part ws a) (b + a) []

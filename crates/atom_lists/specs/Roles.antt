@@ -6,7 +6,7 @@ use lib.Dec.{leb}
 use lib.ListN.{length, getD}
 use Rattle.kinds.specs.Limits.{classLimit}
 use Rattle.rules.specs.Lists.{filter, from}
-use Rattle.pairing.specs.Loops.{fixedWord?}
+use Rattle.pairing.specs.Loops.{minimisedWord?, fixedWord?}
 
 abbrev pub pickClass : Bool → ℕ → ℕ
 pickClass true w = w
@@ -21,14 +21,10 @@ pub record Low (ws : List ℕ) : Type 0 where
   pub word : (a : ℕ) → a < length ws → 1 ≤ getD ws a 0
 
 unfoldable pub minimisedCount : List ℕ → ℕ
-minimisedCount ws = length (filter (λ a. leb (getD ws a 0) classLimit) (from 0 (length ws)))
+minimisedCount ws = length (filter (minimisedWord? ws) (from 0 (length ws)))
 
 unfoldable pub unfixedCount : List ℕ → ℕ
 unfixedCount ws = length (filter (λ a. not (fixedWord? ws a)) (from 0 (length ws)))
-
--- the fixed atoms among those of a list
-unfoldable pub fixedAmong : List ℕ → List ℕ → ℕ
-fixedAmong ws xs = length (filter (fixedWord? ws) xs)
 
 -- the first m atoms are minimised
 pub record FirstMinimised (m : ℕ) (ws : List ℕ) : Type 0 where

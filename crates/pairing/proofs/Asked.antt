@@ -12,17 +12,21 @@ use Rattle.rules.proofs.Lists.{app-iff, map-iff, filter-iff, any-map, map-any}
 use Rattle.rules.proofs.Rules.{Asks}
 use Rattle.rules.proofs.Preferred.{any-of-class}
 use Rattle.stores.specs.Program.{Program}
-use Rattle.pairing.specs.Atoms.{Atom, original, N, S, D, E, U, classWord, fixed?, unfixed?}
+use Rattle.pairing.specs.Atoms.{Atom, original, N, S, D, E, U, classWord, minimised?, unminimised?, fixed?, unfixed?}
 use Rattle.pairing.specs.Steps.{step1, step2, step3, step4, step5, step6, step7, step8, step9, step10, translation}
 use Rattle.pairing.proofs.Fit.{Minimised}
 use Rattle.pairing.proofs.Quantified.{Each·simp, Asked·simp, or-iff, or-none, or-last, all-iff, any-app-iff, any-chosen-iff}
 
 module _ (p : Program) (m x : Atom → Bool) where
   abbrev pub Asked1 : Type 0
-  Asked1 = (a : ℕ) → a < p .atoms → (Out m (N a) → In x (original a)) × (Out m (original a) → In x (N a))
+  Asked1 = (a : ℕ) → a < p .atoms → (T (unminimised? p a) → Out m (N a) → In x (original a)) × (Out m (original a) → In x (N a))
 
   abbrev pub Kept : Rule ℕ → Type 0
-  Kept r = All (λ a. Out m (original a)) (r .head) → All (λ a. Out m (N a)) (r .body) → ⊥
+  Kept r =
+      All (λ a. T (unminimised? p a) → Out m (original a)) (r .head)
+      → All (λ a. T (unminimised? p a) → Out m (N a)) (r .body)
+      → All (λ a. T (minimised? p a) → In x (original a)) (r .body)
+      → Any (λ a. T (minimised? p a) × In x (original a)) (r .head)
 
   abbrev pub Copied : Rule ℕ → Type 0
   Copied r =
@@ -59,7 +63,7 @@ module _ (p : Program) (m x : Atom → Bool) where
 
   asked2 : All (Asks m x) (step2 p) ↔ All Kept (p .rules)
   unfolding step2
-  asked2 = simp map-iff (all-iff _ Kept (λ r. simp (app-iff, map-iff, Asked·simp) Iff·rfl) (p .rules))
+  asked2 = simp map-iff (all-iff _ Kept (λ r. simp (app-iff, map-iff, filter-iff, any-chosen-iff, Asked·simp) Iff·rfl) (p .rules))
 
   copied : (l : List ℕ) → Any (In x) (map S (filter (unfixed? p) l) ++ (U ∷ [])) ↔ (Any (λ a. T (unfixed? p a) × In x (S a)) l ⊎ In x U)
   copied l = Iff·trans (any-app-iff (In x) (map S (filter (unfixed? p) l)) (U ∷ [])) (or-iff (any-chosen-iff (In x) S (unfixed? p) l) or-none)

@@ -3,46 +3,49 @@ use Prim.Native.Nat.{ℕ, _-_, _≤_, _<_}
 use native.Mathlib.Omega.{arith}
 use mathlib.Core.Path.{_≡_}
 use mathlib.Core.List.{List, map}
+use mathlib.Core.Bool.{Bool}
 use lib.Dec.{T}
 use Rattle.rules.specs.Lists.{All, filter}
+use Rattle.rules.specs.Rules.{Within}
 use Rattle.rules.specs.Preferred.{ofClass}
 use Rattle.rules.proofs.Lists.{all-imp, app-iff, map-iff, filter-iff, all-map}
 use Rattle.rules.proofs.Preferred.{all-of-class}
 use Rattle.stores.specs.Program.{Program}
-use Rattle.pairing.specs.Atoms.{Atom, original, N, S, D, classWord, fixed?, unfixed?, declared}
+use Rattle.pairing.specs.Atoms.{Atom, original, N, S, D, classWord, minimised?, unminimised?, fixed?, unfixed?, declared}
 use Rattle.pairing.specs.Steps.{step1, step2, step3, step4, step5, step6, step7, step8, step9, step10, translation}
 use Rattle.pairing.proofs.Quantified.{Each·simp}
 use Rattle.pairing.proofs.Fit.{Fit, Inside, minimised-unfixed}
 use Rattle.pairing.proofs.Numbering.{Declared, to-declared}
-use Rattle.pairing.proofs.Renamed.{Within, Closed}
+use Rattle.pairing.proofs.Renamed.{Closed}
 
 module _ (p : Program) (fit : Fit p) (Q : Atom → Type 0) (d : Declared p Q) where
   closed1 : All (Within Q) (step1 p)
   unfolding step1
   closed1 = simp Each·simp (search (d .originals, d .Ns))
 
-  owns : (l : List ℕ) → All (λ a. a < p .atoms) l → All Q (map original l)
-  owns l h = all-map Q original l (all-imp (λ a. a < p .atoms) (λ a. Q (original a)) (d .originals) l h)
+  owns : (t : ℕ → Bool) (l : List ℕ) → All (λ a. a < p .atoms) l → All Q (map original (filter t l))
+  owns t l h = simp (map-iff, filter-iff) (all-imp (λ a. a < p .atoms) (λ a. T (t a) → Q (original a)) (λ a u k. d .originals a u) l h)
 
-  negations : (l : List ℕ) → All (λ a. a < p .atoms) l → All Q (map N l)
-  negations l h = all-map Q N l (all-imp (λ a. a < p .atoms) (λ a. Q (N a)) (d .Ns) l h)
+  negations : (t : ℕ → Bool) (l : List ℕ) → All (λ a. a < p .atoms) l → All Q (map N (filter t l))
+  negations t l h = simp (map-iff, filter-iff) (all-imp (λ a. a < p .atoms) (λ a. T (t a) → Q (N a)) (λ a u k. d .Ns a u) l h)
 
   copies : (l : List ℕ) → All (λ a. a < p .atoms) l → All Q (map S (filter (unfixed? p) l))
   copies l h = simp (map-iff, filter-iff) (all-imp (λ a. a < p .atoms) (λ a. T (unfixed? p a) → Q (S a)) (d .Ss) l h)
 
-  themselves : (l : List ℕ) → All (λ a. a < p .atoms) l → All Q (map original (filter (fixed? p) l))
-  themselves l h = simp (map-iff, filter-iff) (all-imp (λ a. a < p .atoms) (λ a. T (fixed? p a) → Q (original a)) (λ a u k. d .originals a u) l h)
-
   closed2 : All (Within Q) (step2 p)
   unfolding step2
-  closed2 = simp map-iff (all-imp (Inside (p .atoms)) _ (λ r i. record { head = tt; body = tt; nots = simp app-iff (owns (r .head) (i .head), negations (r .body) (i .body)) }) (p .rules) (fit .rules))
+  closed2 = simp map-iff (all-imp (Inside (p .atoms)) _ (λ r i. record {
+    head = owns (minimised? p) (r .head) (i .head);
+    body = owns (minimised? p) (r .body) (i .body);
+    nots = simp app-iff (owns (unminimised? p) (r .head) (i .head), negations (unminimised? p) (r .body) (i .body));
+  }) (p .rules) (fit .rules))
 
   closed3 : All (Within Q) (step3 p)
   unfolding step3
   closed3 = simp map-iff (all-imp (Inside (p .atoms)) _ (λ r i. record {
     head = simp app-iff (copies (r .head) (i .head), (d .Us, tt));
-    body = simp app-iff (copies (r .body) (i .body), themselves (r .body) (i .body));
-    nots = themselves (r .head) (i .head);
+    body = simp app-iff (copies (r .body) (i .body), owns (fixed? p) (r .body) (i .body));
+    nots = owns (fixed? p) (r .head) (i .head);
   }) (p .rules) (fit .rules))
 
   closed4 : All (Within Q) (step4 p)

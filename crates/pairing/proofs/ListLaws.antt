@@ -4,11 +4,11 @@ use native.Mathlib.Omega.{arith}
 use mathlib.Core.Path.{_≡_, refl, sym, ap, ap₂, _∙_}
 use mathlib.Core.List.{List, [], _∷_, _++_, map, map-append, append-assoc, head-eq-of-cons-eq, tail-eq-of-cons-eq}
 use mathlib.Core.Bool.{Bool, true, false}
-use mathlib.Core.Logic.{inl, inr, _≢_}
+use mathlib.Core.Logic.{_≢_}
 use lib.Dec.{T}
 use lib.ListN.{length, getD, take, length-append}
 use lib.Seq.{getD-append-seam}
-use Rattle.rules.specs.Lists.{All, Any, Distinct, keep, filter, flat, from}
+use Rattle.rules.specs.Lists.{All, Distinct, keep, filter, flat, from}
 use Rattle.rules.proofs.Booleans.{T-of}
 use Rattle.rules.proofs.Lists.{all-imp, all-app, all-filter, all-map, all-from, distinct-map}
 
@@ -48,6 +48,10 @@ pub map-flat : {A B C : Type 0} (f : B → C) (g : A → List B) (l : List A) �
 map-flat f g [] = refl
 map-flat {C} f g (x ∷ l) = map-append f (g x) (flat g l) ∙ ap (λ (r : List C). map f (g x) ++ r) (map-flat f g l)
 
+pub map-keep : {A B : Type 0} (f : A → B) (b : Bool) (x : A) (l : List A) → map f (keep b x l) ≡ keep b (f x) (map f l)
+map-keep f true x l = refl
+map-keep f false x l = refl
+
 pub map-eq : {A B : Type 0} (f g : A → B) → ((a : A) → f a ≡ g a) → (l : List A) → map f l ≡ map g l
 map-eq f g h [] = refl
 map-eq {B} f g h (x ∷ l) = ap₂ (λ (y : B) (r : List B). y ∷ r) (h x) (map-eq f g h l)
@@ -55,18 +59,6 @@ map-eq {B} f g h (x ∷ l) = ap₂ (λ (y : B) (r : List B). y ∷ r) (h x) (map
 pub all-each : {A : Type 0} (P : A → Type 0) → ((a : A) → P a) → (l : List A) → All P l
 all-each P f [] = tt
 all-each P f (x ∷ l) = (f x, all-each P f l)
-
--- two facts of each entry, or a fact of each and one of some entry
-
-module _ {A : Type 0} (P Q R : A → Type 0) (f : (a : A) → P a → Q a → R a) where
-  pub all-zip : (l : List A) → All P l → All Q l → All R l
-  all-zip [] h k = tt
-  all-zip (x ∷ l) h k = (f x (h .0) (k .0), all-zip l (h .1) (k .1))
-
-  pub any-zip : (l : List A) → All P l → Any Q l → Any R l
-  any-zip [] h k = k
-  any-zip (x ∷ l) h (inl k) = inl (f x (h .0) k)
-  any-zip (x ∷ l) h (inr k) = inr (any-zip l (h .1) k)
 
 -- chosen entries
 

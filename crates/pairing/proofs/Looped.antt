@@ -8,14 +8,14 @@ use lib.Seq.{take-length}
 use Rattle.kinds.specs.declared.limits.Kind.the-variants.{Preference}
 use Rattle.kinds.specs.Words.{decimal}
 use Rattle.rules.specs.Lists.{flat, from}
-use Rattle.rules.specs.Rules.{Rule, rule}
+use Rattle.rules.specs.Rules.{Rule, rule, rename}
 use Rattle.rules.proofs.Lists.{length-from}
 use Rattle.stores.specs.Program.{Program, ProgramForm}
 use Rattle.pairing.specs.Atoms.{Atom, original, N, S, D, E, U, originals, classWord, fixed?, minimised?, minimisedAtoms, unfixedAtoms, declared, atomNumber, nameOf}
 use Rattle.pairing.specs.Steps.{step1, step2, step3, step4, step5, step6, step7, step8, step9, step10, translation}
-use Rattle.pairing.specs.Translated.{translated, translatedRules, translatedNames, rename}
+use Rattle.pairing.specs.Translated.{translated, translatedRules, translatedNames}
 use Rattle.pairing.specs.Loops.{loop1, loop2, loop3, loop4, loop5, loop6, loop789, loop10, looped, dot, loopedNames}
-use Rattle.pairing.proofs.ListLaws.{map-flat, map-eq, entries}
+use Rattle.pairing.proofs.ListLaws.{map-flat, map-keep, map-eq, entries}
 use Rattle.pairing.proofs.SumLaws.{length-parts}
 use Rattle.pairing.proofs.Fit.{Fit, fit-of}
 use Rattle.pairing.proofs.Numbering.{unfixed-first, minimised-first}
@@ -42,11 +42,11 @@ module _ (p : Program) where
   abbrev numbered : Rule Atom → Rule ℕ
   numbered = rename (atomNumber p)
 
-  looped1 : map numbered (step1 p) ≡ flat (loop1 (p .atoms)) (from 0 (p .atoms))
+  looped1 : map numbered (step1 p) ≡ flat (loop1 (p .words) (p .atoms)) (from 0 (p .atoms))
   unfolding step1
-  looped1 = simp map-flat
+  looped1 = simp (map-flat, map-keep)
 
-  looped2 : map numbered (step2 p) ≡ map (loop2 (p .atoms)) (p .rules)
+  looped2 : map numbered (step2 p) ≡ map (loop2 (p .words) (p .atoms)) (p .rules)
   unfolding step2
   looped2 = simp (map-map, map-append, map-id)
 

@@ -1,20 +1,15 @@
 -- A set of atoms that are numbered from 0 in the order of their list, as a number.
-use Prim.Native.Nat.{ℕ, zero, suc, _^_, _<_}
+use Prim.Native.Nat.{ℕ, _^_, _<_}
 use native.Mathlib.Omega.{arith}
 use mathlib.Core.Path.{_≡_, sym, ap, subst, _∙_}
-use mathlib.Core.List.{List, [], _∷_, map}
+use mathlib.Core.List.{List, [], map}
 use mathlib.Core.Bool.{Bool}
 use lib.ListN.{length, getD, length-map, List·getD-map}
 use Rattle.rules.specs.Lists.{All, from}
 use Rattle.rules.specs.Sets.{has}
-use Rattle.rules.proofs.Lists.{all-map, map-all, all-from, from-all}
-use Rattle.rules.proofs.Sets.{number, number-lt, number-zero, number-suc}
-use Rattle.pairing.proofs.ListLaws.{found, all-zip}
-
-has-number : (b : Bool) (bs : List Bool) (i : ℕ) → i < length bs → has (number bs) i ≡ getD bs i b
-has-number b [] i l = absurd (omega arith)
-has-number b (x ∷ bs) zero l = number-zero x bs
-has-number b (x ∷ bs) (suc i) l = number-suc x bs i ∙ has-number b bs i (omega arith)
+use Rattle.rules.proofs.Lists.{all-zip, all-map, map-all, all-from, from-all}
+use Rattle.rules.proofs.Sets.{number, number-lt, has-number}
+use Rattle.pairing.proofs.ListLaws.{found}
 
 module _ {A : Type 0} (num : A → ℕ) (d : A) (atoms : List A) (order : map num atoms ≡ from 0 (length atoms)) where
   -- what holds of the atoms' numbers holds of each number below their count

@@ -3,27 +3,26 @@ use Prim.Native.Nat.{ℕ, _<_}
 use native.Mathlib.Omega.{arith}
 use mathlib.Core.Path.{_≡_, refl, sym, ap, _∙_}
 use mathlib.Core.List.{List, [], _∷_, _++_, map}
-use mathlib.Core.Bool.{not}
+use mathlib.Core.Bool.{Bool, not}
 use mathlib.Core.Logic.{_≢_}
 use lib.Dec.{T, eqb}
 use lib.ListN.{length, getD}
 use Rattle.kinds.specs.declared.limits.Kind.the-variants.{Plain, Preference}
 use Rattle.rules.specs.Lists.{All, Distinct, filter, from}
-use Rattle.rules.specs.Rules.{Rule}
+use Rattle.rules.specs.Rules.{Rule, Within}
 use Rattle.rules.specs.Preferred.{ofClass}
 use Rattle.rules.proofs.Booleans.{T-not-out, eq→eqb}
-use Rattle.rules.proofs.Lists.{all-imp, all-both, all-map, app-iff, map-iff, length-from, distinct-map}
+use Rattle.rules.proofs.Lists.{all-imp, all-both, all-zip, all-map, app-iff, map-iff, length-from, distinct-map}
 use Rattle.stores.specs.Program.{Program, ProgramForm, ListForm, RuleForm}
-use Rattle.pairing.specs.Atoms.{Atom, original, N, S, D, E, U, originals, classWord, fixed?, unfixed?, minimised?, declared, atomNumber}
+use Rattle.pairing.specs.Atoms.{Atom, original, N, S, D, E, U, originals, classWord, fixed?, unfixed?, minimised?, unminimised?, declared, atomNumber}
 use Rattle.pairing.specs.Steps.{step1, step2, step3, step4, step5, step6, step7, step8, step9, step10, translation}
 use Rattle.pairing.specs.Translated.{translated, translatedRules, numbers}
 use Rattle.pairing.proofs.Quantified.{Each·simp}
-use Rattle.pairing.proofs.ListLaws.{all-each, all-zip, distinct-filter, distinct-from, distinct-inj, distinct-map-app, NoImage}
+use Rattle.pairing.proofs.ListLaws.{all-each, distinct-filter, distinct-from, distinct-inj, distinct-map-app, NoImage}
 use Rattle.pairing.proofs.SumLaws.{length-parts}
 use Rattle.pairing.proofs.Fit.{Fit, Inside, fit-of}
 use Rattle.pairing.proofs.Numbering.{order, known}
 use Rattle.pairing.proofs.NumberedSets.{of-numbers}
-use Rattle.pairing.proofs.Renamed.{Within}
 use Rattle.pairing.proofs.Closed.{closed}
 use Rattle.pairing.proofs.Sums.{atoms-sum, rules-sum, occurrences-sum}
 
@@ -46,11 +45,8 @@ pub record Single {A : Type 0} (r : Rule A) : Type 0 where
   pub nots : Distinct (r .nots)
 
 module _ (p : Program) (fit : Fit p) where
-  owns : (l : List ℕ) → Distinct l → Distinct (map original l)
-  owns = distinct-inj original (λ a b e. cc)
-
-  themselves : (l : List ℕ) → Distinct l → Distinct (map original (filter (fixed? p) l))
-  themselves l h = owns (filter (fixed? p) l) (distinct-filter (fixed? p) l h)
+  owns : (t : ℕ → Bool) (l : List ℕ) → Distinct l → Distinct (map original (filter t l))
+  owns t l h = distinct-inj original (λ a b e. cc) (filter t l) (distinct-filter t l h)
 
   copies : (l : List ℕ) (ys : List Atom) → Distinct l → Distinct ys → All (NoImage S) ys → Distinct (map S (filter (unfixed? p) l) ++ ys)
   copies l ys h = distinct-map-app S (λ a b e. cc) (filter (unfixed? p) l) ys (distinct-filter (unfixed? p) l h)
@@ -62,17 +58,19 @@ module _ (p : Program) (fit : Fit p) where
   single2 : All Single (step2 p)
   unfolding step2
   single2 = simp map-iff (all-imp (Inside (p .atoms)) _ (λ r i. record {
-    head = tt;
-    body = tt;
-    nots = distinct-map-app original (λ a b e. cc) (r .head) (map N (r .body)) (i .head-distinct) (distinct-inj N (λ a b e. cc) (r .body) (i .body-distinct)) (simp map-iff (all-each _ (λ b a. differ (original a) (N b) tt) (r .body)));
+    head = owns (minimised? p) (r .head) (i .head-distinct);
+    body = owns (minimised? p) (r .body) (i .body-distinct);
+    nots =
+        let others : List ℕ = filter (unminimised? p) (r .body) in
+        distinct-map-app original (λ a b e. cc) (filter (unminimised? p) (r .head)) (map N others) (distinct-filter (unminimised? p) (r .head) (i .head-distinct)) (distinct-inj N (λ a b e. cc) others (distinct-filter (unminimised? p) (r .body) (i .body-distinct))) (simp map-iff (all-each _ (λ b a. differ (original a) (N b) tt) others));
   }) (p .rules) (fit .rules))
 
   single3 : All Single (step3 p)
   unfolding step3
   single3 = simp map-iff (all-imp (Inside (p .atoms)) _ (λ r i. record {
     head = copies (r .head) (U ∷ []) (i .head-distinct) (tt, tt) ((λ a. differ (S a) U tt), tt);
-    body = copies (r .body) (map original (filter (fixed? p) (r .body))) (i .body-distinct) (themselves (r .body) (i .body-distinct)) (simp map-iff (all-each _ (λ b a. differ (S a) (original b) tt) (filter (fixed? p) (r .body))));
-    nots = themselves (r .head) (i .head-distinct);
+    body = copies (r .body) (map original (filter (fixed? p) (r .body))) (i .body-distinct) (owns (fixed? p) (r .body) (i .body-distinct)) (simp map-iff (all-each _ (λ b a. differ (S a) (original b) tt) (filter (fixed? p) (r .body))));
+    nots = owns (fixed? p) (r .head) (i .head-distinct);
   }) (p .rules) (fit .rules))
 
   single4 : All Single (step4 p)

@@ -1,46 +1,30 @@
 -- The full set over a preferred set is stable.
 use Prim.Native.Nat.{ℕ, zero, suc, _+_, _-_, _^_, _≤_, _<_}
 use native.Mathlib.Omega.{arith}
-use native.Mathlib.Decide.{ℕ-discrete}
-use mathlib.Core.Path.{_≡_, refl, sym, ap, subst, _∙_}
-use mathlib.Core.List.{map, map-id}
+use native.Mathlib.Decide.{ℕ-discrete, decLe}
+use mathlib.Core.Path.{_≡_, refl, sym, subst, _∙_}
 use mathlib.Core.Bool.{Bool, true, false, not, _&&_, cond}
 use mathlib.Core.Logic.{_⊎_, inl, inr}
-use lib.Dec.{T}
+use lib.Dec.{T, leb→le}
 use lib.ListN.{length}
-use Rattle.rules.specs.Lists.{All, Any, from}
-use Rattle.rules.specs.Sets.{has, In, Out}
+use Rattle.rules.specs.Lists.{All, Any}
+use Rattle.rules.specs.Sets.{has, In, Out, Agree}
 use Rattle.rules.specs.Rules.{Rule, Holds, Model}
-use Rattle.kinds.specs.Limits.{fixed}
+use Rattle.kinds.specs.Limits.{classLimit, fixed}
 use Rattle.rules.specs.Preferred.{OfClass, Beats, Preferred}
-use Rattle.rules.proofs.Booleans.{stable, T-of, T-and, T-and-l, T-and-r, eq→eqb}
-use Rattle.rules.proofs.Lists.{all-both, all-any, any-or-none, from-all, length-from}
+use Rattle.rules.proofs.Booleans.{decide, stable, T-of, T-and, T-and-l, T-and-r, T-not-in, eq→eqb}
+use Rattle.rules.proofs.Lists.{all-both, all-zip, any-zip, any-or-none}
+use Rattle.rules.proofs.Sets.{set-of}
+use Rattle.rules.proofs.Lacking.{lacking-beats}
 use Rattle.stores.specs.Program.{Program}
-use Rattle.pairing.specs.Atoms.{Atom, original, N, S, D, E, U, originals, classWord, fixed?, unfixed?, declared}
+use Rattle.pairing.specs.Atoms.{Atom, original, N, S, D, E, U, classWord, minimised?, unminimised?, fixed?, unfixed?, declared}
 use Rattle.pairing.specs.Steps.{translation}
-use Rattle.pairing.proofs.ListLaws.{all-each, all-zip, any-zip}
+use Rattle.pairing.proofs.ListLaws.{all-each}
 use Rattle.pairing.proofs.Fit.{Fit, Minimised, Inside, minimised-unfixed}
 use Rattle.pairing.proofs.Asked.{Kept, Copied, Steps, to-steps, of-steps}
-use Rattle.pairing.proofs.Numbering.{Declared, of-declared}
-use Rattle.pairing.proofs.NumberedSets.{setOf, set-lt, set-has}
+use Rattle.pairing.proofs.Numbering.{Declared, to-declared, of-declared}
 use Rattle.pairing.proofs.Renamed.{StableOver}
 use Rattle.pairing.proofs.FullSet.{Full}
-
--- the set of a test on the numbers below n
-module _ (n : ℕ) (w : ℕ → Bool) where
-  order : map (λ (a : ℕ). a) (from 0 n) ≡ from 0 (length (from 0 n))
-  order = map-id (from 0 n) ∙ ap (from 0) (sym (length-from 0 n))
-
-  setBelow : ℕ
-  setBelow = setOf (λ (a : ℕ). a) 0 (from 0 n) order w
-
-  set-below : setBelow < 2 ^ n
-  unfolding setBelow
-  set-below = subst (λ (c : ℕ). setOf (λ (a : ℕ). a) 0 (from 0 n) order w < 2 ^ c) (length-from 0 n) (set-lt (λ (a : ℕ). a) 0 (from 0 n) order w)
-
-  set-below-has : (a : ℕ) → a < n → has setBelow a ≡ w a
-  unfolding setBelow
-  set-below-has a l = from-all (λ a. has (setOf (λ (a : ℕ). a) 0 (from 0 n) order w) a ≡ w a) 0 n (set-has (λ (a : ℕ). a) 0 (from 0 n) order w) a (omega arith) (omega arith)
 
 cond-yes : (b u v : Bool) → T b → cond b u v ≡ u
 cond-yes true u v h = refl
@@ -51,19 +35,31 @@ cond-no true u v h = absurd h
 cond-no false u v h = refl
 
 module _ (p : Program) (fit : Fit p) (m : ℕ) (preferred : Preferred (p .words) (p .rules) m) (t : Atom → Bool) (full : Full p (has m) t) where
+  in-m : (a : ℕ) → a < p .atoms → Out t (N a) → In (has m) a
+  in-m a l o = stable (has m a) (λ e. o (full .Ns a l .1 e))
+
+  in-t : (a : ℕ) → a < p .atoms → In (has m) a → In t (original a)
+  in-t a l = full .originals a l .1
+
   kept : (r : Rule ℕ) → Holds (has m) r → Inside (p .atoms) r → Kept p t t r
-  kept r holds inside o b = none (all-any (λ a. (a < p .atoms) × Out t (original a)) (In (has m)) (r .head) (all-both (λ a. a < p .atoms) (λ a. Out t (original a)) (r .head) (inside .head) o)
+  kept r holds inside o b c = any-zip (λ a. (a < p .atoms) × (T (unminimised? p a) → Out t (original a))) (In (has m)) (λ a. T (minimised? p a) × In t (original a)) (λ a g k. up a (g .0) (g .1) k (decide (minimised? p a))) (r .head)
+      (all-both (λ a. a < p .atoms) (λ a. T (unminimised? p a) → Out t (original a)) (r .head) (inside .head) o)
       (holds
-      (all-zip (λ a. a < p .atoms) (λ a. Out t (N a)) (In (has m)) (λ a g k. stable (has m a) (λ e. k (full .Ns a g .1 e))) (r .body) (inside .body) b)
-      (subst (All (Out (has m))) (sym (inside .nots)) tt)))
+      (all-zip (λ a. a < p .atoms) (λ a. (T (unminimised? p a) → Out t (N a)) × (T (minimised? p a) → In t (original a))) (In (has m)) (λ a g k. down a g (k .0) (k .1) (decide (minimised? p a))) (r .body) (inside .body) (all-both (λ a. T (unminimised? p a) → Out t (N a)) (λ a. T (minimised? p a) → In t (original a)) (r .body) b c))
+      (subst (All (Out (has m))) (sym (inside .nots)) tt))
     where
-      none : (a : ℕ) × ((a < p .atoms) × Out t (original a)) × In (has m) a → ⊥
-      none q = q .1 .1 (full .originals (q .0) (q .1 .0) .1 (q .2))
+      up : (a : ℕ) → a < p .atoms → (T (unminimised? p a) → Out t (original a)) → In (has m) a → T (minimised? p a) ⊎ (T (minimised? p a) → ⊥) → T (minimised? p a) × In t (original a)
+      up a l v h (inl k) = (k, in-t a l h)
+      up a l v h (inr k) = absurd (v (T-not-in (minimised? p a) k) (in-t a l h))
+
+      down : (a : ℕ) → a < p .atoms → (T (unminimised? p a) → Out t (N a)) → (T (minimised? p a) → In t (original a)) → T (minimised? p a) ⊎ (T (minimised? p a) → ⊥) → In (has m) a
+      down a l v w (inl k) = full .originals a l .0 (w k)
+      down a l v w (inr k) = in-m a l (v (T-not-in (minimised? p a) k))
 
   full-steps : Steps p t t
   full-steps = record {
     s1 = λ a l. (
-      λ o. full .originals a l .1 (stable (has m a) (λ e. o (full .Ns a l .1 e))),
+      λ c o. in-t a l (in-m a l o),
       λ o. full .Ns a l .1 (λ e. o (full .originals a l .1 e)),
     );
     s2 = all-zip (Holds (has m)) (Inside (p .atoms)) (Kept p t t) kept (p .rules) (preferred .model) (fit .rules);
@@ -77,9 +73,64 @@ module _ (p : Program) (fit : Fit p) (m : ℕ) (preferred : Preferred (p .words)
     s10 = (λ e. full .Us, λ o. o (full .Us));
   }
 
-  module _ (x : Atom → Bool) (strict : Declared p (λ c. In t c → In x c) → ⊥) (steps : Steps p t x) where
+  module _ (x : Atom → Bool) (sub : Declared p (λ c. In x c → In t c)) (strict : Declared p (λ c. In t c → In x c) → ⊥) (steps : Steps p t x) where
+    -- x's own atoms of the file: m's, but for minimised ones that x may lack
+    own : ℕ
+    own = set-of (p .atoms) (λ a. x (original a)) .0
+
+    on-own : (a : ℕ) → a < p .atoms → has own a ≡ x (original a)
+    unfolding own
+    on-own a l = set-of (p .atoms) (λ a. x (original a)) .2 a l
+
+    own-m : (a : ℕ) → a < p .atoms → In x (original a) → In (has m) a
+    own-m a l h = full .originals a l .0 (sub .originals a l h)
+
+    other-in : (a : ℕ) → a < p .atoms → T (unminimised? p a) → In (has m) a → In x (original a)
+    other-in a l o h = steps .s1 a l .0 o (λ k. full .Ns a l .0 k h)
+
+    own-holds : (r : Rule ℕ) → Kept p t x r → Inside (p .atoms) r → Holds (has own) r
+    own-holds r kept inside b n = step (any-or-none (λ a. unminimised? p a && has m a) (r .head))
+      where
+        step : Any (λ a. T (unminimised? p a && has m a)) (r .head) ⊎ All (λ a. T (unminimised? p a && has m a) → ⊥) (r .head) → Any (In (has own)) (r .head)
+        step (inl k) = any-zip (λ a. a < p .atoms) (λ a. T (unminimised? p a && has m a)) (In (has own)) (λ a l h. T-of (sym (on-own a l)) (other-in a l (T-and-l (unminimised? p a) (has m a) h) (T-and-r (unminimised? p a) (has m a) h))) (r .head) (inside .head) k
+        step (inr k) = any-zip (λ a. a < p .atoms) (λ a. T (minimised? p a) × In x (original a)) (In (has own)) (λ a l h. T-of (sym (on-own a l)) (h .1)) (r .head) (inside .head) (kept
+            (all-zip (λ a. a < p .atoms) (λ a. T (unminimised? p a && has m a) → ⊥) (λ a. T (unminimised? p a) → Out t (original a)) (λ a l h o e. h (T-and (unminimised? p a) (has m a) o (full .originals a l .0 e))) (r .head) (inside .head) k)
+            (all-zip (λ a. a < p .atoms) (In (has own)) (λ a. T (unminimised? p a) → Out t (N a)) (λ a l h o e. full .Ns a l .0 e (own-m a l (T-of (on-own a l) h))) (r .body) (inside .body) b)
+            (all-zip (λ a. a < p .atoms) (In (has own)) (λ a. T (minimised? p a) → In x (original a)) (λ a l h c. T-of (on-own a l) h) (r .body) (inside .body) b))
+
+    own-lt : own < 2 ^ length (p .words)
+    unfolding own
+    own-lt = subst (λ (c : ℕ). set-of (p .atoms) (λ a. x (original a)) .0 < 2 ^ c) (sym (fit .count)) (set-of (p .atoms) (λ a. x (original a)) .1)
+
+    inside-words : (a : ℕ) → a < length (p .words) → a < p .atoms
+    inside-words a l = let e = fit .count in omega arith
+
+    own-model : Model (p .rules) (has own)
+    own-model = all-zip (Kept p t x) (Inside (p .atoms)) (Holds (has own)) own-holds (p .rules) (steps .s2) (fit .rules)
+
+    own-fixed : Agree (OfClass (p .words) fixed) own m
+    own-fixed a c =
+        let l = inside-words a (c .0) in
+        let e : classWord p a ≡ fixed = c .1 in
+        let o = T-not-in (minimised? p a) (λ u. let v = leb→le (classWord p a) classLimit u in omega arith) in
+        (λ h. own-m a l (T-of (on-own a l) h), λ h. T-of (sym (on-own a l)) (other-in a l o h))
+
+    -- m's minimised part is the least that step 2 supports: x's own atoms, were one missing, would beat m
+    least : (a : ℕ) → a < p .atoms → Minimised p a → In (has m) a → In x (original a)
+    least a l c h = stable (x (original a)) (λ o. preferred .unbeaten own own-lt (lacking-beats (p .words) own m (p .rules) own-model own-fixed a (record {
+      inside = omega (arith, fit .count);
+      is-class = (fit .low a l, c);
+      of-m = h;
+      missing = λ g. o (T-of (on-own a l) g);
+      within = λ b k low u g. let i = inside-words b k in own-m b i (T-of (on-own b i) g);
+    })))
+
     original-in : (a : ℕ) → a < p .atoms → In (has m) a → In x (original a)
-    original-in a l h = steps .s1 a l .0 (λ k. full .Ns a l .0 k h)
+    original-in a l h = step (decLe (classWord p a) classLimit)
+      where
+        step : Dec (Minimised p a) → In x (original a)
+        step (yes c) = least a l c h
+        step (no c) = other-in a l (T-not-in (minimised? p a) (λ u. c (leb→le (classWord p a) classLimit u))) h
 
     no-U : In x U → ⊥
     no-U u = strict (record {
@@ -100,15 +151,15 @@ module _ (p : Program) (fit : Fit p) (m : ℕ) (preferred : Preferred (p .words)
     w a = cond (fixed? p a) (has m a) (x (S a))
 
     s : ℕ
-    s = setBelow (p .atoms) w
+    s = set-of (p .atoms) w .0
 
     on-fixed : (a : ℕ) → a < p .atoms → T (fixed? p a) → has s a ≡ has m a
     unfolding s w
-    on-fixed a l e = set-below-has (p .atoms) w a l ∙ cond-yes (fixed? p a) (has m a) (x (S a)) e
+    on-fixed a l e = set-of (p .atoms) w .2 a l ∙ cond-yes (fixed? p a) (has m a) (x (S a)) e
 
     on-unfixed : (a : ℕ) → a < p .atoms → T (unfixed? p a) → has s a ≡ x (S a)
     unfolding s w
-    on-unfixed a l e = set-below-has (p .atoms) w a l ∙ cond-no (fixed? p a) (has m a) (x (S a)) e
+    on-unfixed a l e = set-of (p .atoms) w .2 a l ∙ cond-no (fixed? p a) (has m a) (x (S a)) e
 
     s-holds : (r : Rule ℕ) → Copied p t x r → Inside (p .atoms) r → Holds (has s) r
     s-holds r copied inside b n = step (any-or-none (λ a. fixed? p a && has m a) (r .head))
@@ -170,7 +221,7 @@ module _ (p : Program) (fit : Fit p) (m : ℕ) (preferred : Preferred (p .words)
 
     s-lt : s < 2 ^ length (p .words)
     unfolding s
-    s-lt = subst (λ (c : ℕ). setBelow (p .atoms) w < 2 ^ c) (sym (fit .count)) (set-below (p .atoms) w)
+    s-lt = subst (λ (c : ℕ). set-of (p .atoms) w .0 < 2 ^ c) (sym (fit .count)) (set-of (p .atoms) w .1)
 
     -- the first class without its E., or U after the last
     walk : (c j : ℕ) → j + c ≡ p .classes → ((i : ℕ) → i ≤ j → In x (E i)) → ⊥
@@ -195,5 +246,5 @@ module _ (p : Program) (fit : Fit p) (m : ℕ) (preferred : Preferred (p .words)
   pub preferred-stable : StableOver (declared p) (translation p) t
   preferred-stable = record {
     model = of-steps p t t full-steps;
-    minimal = λ x sub strict asks. none-smaller x (λ d. strict (of-declared p (λ c. In t c → In x c) d)) (to-steps p t x asks);
+    minimal = λ x sub strict asks. none-smaller x (to-declared p (λ c. In x c → In t c) sub) (λ d. strict (of-declared p (λ c. In t c → In x c) d)) (to-steps p t x asks);
   }

@@ -6,7 +6,7 @@ use mathlib.Core.Bool.{Bool}
 use mathlib.Core.Logic.{_⊎_, inl, inr, _↔_, and-true, true-implies}
 use lib.Dec.{T, leb, leb→le, le→leb}
 use Rattle.rules.specs.Lists.{All, Any, filter, from}
-use Rattle.rules.proofs.Lists.{all-from, from-all, all-imp, any-app, app-any, any-map, map-any, any-filter, filter-any, app-iff, filter-iff, map-iff, flat-iff}
+use Rattle.rules.proofs.Lists.{all-from, from-all, all-imp, any-app, app-any, any-map, map-any, any-filter, filter-any, app-iff, keep-iff, filter-iff, map-iff, flat-iff}
 
 module _ {A B : Type 0} where
   pub or-iff : {C D : Type 0} → A ↔ C → B ↔ D → (A ⊎ B) ↔ (C ⊎ D)
@@ -63,6 +63,6 @@ module _ (P : ℕ → Type 0) (n : ℕ) where
   classes-iff = (λ h i l u. from-all P 1 n h i l (omega arith), λ f. all-from P 1 n (λ i l u. f i l (omega arith)))
 
 -- a list's All as a statement of each atom; an asked rule as a plain implication
-pub ruleset Each·simp = (app-iff, flat-iff, map-iff, filter-iff, below-iff, classes-iff, le-iff)
+pub ruleset Each·simp = (app-iff, keep-iff, flat-iff, map-iff, filter-iff, below-iff, classes-iff, le-iff)
 
 pub ruleset Asked·simp = (curry-iff, and-true, true-implies, or-last, or-none)

@@ -7,22 +7,15 @@ use mathlib.Core.Bool.{Bool}
 use lib.ListN.{length}
 use Rattle.rules.specs.Lists.{All, Any, from}
 use Rattle.rules.specs.Sets.{has, In, Out, Subset}
-use Rattle.rules.specs.Rules.{Rule}
+use Rattle.rules.specs.Rules.{Rule, Within, rename}
 use Rattle.rules.specs.Stable.{Stable}
 use Rattle.rules.proofs.Booleans.{T-of, bool-ext}
-use Rattle.rules.proofs.Lists.{all-imp, all-map, map-all, any-map, map-any}
+use Rattle.rules.proofs.Lists.{all-imp, all-zip, any-zip, all-map, map-all, any-map, map-any}
 use Rattle.rules.proofs.Sets.{same-set, has-below}
 use Rattle.rules.proofs.Rules.{Asks, model→asks, asks→model, reduct→asks, asks→reduct}
 use Rattle.rules.proofs.Stable.{proper-lt}
-use Rattle.pairing.specs.Translated.{rename}
-use Rattle.pairing.proofs.ListLaws.{all-each, all-zip, any-zip}
+use Rattle.pairing.proofs.ListLaws.{all-each}
 use Rattle.pairing.proofs.NumberedSets.{to-numbers, setOf, set-lt, set-has}
-
--- Q holds of every atom of a rule
-pub record Within {A : Type 0} (Q : A → Type 0) (r : Rule A) : Type 0 where
-  pub head : All Q (r .head)
-  pub body : All Q (r .body)
-  pub nots : All Q (r .nots)
 
 module _ {A : Type 0} (x y : A → Bool) where
   abbrev Equal : A → Type 0

@@ -12,11 +12,10 @@ use Rattle.rules.specs.Rules.{Rule, Holds, Model}
 use Rattle.kinds.specs.Limits.{fixed}
 use Rattle.rules.specs.Preferred.{OfClass, Beats, Preferred}
 use Rattle.rules.proofs.Booleans.{stable, T-of, T-and, T-and-l, T-and-r, T-not-in, T-not-out, eq→eqb}
-use Rattle.rules.proofs.Lists.{all-both, any-or-none}
+use Rattle.rules.proofs.Lists.{all-both, all-zip, any-zip, any-or-none}
 use Rattle.stores.specs.Program.{Program}
-use Rattle.pairing.specs.Atoms.{Atom, original, N, S, D, E, U, classWord, fixed?, unfixed?, declared}
+use Rattle.pairing.specs.Atoms.{Atom, original, N, S, D, E, U, classWord, minimised?, unminimised?, fixed?, unfixed?, declared}
 use Rattle.pairing.specs.Steps.{translation}
-use Rattle.pairing.proofs.ListLaws.{all-zip, any-zip}
 use Rattle.pairing.proofs.Fit.{Fit, Inside, fixed-or}
 use Rattle.pairing.proofs.Asked.{Kept, Copied, Steps, to-steps, of-steps}
 use Rattle.pairing.proofs.Numbering.{Declared, to-declared, of-declared}
@@ -101,9 +100,10 @@ module _ (p : Program) (fit : Fit p) (t : Atom → Bool) (st : StableOver (decla
           where
             step : Any (In (has m)) (r .head) ⊎ All (Out (has m)) (r .head) → Any (In (has m)) (r .head)
             step (inl k) = k
-            step (inr k) = absurd (kept
-                (all-zip (λ a. a < p .atoms) (Out (has m)) (λ a. Out t (original a)) (λ a g k i. k (m-of a g i)) (r .head) (inside .head) k)
-                (all-zip (λ a. a < p .atoms) (In (has m)) (λ a. Out t (N a)) (λ a g k. n-out a g (of-m a g k)) (r .body) (inside .body) b))
+            step (inr k) = any-zip (λ a. a < p .atoms) (λ a. T (minimised? p a) × In t (original a)) (In (has m)) (λ a g h. m-of a g (h .1)) (r .head) (inside .head) (kept
+                (all-zip (λ a. a < p .atoms) (Out (has m)) (λ a. T (unminimised? p a) → Out t (original a)) (λ a g k o i. k (m-of a g i)) (r .head) (inside .head) k)
+                (all-zip (λ a. a < p .atoms) (In (has m)) (λ a. T (unminimised? p a) → Out t (N a)) (λ a g k o. n-out a g (of-m a g k)) (r .body) (inside .body) b)
+                (all-zip (λ a. a < p .atoms) (In (has m)) (λ a. T (minimised? p a) → In t (original a)) (λ a g k c. of-m a g k) (r .body) (inside .body) b))
 
     module _ (s : ℕ) (b : Beats (p .words) (p .rules) s m) where
       abbrev x : Atom → Bool
@@ -181,7 +181,7 @@ module _ (p : Program) (fit : Fit p) (t : Atom → Bool) (st : StableOver (decla
             λ d h. absurd (D-out a d h),
             (
               λ o e h. absurd (o (upto a l (let k : classWord p a - 1 < b .class = ltb→lt (classWord p a - 1) (b .class) e in omega arith) h)),
-              λ o e. inl (b .earlier (classWord p a) (fit .low a l) (ltb→lt (classWord p a) (b .class) e) a (of-class a (classWord p a) l refl) .1 (m-of a l (steps .s1 a l .0 o))),
+              λ o e. inl (b .earlier (classWord p a) (fit .low a l) (ltb→lt (classWord p a) (b .class) e) a (of-class a (classWord p a) l refl) .1 (m-of a l (stable (t (original a)) (λ k. o (steps .s1 a l .1 k))))),
             ),
           ),
         );

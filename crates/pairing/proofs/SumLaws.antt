@@ -23,17 +23,26 @@ module _ {A : Type 0} where
   sum-const c [] = omega arith
   sum-const c (x ∷ l) = omega (arith, sum-const c l)
 
+  pub sum-twice : (f : A → ℕ) (l : List A) → sum (λ a. f a * 2) l ≡ 2 * sum f l
+  sum-twice f [] = refl
+  sum-twice f (x ∷ l) = omega (arith, sum-twice f l)
+
   pub sum-eq : (f g : A → ℕ) (l : List A) → All (λ a. f a ≡ g a) l → sum f l ≡ sum g l
   sum-eq f g [] h = refl
   sum-eq f g (x ∷ l) h = omega (arith, h .0, sum-eq f g l (h .1))
 
+  -- an entry that is kept or not
+  pub length-keep : (b : Bool) (x : A) (l : List A) → length (keep b x l) ≡ digit b + length l
+  length-keep true x l = omega arith
+  length-keep false x l = omega arith
+
+  pub sum-keep : (f : A → ℕ) (b : Bool) (x : A) (l : List A) → sum f (keep b x l) ≡ digit b * f x + sum f l
+  sum-keep f true x l = omega arith
+  sum-keep f false x l = omega arith
+
   pub length-filter : (t : A → Bool) (l : List A) → length (filter t l) ≡ sum (λ a. digit (t a)) l
   length-filter t [] = refl
-  length-filter t (x ∷ l) = step (t x) (length-filter t l)
-    where
-      step : (b : Bool) → length (filter t l) ≡ sum (λ a. digit (t a)) l → length (keep b x (filter t l)) ≡ digit b + sum (λ a. digit (t a)) l
-      step true e = omega arith
-      step false e = omega arith
+  length-filter t (x ∷ l) = omega (arith, length-keep (t x) x (filter t l), length-filter t l)
 
 module _ {A B : Type 0} where
   pub sum-map : (f : B → ℕ) (g : A → B) (l : List A) → sum f (map g l) ≡ sum (λ a. f (g a)) l

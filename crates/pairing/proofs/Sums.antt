@@ -10,17 +10,17 @@ use lib.ListN.{length, length-append, length-map}
 use Rattle.kinds.specs.Limits.{classLimit, varying, fixed}
 use Rattle.kinds.specs.declared.limits.Kind.the-variants.{Preference}
 use Rattle.rules.specs.Lists.{filter, from, sum}
-use Rattle.rules.specs.Rules.{Rule, occurrences}
+use Rattle.rules.specs.Rules.{Rule, occurrences, rename}
 use Rattle.rules.specs.Preferred.{ofClass}
 use Rattle.rules.proofs.Booleans.{eq→eqb}
 use Rattle.rules.proofs.Lists.{all-imp, all-from, length-from, sum-app}
 use Rattle.rules.proofs.Sets.{digit}
 use Rattle.stores.specs.Program.{Program, ProgramForm}
-use Rattle.pairing.specs.Atoms.{Atom, original, S, originals, classWord, minimised?, varying?, fixed?, unfixed?, minimisedAtoms, fixedAtoms, unfixedAtoms, atomNumber}
+use Rattle.pairing.specs.Atoms.{Atom, original, S, originals, classWord, minimised?, unminimised?, varying?, fixed?, unfixed?, minimisedAtoms, fixedAtoms, unfixedAtoms, atomNumber}
 use Rattle.pairing.specs.Steps.{step1, step2, step3, step4, step5, step6, step7, step8, step9, step10, translation}
-use Rattle.pairing.specs.Translated.{translated, translatedRules, numbers, atomsSum, rulesSum, occurrencesSum, rename}
+use Rattle.pairing.specs.Translated.{translated, translatedRules, numbers, atomsSum, rulesSum, occurrencesSum}
 use Rattle.pairing.proofs.ListLaws.{all-each}
-use Rattle.pairing.proofs.SumLaws.{sum-add, sum-const, sum-eq, sum-map, sum-flat, sum-swap, length-flat, length-filter, length-parts, digit-same, digit-other, met, met-not, met-once}
+use Rattle.pairing.proofs.SumLaws.{sum-add, sum-const, sum-eq, sum-map, sum-flat, sum-swap, length-flat, length-filter, length-parts, length-keep, sum-keep, sum-twice, digit-same, digit-other, met, met-not, met-once}
 use Rattle.pairing.proofs.Fit.{Fit, Minimised, Inside, fit-of}
 use Rattle.pairing.proofs.Numbering.{count}
 
@@ -40,15 +40,22 @@ module _ (p : Program) where
   abbrev u : ℕ
   u = length (unfixedAtoms p)
 
+  -- the atoms that are not minimised
+  abbrev o : ℕ
+  o = length (filter (unminimised? p) (originals p))
+
+  others : m + o ≡ n
+  others = length-parts (minimised? p) (originals p) ∙ length-from 0 n
+
   -- the same number c for each of n atoms
   each : (c : ℕ) → sum (λ a. c) (originals p) ≡ c * n
   each c = sum-const c (originals p) ∙ ap (λ (x : ℕ). c * x) (length-from 0 n)
 
   -- rules, step by step
 
-  rules1 : length (step1 p) ≡ 2 * n
+  rules1 : length (step1 p) ≡ o + n
   unfolding step1
-  rules1 = simp length-flat (each 2)
+  rules1 = simp (length-flat, length-keep) (sum-add (λ a. digit (unminimised? p a)) (λ a. 1) (originals p) ∙ omega (arith, length-filter (unminimised? p) (originals p), each 1))
 
   rules2 : length (step2 p) ≡ r
   unfolding step2
@@ -89,22 +96,24 @@ module _ (p : Program) where
   parts : length (fixedAtoms p) + u ≡ n
   parts = length-parts (fixed? p) (originals p) ∙ length-from 0 n
 
-  rules-all : length (translation p) ≡ 2 * n + (r + (r + (1 + (k + (4 * m + (u + (m + (suc k + 2))))))))
+  rules-all : length (translation p) ≡ o + n + (r + (r + (1 + (k + (4 * m + (u + (m + (suc k + 2))))))))
   unfolding translation
   rules-all = simp (length-append, rules1, rules2, rules3, rules4, rules5, rules6, rules7, rules8, rules9, rules10)
 
   module _ (fit : Fit p) where
     -- places, step by step
 
-    places1 : sum occurrences (step1 p) ≡ 4 * n
+    places1 : sum occurrences (step1 p) ≡ 2 * o + 2 * n
     unfolding step1
-    places1 = simp sum-flat (each 4)
+    places1 = simp (sum-flat, sum-keep)
+        (sum-add (λ a. digit (unminimised? p a) * 2) (λ a. 2) (originals p)
+        ∙ omega (arith, sum-twice (λ a. digit (unminimised? p a)) (originals p), length-filter (unminimised? p) (originals p), each 2))
 
     places2 : sum occurrences (step2 p) ≡ sum occurrences (p .rules)
     unfolding step2
     places2 = simp sum-map (sum-eq _ occurrences (p .rules) (all-imp (Inside n) _ (λ q i.
         let e : length (q .nots) ≡ 0 = ap length (i .nots) in
-        simp (length-append, length-map) (omega arith)) (p .rules) (fit .rules)))
+        simp (length-append, length-map) (omega (arith, length-parts (minimised? p) (q .head), length-parts (minimised? p) (q .body)))) (p .rules) (fit .rules)))
 
     split : (l : List ℕ) → length (map S (filter (unfixed? p) l)) + length (map original (filter (fixed? p) l)) ≡ length l
     split l = omega (arith, length-map (filter (unfixed? p) l) S, length-map (filter (fixed? p) l) original, length-parts (fixed? p) l)
@@ -167,7 +176,7 @@ module _ (p : Program) where
     places10 = refl
 
     places-all : sum occurrences (translation p)
-        ≡ 4 * n + (sum occurrences (p .rules) + (sum occurrences (p .rules) + r + (2 + (m + 3 * k + (14 * m + (2 * u + (2 * m + (2 * suc k + 3))))))))
+        ≡ 2 * o + 2 * n + (sum occurrences (p .rules) + (sum occurrences (p .rules) + r + (2 + (m + 3 * k + (14 * m + (2 * u + (2 * m + (2 * suc k + 3))))))))
     unfolding translation
     places-all = simp (sum-app, places1, places2, places3, places4, places5, places6, places7, places8, places9, places10)
 
@@ -181,11 +190,11 @@ module _ (p : Program) (kind : p .kind ≡ Preference) (form : ProgramForm p) wh
 
   pub rules-sum : length (translated p .rules) ≡ rulesSum (numbers p)
   unfolding numbers translatedRules
-  rules-sum = simp length-map (omega (arith, rules-all p, parts p))
+  rules-sum = simp length-map (omega (arith, rules-all p, parts p, others p))
 
   pub occurrences-sum : sum occurrences (translated p .rules) ≡ occurrencesSum (numbers p)
   unfolding numbers translatedRules
-  occurrences-sum = rename-places (atomNumber p) (translation p) ∙ omega (arith, places-all p (fit-of p kind form), parts p)
+  occurrences-sum = rename-places (atomNumber p) (translation p) ∙ omega (arith, places-all p (fit-of p kind form), parts p, others p)
 
   -- n counts all three
   pub atoms-three : numbers p .n ≡ numbers p .p + numbers p .v + numbers p .f

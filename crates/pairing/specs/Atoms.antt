@@ -26,6 +26,10 @@ module _ (p : Program) where
   abbrev pub minimised? : ℕ → Bool
   minimised? a = leb (classWord a) classLimit
 
+  -- varying or fixed
+  abbrev pub unminimised? : ℕ → Bool
+  unminimised? a = not (minimised? a)
+
   abbrev pub varying? : ℕ → Bool
   varying? a = eqb (classWord a) varying
 

@@ -2,12 +2,12 @@
 use Prim.Native.Nat.{ℕ, suc, _+_, _-_, _*_}
 use mathlib.Core.List.{List, [], _∷_, _++_, map}
 use mathlib.Core.Bool.{Bool, not}
-use lib.Dec.{eqb}
+use lib.Dec.{leb, eqb}
 use lib.ListN.{length, getD, take}
 use Rattle.kinds.specs.Words.{bytes, byte, decimal}
-use Rattle.rules.specs.Lists.{filter, flat, from}
+use Rattle.rules.specs.Lists.{keep, filter, flat, from}
 use Rattle.rules.specs.Rules.{Rule, rule}
-use Rattle.kinds.specs.Limits.{fixed}
+use Rattle.kinds.specs.Limits.{classLimit, fixed}
 use Rattle.rules.specs.Preferred.{ofClass}
 use Rattle.stores.specs.Program.{Program}
 use Rattle.pairing.specs.Atoms.{minimisedAtoms, unfixedAtoms}
@@ -15,13 +15,19 @@ use Rattle.pairing.specs.Atoms.{minimisedAtoms, unfixedAtoms}
 abbrev pub fixedWord? : List ℕ → ℕ → Bool
 fixedWord? ws a = eqb (getD ws a 0) fixed
 
+abbrev pub minimisedWord? : List ℕ → ℕ → Bool
+minimisedWord? ws a = leb (getD ws a 0) classLimit
+
 -- step 1, atom a
-abbrev pub loop1 : ℕ → ℕ → List (Rule ℕ)
-loop1 n a = rule (a ∷ []) [] ((n + a) ∷ []) ∷ rule ((n + a) ∷ []) [] (a ∷ []) ∷ []
+abbrev pub loop1 : List ℕ → ℕ → ℕ → List (Rule ℕ)
+loop1 ws n a = keep (not (minimisedWord? ws a)) (rule (a ∷ []) [] ((n + a) ∷ [])) (rule ((n + a) ∷ []) [] (a ∷ []) ∷ [])
 
 -- step 2, rule r
-abbrev pub loop2 : ℕ → Rule ℕ → Rule ℕ
-loop2 n r = rule [] [] (r .head ++ map (λ a. n + a) (r .body))
+abbrev pub loop2 : List ℕ → ℕ → Rule ℕ → Rule ℕ
+loop2 ws n r = rule
+    (filter (minimisedWord? ws) (r .head))
+    (filter (minimisedWord? ws) (r .body))
+    (filter (λ a. not (minimisedWord? ws a)) (r .head) ++ map (λ a. n + a) (filter (λ a. not (minimisedWord? ws a)) (r .body)))
 
 -- step 3, rule r
 abbrev pub loop3 : List ℕ → ℕ → ℕ → Rule ℕ → Rule ℕ
@@ -62,8 +68,8 @@ loops ws rs n k q m =
     let d : ℕ = 2 * n + q in
     let e : ℕ = 2 * n + q + m in
     let u : ℕ = 2 * n + q + m + suc k in
-    flat (loop1 n) (from 0 n)
-    ++ (map (loop2 n) rs
+    flat (loop1 ws n) (from 0 n)
+    ++ (map (loop2 ws n) rs
     ++ (map (loop3 ws s u) rs
     ++ ((loop4 e u ∷ [])
     ++ (map (loop5 ws d e u) (from 1 k)

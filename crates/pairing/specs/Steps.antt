@@ -1,23 +1,25 @@
 -- The ten steps of the translation, each its own definition under document 01's words, over the atoms as such.
 use Prim.Native.Nat.{suc, _-_}
 use mathlib.Core.List.{List, [], _∷_, _++_, map}
-use Rattle.rules.specs.Lists.{filter, flat, from}
+use Rattle.rules.specs.Lists.{keep, filter, flat, from}
 use Rattle.rules.specs.Rules.{Rule, rule}
 use Rattle.rules.specs.Preferred.{ofClass}
 use Rattle.stores.specs.Program.{Program}
-use Rattle.pairing.specs.Atoms.{Atom, original, N, S, D, E, U, originals, classWord, fixed?, unfixed?, minimisedAtoms, unfixedAtoms}
+use Rattle.pairing.specs.Atoms.{Atom, original, N, S, D, E, U, originals, classWord, minimised?, unminimised?, fixed?, unfixed?, minimisedAtoms, unfixedAtoms}
 
 module _ (p : Program) where
-  -- Step 1: a if not N.a; N.a if not a; for each atom
+  -- Step 1: for each atom: a if not N.a, unless it is minimised; N.a if not a
   unfoldable pub step1 : List (Rule Atom)
   step1 = flat (λ a.
-      rule (original a ∷ []) [] (N a ∷ [])
-      ∷ rule (N a ∷ []) [] (original a ∷ [])
-      ∷ []) (originals p)
+      keep (unminimised? p a) (rule (original a ∷ []) [] (N a ∷ []))
+      (rule (N a ∷ []) [] (original a ∷ []) ∷ [])) (originals p)
 
-  -- Step 2: for each rule: no head; not its head atoms, then not N. of its body atoms
+  -- Step 2: for each rule: its minimised head atoms; body its minimised body atoms; not its other head atoms, then not N. of its other body atoms
   unfoldable pub step2 : List (Rule Atom)
-  step2 = map (λ r. rule [] [] (map original (r .head) ++ map N (r .body))) (p .rules)
+  step2 = map (λ r. rule
+      (map original (filter (minimised? p) (r .head)))
+      (map original (filter (minimised? p) (r .body)))
+      (map original (filter (unminimised? p) (r .head)) ++ map N (filter (unminimised? p) (r .body)))) (p .rules)
 
   -- Step 3: for each rule: S. of its unfixed head atoms, U last; body S. of the unfixed, the fixed themselves; not its fixed head atoms
   unfoldable pub step3 : List (Rule Atom)

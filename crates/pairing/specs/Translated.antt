@@ -4,14 +4,10 @@ use mathlib.Core.List.{List, [], map}
 use lib.ListN.{length}
 use Rattle.kinds.specs.declared.limits.Kind.the-variants.{Plain}
 use Rattle.rules.specs.Lists.{sum}
-use Rattle.rules.specs.Rules.{Rule, rule, occurrences}
+use Rattle.rules.specs.Rules.{Rule, occurrences, rename}
 use Rattle.stores.specs.Program.{Program}
 use Rattle.pairing.specs.Atoms.{minimisedAtoms, varyingAtoms, fixedAtoms, declared, atomNumber, nameOf}
 use Rattle.pairing.specs.Steps.{translation}
-
--- a rule with other atoms
-abbrev pub rename : {A : Type 0} → (A → ℕ) → Rule A → Rule ℕ
-rename f r = rule (map f (r .head)) (map f (r .body)) (map f (r .nots))
 
 unfoldable pub translatedRules : Program → List (Rule ℕ)
 translatedRules p = map (rename (atomNumber p)) (translation p)
@@ -49,7 +45,7 @@ abbrev pub atomsSum : Numbers → ℕ
 atomsSum c = 3 * c .n - c .f + c .p + c .k + 2
 
 abbrev pub rulesSum : Numbers → ℕ
-rulesSum c = 3 * c .n - c .f + 2 * c .r + 5 * c .p + 2 * c .k + 4
+rulesSum c = 3 * c .n - c .f + 2 * c .r + 4 * c .p + 2 * c .k + 4
 
 abbrev pub occurrencesSum : Numbers → ℕ
-occurrencesSum c = 6 * c .n - 2 * c .f + 2 * c .L + c .r + 17 * c .p + 5 * c .k + 7
+occurrencesSum c = 6 * c .n - 2 * c .f + 2 * c .L + c .r + 15 * c .p + 5 * c .k + 7

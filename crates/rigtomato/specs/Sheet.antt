@@ -77,4 +77,4 @@ pub record Sheet : Type 0 where
   pub one-empty-state : states (said nothing) ≡ 0 ∷ []
   pub nothing-counts : counts (said nothing) ≡ 2 ∷ 4 ∷ 7 ∷ []
   pub no-state : states (said emptyRule) ≡ []
-  pub one-rule-counts : counts (said oneRule) ≡ 10 ∷ 19 ∷ 46 ∷ []
+  pub one-rule-counts : counts (said oneRule) ≡ 10 ∷ 18 ∷ 44 ∷ []

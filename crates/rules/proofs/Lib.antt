@@ -5,4 +5,8 @@ pub mod Sets
 pub mod Rules
 pub mod Stable
 pub mod Preferred
+pub mod Lacking
+pub mod CutClass
+pub mod Renumbering
+pub mod CutExamples
 pub mod Examples

@@ -166,6 +166,18 @@ module _ (P : ℕ → Type 0) where
   from-any s (suc c) (inl p) = (s, omega arith, omega arith, p)
   from-any s (suc c) (inr h) = let r = from-any (suc s) c h in (r .0, omega arith, omega arith, r .3)
 
+-- two facts of each entry, or a fact of each and one of some entry
+
+module _ {A : Type 0} (P Q R : A → Type 0) (f : (a : A) → P a → Q a → R a) where
+  pub all-zip : (l : List A) → All P l → All Q l → All R l
+  all-zip [] h k = tt
+  all-zip (x ∷ l) h k = (f x (h .0) (k .0), all-zip l (h .1) (k .1))
+
+  pub any-zip : (l : List A) → All P l → Any Q l → Any R l
+  any-zip [] h k = k
+  any-zip (x ∷ l) h (inl k) = inl (f x (h .0) k)
+  any-zip (x ∷ l) h (inr k) = inr (any-zip l (h .1) k)
+
 -- a decided test, somewhere or nowhere
 pub any-or-none : {A : Type 0} (p : A → Bool) (l : List A) → Any (λ a. T (p a)) l ⊎ All (λ a. T (p a) → ⊥) l
 any-or-none p [] = inr tt
@@ -183,6 +195,9 @@ module _ {A : Type 0} (P : A → Type 0) where
 
   pub filter-iff : (p : A → Bool) (l : List A) → All P (filter p l) ↔ All (λ a. T (p a) → P a) l
   filter-iff p l = (filter-all P p l, all-filter P p l)
+
+  pub keep-iff : (b : Bool) (x : A) (l : List A) → All P (keep b x l) ↔ ((T b → P x) × All P l)
+  keep-iff b x l = (λ h. (keep-all-head P b x l h, keep-all-tail P b x l h), λ h. all-keep P b x l (h .0) (h .1))
 
 module _ {A B : Type 0} (P : B → Type 0) where
   pub map-iff : (f : A → B) (l : List A) → All P (map f l) ↔ All (λ a. P (f a)) l
@@ -227,6 +242,11 @@ every-from p P law s c = let r = every-all p P law (from s c) in (λ h. from-all
 pub length-from : (s c : ℕ) → length (from s c) ≡ c
 length-from s zero = refl
 length-from s (suc c) = ap suc (length-from (suc s) c)
+
+pub map-from-at : {A : Type 0} (f : ℕ → A) (d : A) (s c i : ℕ) → i < c → getD (map f (from s c)) i d ≡ f (s + i)
+map-from-at f d s zero i l = absurd (omega arith)
+map-from-at f d s (suc c) zero l = ap f (omega arith)
+map-from-at f d s (suc c) (suc i) l = let e : suc s + i ≡ s + suc i = omega arith in map-from-at f d (suc s) c i (omega arith) ∙ ap f e
 
 -- the part from a to a + n
 pub part-sized : {A : Type 0} (a n : ℕ) (l : List A) → take (a + n - a) l ≡ take n l

@@ -4,14 +4,16 @@ use native.Mathlib.Omega.{arith}
 use native.Mathlib.Nat.{div-one, div-eq-of-lt}
 use native.Mathlib.Decide.{decLe, decLt}
 use mathlib.Core.Path.{_≡_, refl, sym, ap, subst, _∙_}
-use mathlib.Core.List.{List, [], _∷_}
+use mathlib.Core.List.{List, [], _∷_, map}
 use mathlib.Core.Bool.{Bool, true, false}
 use mathlib.Core.Logic.{_⊎_, inl, inr}
 use lib.Dec.{T, eqb, eqb→eq}
 use lib.Pow.{shr-shr, field, mod-mod-pow, pow-mono}
-use lib.ListN.{length}
+use lib.ListN.{length, getD, length-map}
+use Rattle.rules.specs.Lists.{from}
 use Rattle.rules.specs.Sets.{has}
 use Rattle.rules.proofs.Booleans.{decide, T-of, eq→eqb}
+use Rattle.rules.proofs.Lists.{length-from, map-from-at}
 
 -- the tests of two digits are equal only if the digits are
 digit-inj : (a b : ℕ) → a < 2 → b < 2 → eqb a 1 ≡ eqb b 1 → a ≡ b
@@ -85,6 +87,22 @@ pub number-suc : (b : Bool) (bs : List Bool) (i : ℕ) → has (number (b ∷ bs
 number-suc b bs i =
     let e : (digit b + 2 * number bs) / 2 ≡ number bs = omega (arith, digit-lt b) in
     has-suc (digit b + 2 * number bs) i ∙ ap (λ (y : ℕ). has y i) e
+
+pub has-number : (b : Bool) (bs : List Bool) (i : ℕ) → i < length bs → has (number bs) i ≡ getD bs i b
+has-number b [] i l = absurd (omega arith)
+has-number b (x ∷ bs) zero l = number-zero x bs
+has-number b (x ∷ bs) (suc i) l = number-suc x bs i ∙ has-number b bs i (omega arith)
+
+-- the set of the atoms below n that pass a test
+pub set-of : (n : ℕ) (t : ℕ → Bool) → (x : ℕ) × (x < 2 ^ n) × ((a : ℕ) → a < n → has x a ≡ t a)
+set-of n t = (
+  number (map t (from 0 n)),
+  subst (λ (c : ℕ). number (map t (from 0 n)) < 2 ^ c) size (number-lt (map t (from 0 n))),
+  λ a l. has-number (t 0) (map t (from 0 n)) a (omega (arith, size)) ∙ map-from-at t (t 0) 0 n a l ∙ ap t (omega arith),
+)
+  where
+    size : length (map t (from 0 n)) ≡ n
+    size = length-map (from 0 n) t ∙ length-from 0 n
 
 pub lt-pow : (i : ℕ) → i < 2 ^ i
 lt-pow zero = omega arith

@@ -4,3 +4,5 @@ pub mod Sets
 pub mod Rules
 pub mod Stable
 pub mod Preferred
+pub mod CutClass
+pub mod Renumbering

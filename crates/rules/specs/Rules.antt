@@ -1,6 +1,6 @@
 -- Rules, models and the reduct (document 01, "Verdicts"; document 000, Definition 1). Atoms may be of any type.
 use Prim.Native.Nat.{ℕ, suc, _+_, _<_}
-use mathlib.Core.List.{List, [], _∷_}
+use mathlib.Core.List.{List, [], _∷_, map}
 use mathlib.Core.Bool.{Bool, true, false, not, _&&_, _||_}
 use lib.ListN.{length, getD, take}
 use Rattle.rules.specs.Lists.{All, Any, every, some, keep}
@@ -22,6 +22,12 @@ module _ {A : Type 0} where
   -- atom occurrences
   abbrev pub occurrences : Rule A → ℕ
   occurrences r = length (r .head) + length (r .body) + length (r .nots)
+
+  -- Q holds of every atom of a rule
+  pub record Within (Q : A → Type 0) (r : Rule A) : Type 0 where
+    pub head : All Q (r .head)
+    pub body : All Q (r .body)
+    pub nots : All Q (r .nots)
 
   -- a rule with its whole body in and no `not` atom in has some head atom in
   abbrev pub Holds : (A → Bool) → Rule A → Type 0
@@ -52,3 +58,7 @@ module _ {A : Type 0} where
   abbrev pub firstBroken : List (Rule A) → (A → Bool) → ℕ
   firstBroken [] m = 0
   firstBroken (r ∷ rs) m = countIf (holds? m r) (firstBroken rs m)
+
+-- a rule with other atoms
+abbrev pub rename : {A B : Type 0} → (A → B) → Rule A → Rule B
+rename f r = rule (map f (r .head)) (map f (r .body)) (map f (r .nots))

@@ -6,7 +6,7 @@ use lib.ListN.{length}
 use Rattle.kinds.specs.Limits.{classLimit}
 use Rattle.stores.specs.Program.{NeverFalling}
 use Rattle.stores.specs.StoredRules.{StoredRules}
-use Rattle.atom_lists.specs.Roles.{FirstMinimised}
+use Rattle.atom_lists.specs.Roles.{Low, FirstMinimised}
 use Rattle.steps.specs.declared.offsets.Offsets.{Offsets}
 
 -- n atoms, k classes, m minimised and q unfixed atoms
@@ -25,6 +25,7 @@ pub record Small (o : Offsets) : Type 0 where
 pub record FileFits (ws rs : List ℕ) (count : ℕ) (o : Offsets) : Type 0 where
   pub small : Small o
   pub atoms : length ws ≡ o .n
+  pub low : Low ws
   pub rules : StoredRules (o .n) count rs
 
 -- what steps 4 to 6 need of the class words of k classes and m minimised atoms

@@ -6,26 +6,32 @@ use Rattle.rules.specs.Lists.{flat, from}
 use Rattle.rules.specs.Rules.{Rule}
 use Rattle.stores.specs.RuleStore.{ruleWords}
 use Rattle.steps.specs.declared.offsets.Offsets.{Offsets}
-use Rattle.atom_lists.specs.ListWords.{each, single, copyOf, fixedOf}
-use Rattle.atom_lists.specs.Roles.{fixedAmong}
+use Rattle.atom_lists.specs.ListWords.{each, single, raised}
+use Rattle.atom_lists.specs.Parts.{among}
+use Rattle.atom_lists.specs.declared.parts.Part.the-variants.{Minimised, Unminimised, Fixed, Unfixed}
 use Rattle.pairing.specs.Loops.{loop1, loop2, loop3, loop4, loop5, loop6, loop789, loop10}
 
 -- step 1, atom a
-unfoldable pub words1 : ℕ → ℕ → List ℕ
-words1 n a = flat ruleWords (loop1 n a)
+unfoldable pub words1 : List ℕ → ℕ → ℕ → List ℕ
+words1 ws n a = flat ruleWords (loop1 ws n a)
 
 -- steps 2 and 3, rule r
-unfoldable pub words2 : ℕ → Rule ℕ → List ℕ
-words2 n r = ruleWords (loop2 n r)
+unfoldable pub words2 : List ℕ → ℕ → Rule ℕ → List ℕ
+words2 ws n r = ruleWords (loop2 ws n r)
 
 unfoldable pub words3 : List ℕ → ℕ → ℕ → Rule ℕ → List ℕ
 words3 ws s u r = ruleWords (loop3 ws s u r)
 
--- step 3, a rule with these atoms in its head and body
+-- the same for a rule with these atoms in its head and body
+unfoldable pub lists2 : List ℕ → ℕ → List ℕ → List ℕ → List ℕ
+lists2 ws n heads bodies =
+    among Minimised ws heads ∷ among Minimised ws bodies ∷ (length heads - among Minimised ws heads + (length bodies - among Minimised ws bodies))
+    ∷ (each (raised Minimised ws 0) heads ++ (each (raised Minimised ws 0) bodies ++ (each (raised Unminimised ws 0) heads ++ each (raised Unminimised ws n) bodies)))
+
 unfoldable pub lists3 : List ℕ → ℕ → ℕ → List ℕ → List ℕ → List ℕ
 lists3 ws s u heads bodies =
-    (length heads - fixedAmong ws heads + 1) ∷ length bodies ∷ fixedAmong ws heads
-    ∷ (each (copyOf ws s) heads ++ (u ∷ (each (copyOf ws s) bodies ++ (each (fixedOf ws) bodies ++ each (fixedOf ws) heads))))
+    (length heads - among Fixed ws heads + 1) ∷ length bodies ∷ among Fixed ws heads
+    ∷ (each (raised Unfixed ws s) heads ++ (u ∷ (each (raised Unfixed ws s) bodies ++ (each (raised Fixed ws 0) bodies ++ each (raised Fixed ws 0) heads))))
 
 unfoldable pub words4 : ℕ → ℕ → List ℕ
 words4 e u = ruleWords (loop4 e u)
@@ -57,7 +63,7 @@ words10 e u k = flat ruleWords (loop10 e u k)
 
 -- steps 1 to 3, which go by the atoms and rules of the file
 abbrev pub fileWords : List ℕ → List (Rule ℕ) → Offsets → List ℕ
-fileWords ws rs o = each (words1 (o .n)) (from 0 (o .n - 0)) ++ (each (words2 (o .n)) rs ++ each (words3 ws (o .s) (o .u)) rs)
+fileWords ws rs o = each (words1 ws (o .n)) (from 0 (o .n - 0)) ++ (each (words2 ws (o .n)) rs ++ each (words3 ws (o .s) (o .u)) rs)
 
 -- steps 4 to 6, which go by its classes and minimised atoms
 abbrev pub classWords : List ℕ → ℕ → ℕ → Offsets → List ℕ

@@ -158,6 +158,7 @@ module _ {ws : List ℕ} (h : PreferenceStore ws) where
       file-fits = record {
         small = small;
         atoms = class-count ∙ n-is;
+        low = low;
         rules =
             subst (λ (n : ℕ). StoredRules n (getD ws 3 0) (rulePart ws)) n-is rules-stored;
       }
@@ -210,11 +211,11 @@ module _ {ws : List ℕ} (h : PreferenceStore ws) where
           let u-is : o .u ≡ 2 * getD ws 1 0 + q + m + (getD ws 2 0 + 1) = ap (λ (x : Offsets). x .u) o-is in
           omega (arith, count p, u-is, atoms-at, classes-at, q-is, unfixed-count, m-is, minimised-count)
 
-      rules-are : length (translated p .rules) ≡ 2 * getD ws 1 0 + q + 2 * getD ws 3 0 + 5 * m + 2 * getD ws 2 0 + 4
+      rules-are : length (translated p .rules) ≡ 2 * getD ws 1 0 + q + 2 * getD ws 3 0 + 4 * m + 2 * getD ws 2 0 + 4
       unfolding numbers
       rules-are = omega (arith, rules-sum p (h .kind) (h .store .form), few-unfixed, atoms-at, classes-at, count-at, q-is, unfixed-count, m-is, minimised-count)
 
-      pub header-ahead : Ahead (encode (translated p)) (0 ∷ (o .u + 1) ∷ 0 ∷ (2 * getD ws 1 0 + q + 2 * getD ws 3 0 + 5 * m + 2 * getD ws 2 0 + 4) ∷ []) (stepWords (classPart ws) (rulesFrom (getD ws 3 0) (rulePart ws)) (getD ws 2 0) m o)
+      pub header-ahead : Ahead (encode (translated p)) (0 ∷ (o .u + 1) ∷ 0 ∷ (2 * getD ws 1 0 + q + 2 * getD ws 3 0 + 4 * m + 2 * getD ws 2 0 + 4) ∷ []) (stepWords (classPart ws) (rulesFrom (getD ws 3 0) (rulePart ws)) (getD ws 2 0) m o)
       unfolding encode
       header-ahead = record { is = λ i. 0 ∷ atoms-are i ∷ 0 ∷ rules-are i ∷ steps-are i }
 

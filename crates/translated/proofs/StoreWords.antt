@@ -27,15 +27,15 @@ flat-flat f g [] = refl
 flat-flat {C} f g (x ∷ xs) = flat-append f (g x) (flat g xs) ∙ ap (λ (l : List C). flat f (g x) ++ l) (flat-flat f g xs)
 
 module _ (ws : List ℕ) (rs : List (Rule ℕ)) (k m q : ℕ) (o : Offsets) (d-is : o .d ≡ o .s + q) (e-is : o .e ≡ o .d + m) (u-is : o .u ≡ o .e + suc k) where
-  part1 : flat ruleWords (flat (loop1 (o .n)) (from 0 (o .n))) ≡ each (words1 (o .n)) (from 0 (o .n - 0))
+  part1 : flat ruleWords (flat (loop1 ws (o .n)) (from 0 (o .n))) ≡ each (words1 ws (o .n)) (from 0 (o .n - 0))
   unfolding each words1
   part1 =
       let z : o .n ≡ o .n - 0 = omega arith in
-      flat-flat ruleWords (loop1 (o .n)) (from 0 (o .n)) ∙ ap (λ (c : ℕ). flat (λ a. flat ruleWords (loop1 (o .n) a)) (from 0 c)) z
+      flat-flat ruleWords (loop1 ws (o .n)) (from 0 (o .n)) ∙ ap (λ (c : ℕ). flat (λ a. flat ruleWords (loop1 ws (o .n) a)) (from 0 c)) z
 
-  part2 : flat ruleWords (map (loop2 (o .n)) rs) ≡ each (words2 (o .n)) rs
+  part2 : flat ruleWords (map (loop2 ws (o .n)) rs) ≡ each (words2 ws (o .n)) rs
   unfolding each words2
-  part2 = flat-map ruleWords (loop2 (o .n)) rs
+  part2 = flat-map ruleWords (loop2 ws (o .n)) rs
 
   part3 : flat ruleWords (map (loop3 ws (o .s) (o .u)) rs) ≡ each (words3 ws (o .s) (o .u)) rs
   unfolding each words3
@@ -74,8 +74,8 @@ module _ (ws : List ℕ) (rs : List (Rule ℕ)) (k m q : ℕ) (o : Offsets) (d-i
   both xs ys v w f g = flat-append ruleWords xs ys ∙ ap₂ (λ (x y : List ℕ). x ++ y) f g
 
   regrouped : stepWords ws rs k m o
-      ≡ each (words1 (o .n)) (from 0 (o .n - 0))
-      ++ (each (words2 (o .n)) rs
+      ≡ each (words1 ws (o .n)) (from 0 (o .n - 0))
+      ++ (each (words2 ws (o .n)) rs
       ++ (each (words3 ws (o .s) (o .u)) rs
       ++ (words4 (o .e) (o .u)
       ++ (each (words5 ws o) (from 1 (k + 1 - 1))
@@ -107,12 +107,12 @@ module _ (ws : List ℕ) (rs : List (Rule ℕ)) (k m q : ℕ) (o : Offsets) (d-i
   from3 = map (loop3 ws (o .s) (o .u)) rs ++ from4
 
   abbrev from2 : List (Rule ℕ)
-  from2 = map (loop2 (o .n)) rs ++ from3
+  from2 = map (loop2 ws (o .n)) rs ++ from3
 
-  pub all-steps : flat ruleWords (flat (loop1 (o .n)) (from 0 (o .n)) ++ from2) ≡ stepWords ws rs k m o
+  pub all-steps : flat ruleWords (flat (loop1 ws (o .n)) (from 0 (o .n)) ++ from2) ≡ stepWords ws rs k m o
   all-steps =
-      both (flat (loop1 (o .n)) (from 0 (o .n))) from2 _ _ part1
-      (both (map (loop2 (o .n)) rs) from3 _ _ part2
+      both (flat (loop1 ws (o .n)) (from 0 (o .n))) from2 _ _ part1
+      (both (map (loop2 ws (o .n)) rs) from3 _ _ part2
       (both (map (loop3 ws (o .s) (o .u)) rs) from4 _ _ part3
       (both (loop4 (o .e) (o .u) ∷ []) from5 _ _ part4
       (both (map (loop5 ws (o .d) (o .e) (o .u)) (from 1 k)) from6 _ _ part5

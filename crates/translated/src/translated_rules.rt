@@ -32,8 +32,8 @@ fn steps_1_to_3(
     requires { ⌜ FileFits (now classes) (now rules) count o × InRange at (fileWords (now classes) (rulesFrom count (now rules)) o) ⌝ }
     ensures { λ r. ⌜ Emitted (now (out .entry)) at (fileWords (now (classes .entry)) (rulesFrom count (now (rules .entry))) o) (now (out .exit)) r ⌝ }
 {
-    let second = step1(o.n, out, at);
-    let third = step2(rules, count, o.n, out, second);
+    let second = step1(classes, o.n, out, at);
+    let third = step2(rules, count, classes, o.n, out, second);
     step3(rules, count, classes, o.s, o.u, out, third)
 }
 
@@ -99,7 +99,7 @@ pub fn translate_rules(store: &[u16], out: &mut [u16]) -> usize
         0,
         o.u + 1,
         0,
-        2 * atoms + unfixed + 2 * count + 5 * minimised + 2 * k + 4,
+        2 * atoms + unfixed + 2 * count + 4 * minimised + 2 * k + 4,
     ];
     let headed = emit(&header, out, 0);
     emit_steps(

@@ -1,5 +1,6 @@
-use Rattle.atom_lists.proofs.Roles.{Counting, count-begins, count-more, count-same, count-ends, minimised?, some-class, no-class}
+use Rattle.atom_lists.proofs.Roles.{Counting, count-begins, count-more, count-same, count-ends, some-class, no-class}
 use Rattle.atom_lists.specs.Roles.{minimisedCount}
+use Rattle.pairing.specs.Loops.{minimisedWord?}
 use mathlib.Core.Logic.{⊎-elim}
 use native.Mathlib.Omega.{arith}
 use lib.ListN.{length}
@@ -9,7 +10,7 @@ use Rattle.atom_lists.proofs.classes.count_minimised.Statement.{stateme
 use Rattle.atom_lists.proofs.classes.count_minimised.Tie as tie
 
 abbrev Inv-loop : tie.InvT-loop
-Inv-loop classes count₀ i₀ count i = Counting (minimised? classes) (length classes) i count
+Inv-loop classes count₀ i₀ count i = Counting (minimisedWord? classes) (length classes) i count
 
 abbrev μ-loop : tie.MeasureT-loop
 μ-loop classes count₀ i₀ count i = length classes - i

@@ -1,5 +1,6 @@
-use Rattle.atom_lists.proofs.Roles.{Counting, count-begins, count-more, count-same, count-ends, unfixed?}
+use Rattle.atom_lists.proofs.Roles.{Counting, count-begins, count-more, count-same, count-ends}
 use Rattle.atom_lists.specs.Roles.{unfixedCount}
+use Rattle.pairing.specs.Loops.{fixedWord?}
 use mathlib.Core.Path.{sym, ap, _∙_}
 use mathlib.Core.Bool.{not}
 use mathlib.Core.Logic.{⊎-elim}
@@ -11,7 +12,7 @@ use Rattle.atom_lists.proofs.classes.count_unfixed.Statement.{statement
 use Rattle.atom_lists.proofs.classes.count_unfixed.Tie as tie
 
 abbrev Inv-loop : tie.InvT-loop
-Inv-loop classes count₀ i₀ count i = Counting (unfixed? classes) (length classes) i count
+Inv-loop classes count₀ i₀ count i = Counting (λ a. not (fixedWord? classes a)) (length classes) i count
 
 abbrev μ-loop : tie.MeasureT-loop
 μ-loop classes count₀ i₀ count i = length classes - i

@@ -17,7 +17,7 @@ abbrev μ-loop : tie.MeasureT-loop
 
 loop-holds : tie.Need-loop-holds Inv-loop μ-loop
 unfolding each
-loop-holds c = rules-begin (c .before .before .before .pre .1) (c .before .before .before .pre .3)
+loop-holds c = rules-begin (c .before .before .before .pre .2) (c .before .before .before .pre .4)
 
 mul-rule-size : tie.Need-mul-rule-size Inv-loop μ-loop
 mul-rule-size c = omega (arith, place-inside (c .before .loop .inv) (c .loop-test .taken))
@@ -47,7 +47,7 @@ part-step3-rule-end : tie.Need-part-step3-rule-end Inv-loop μ-loop
 part-step3-rule-end c = search needs
 
 step3-rule-requires : tie.Need-step3-rule-requires Inv-loop μ-loop
-step3-rule-requires c κs = (c .before .before .before .before .before .before .before .before .before .pre .0, rule-stored (c .before .before .before .before .before .loop .inv) (c .before .before .before .before .loop-test .taken), c .before .before .before .before .before .before .before .before .before .pre .2, rule-range (c .before .before .before .before .before .loop .inv) (c .before .before .before .before .loop-test .taken))
+step3-rule-requires c κs = (c .before .before .before .before .before .before .before .before .before .pre .0, c .before .before .before .before .before .before .before .before .before .pre .1, rule-stored (c .before .before .before .before .before .loop .inv) (c .before .before .before .before .loop-test .taken), c .before .before .before .before .before .before .before .before .before .pre .3, rule-range (c .before .before .before .before .before .loop .inv) (c .before .before .before .before .loop-test .taken))
 
 add-from : tie.Need-add-from Inv-loop μ-loop
 add-from c = omega (arith, place-inside (c .before .before .before .before .before .before .before .before .loop .inv) (c .before .before .before .before .before .before .before .loop-test .taken), c .before .before .before .before .before .rule-size .ensures)

@@ -9,13 +9,13 @@ use Rattle.translated.proofs.translated_rules.steps_1_to_3.Statement.{s
 use Rattle.translated.proofs.translated_rules.steps_1_to_3.Tie as tie
 
 step1-requires : tie.Need-step1-requires
-step1-requires c κs = (c .before .before .before .before .pre .0 .small .n-fits, range-begin (c .before .before .before .before .pre .1) (in-front _ _))
+step1-requires c κs = (omega (arith, c .before .before .before .before .pre .0 .atoms), omega (arith, c .before .before .before .before .pre .0 .atoms, c .before .before .before .before .pre .0 .small .n-fits), c .before .before .before .before .pre .0 .low, range-begin (c .before .before .before .before .pre .1) (in-front _ _))
 
 step2-requires : tie.Need-step2-requires
-step2-requires c κs = (c .before .before .before .before .before .before .before .before .pre .0 .small .n-fits, c .before .before .before .before .before .before .before .before .pre .0 .rules, range-here (turn (start (c .before .before .before .before .before .before .before .before .pre .1)) (in-front _ _) (c .before .before .before .step1 .ensures)) (in-front _ _))
+step2-requires c κs = (omega (arith, c .before .before .before .before .before .before .before .before .pre .0 .atoms, c .before .before .before .before .before .before .before .before .pre .0 .small .n-fits), c .before .before .before .before .before .before .before .before .pre .0 .low, subst (λ (k : ℕ). StoredRules k (c .before .before .before .before .before .before .before .before .args .count) (c .before .before .before .before .before .before .before .before .args .rules .now)) (sym (c .before .before .before .before .before .before .before .before .pre .0 .atoms)) (c .before .before .before .before .before .before .before .before .pre .0 .rules), c .before .before .before .before .before .before .before .before .pre .0 .small .n-fits, range-here (turn (start (c .before .before .before .before .before .before .before .before .pre .1)) (in-front _ _) (c .before .before .before .step1 .ensures)) (in-front _ _))
 
 step3-requires : tie.Need-step3-requires
-step3-requires c κs = (omega (arith, c .before .before .before .before .before .before .before .before .before .before .before .before .pre .0 .atoms, c .before .before .before .before .before .before .before .before .before .before .before .before .pre .0 .small .n-fits), subst (λ (k : ℕ). StoredRules k (c .before .before .before .before .before .before .before .before .before .before .before .before .args .count) (c .before .before .before .before .before .before .before .before .before .before .before .before .args .rules .now)) (sym (c .before .before .before .before .before .before .before .before .before .before .before .before .pre .0 .atoms)) (c .before .before .before .before .before .before .before .before .before .before .before .before .pre .0 .rules), c .before .before .before .before .before .before .before .before .before .before .before .before .pre .0 .small .s-fits, range-here (turn (turn (start (c .before .before .before .before .before .before .before .before .before .before .before .before .pre .1)) (in-front _ _) (c .before .before .before .before .before .before .before .step1 .ensures)) (in-front _ _) (c .before .before .before .step2 .ensures)) (last-run _))
+step3-requires c κs = (omega (arith, c .before .before .before .before .before .before .before .before .before .before .before .before .pre .0 .atoms, c .before .before .before .before .before .before .before .before .before .before .before .before .pre .0 .small .n-fits), c .before .before .before .before .before .before .before .before .before .before .before .before .pre .0 .low, subst (λ (k : ℕ). StoredRules k (c .before .before .before .before .before .before .before .before .before .before .before .before .args .count) (c .before .before .before .before .before .before .before .before .before .before .before .before .args .rules .now)) (sym (c .before .before .before .before .before .before .before .before .before .before .before .before .pre .0 .atoms)) (c .before .before .before .before .before .before .before .before .before .before .before .before .pre .0 .rules), c .before .before .before .before .before .before .before .before .before .before .before .before .pre .0 .small .s-fits, range-here (turn (turn (start (c .before .before .before .before .before .before .before .before .before .before .before .before .pre .1)) (in-front _ _) (c .before .before .before .before .before .before .before .step1 .ensures)) (in-front _ _) (c .before .before .before .step2 .ensures)) (last-run _))
 
 same-length : tie.Need-same-length
 same-length c = search needs
