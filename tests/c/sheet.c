@@ -175,8 +175,8 @@ static void small_files(void)
     const char *broken = "(vary)\n(fix)\n(rule (head) (body) (not))\n";
     CHECK(read_text(broken, strlen(broken)).refusal == 0);
     CHECK(next_state(0, RIGTOMATO_BUDGET_LIMIT).kind == RIGTOMATO_NONE);
-    translated("(min sensor)\n(vary dark)\n(fix)\n(rule (head sensor dark) (body) (not))\n", 10, 19,
-               46);
+    translated("(min sensor)\n(vary dark)\n(fix)\n(rule (head sensor dark) (body) (not))\n", 10, 18,
+               44);
 }
 
 static void refusals(void)

@@ -430,15 +430,31 @@ fn translated(stores: &Stores) -> Stores {
         out.rules.extend_from_slice(not);
     };
     for a in 0..n {
-        rule(&[a], &[], &[big_n(a)]);
+        if a >= p {
+            rule(&[a], &[], &[big_n(a)]);
+        }
         rule(&[big_n(a)], &[], &[a]);
     }
     let (mut head_part, mut body_part, mut not_part) = (Vec::new(), Vec::new(), Vec::new());
     each_rule(stores, |[head, body, _]| {
+        head_part.clear();
+        body_part.clear();
         not_part.clear();
-        not_part.extend_from_slice(head);
-        not_part.extend(body.iter().map(|b| big_n(*b)));
-        rule(&[], &[], &not_part);
+        for &a in head {
+            if a < p {
+                head_part.push(a);
+            } else {
+                not_part.push(a);
+            }
+        }
+        for &b in body {
+            if b < p {
+                body_part.push(b);
+            } else {
+                not_part.push(big_n(b));
+            }
+        }
+        rule(&head_part, &body_part, &not_part);
     });
     each_rule(stores, |[head, body, _]| {
         let free = |a: &&u16| **a < unfixed;

@@ -1,7 +1,7 @@
 //! The families of cases, each of which compares some calls.
 
 use crate::checker::{Checked, Checker};
-use crate::generate::{edge_name, either, plain, preference, Size};
+use crate::generate::{edge_name, either, mixed, plain, preference, Size};
 use crate::random::Random;
 use crate::spoil;
 use reference::lent;
@@ -149,15 +149,14 @@ pub fn valid(check: &mut Checker, random: &mut Random) -> Checked {
     verdicts(check, random, &program)
 }
 
-/// The stable sets of a small translation.
-pub fn translated(check: &mut Checker, random: &mut Random) -> Checked {
-    let size = Size {
-        atoms: 3,
-        rules: 3,
-        list: 2,
-    };
-    let (file, names) = preference(random, size);
-    let (plain, plain_names) = translator::translate(&file, &names);
+/// A file's plain program: its text read again and, where it is small, verdicts on its sets.
+fn plain_program(
+    check: &mut Checker,
+    random: &mut Random,
+    file: &Program,
+    names: &Names,
+) -> Checked {
+    let (plain, plain_names) = translator::translate(file, names);
     read(check, random, &writer::write(&plain, &plain_names))?;
     if plain.atoms > 16 {
         return Ok(());
@@ -172,6 +171,26 @@ pub fn translated(check: &mut Checker, random: &mut Random) -> Checked {
         check.stable(&rules, random.any() & ((1 << plain.atoms) - 1), 1_000)?;
     }
     Ok(())
+}
+
+/// The stable sets of a small translation.
+pub fn translated(check: &mut Checker, random: &mut Random) -> Checked {
+    let size = Size {
+        atoms: 3,
+        rules: 3,
+        list: 2,
+    };
+    let (file, names) = preference(random, size);
+    plain_program(check, random, &file, &names)
+}
+
+/// The translation of a file whose rules mix minimised, varying and fixed atoms on both sides: the
+/// choice rules of steps 1 and 2 go by these.
+pub fn choices(check: &mut Checker, random: &mut Random) -> Checked {
+    let most = random.within(1, 3);
+    let (file, names) = mixed(random, most);
+    texts_of_stores(check, random, &rule_store(&file), &name_store(&names))?;
+    plain_program(check, random, &file, &names)
 }
 
 /// A small file with one to three damages.

@@ -187,6 +187,58 @@ pub fn preference(random: &mut Random, size: Size) -> (Program, Names) {
     (program, names)
 }
 
+/// Atoms of some of the roles, at times of none, in any sequence: for each role that is taken one or
+/// two of its atoms.
+fn mixed_list(random: &mut Random, roles: &[Vec<usize>; 3]) -> Vec<usize> {
+    let mut list = Vec::new();
+    for atoms in roles {
+        if random.once_in(2) {
+            let count = random.within(1, 2);
+            let places = random.choose(count, atoms.len());
+            list.extend(places.into_iter().map(|place| atoms[place]));
+        }
+    }
+    let order = random.choose(list.len(), list.len());
+    order.into_iter().map(|place| list[place]).collect()
+}
+
+/// A preference file with its names: up to `most` atoms of each role, and rules that mix them on
+/// both sides.
+pub fn mixed(random: &mut Random, most: usize) -> (Program, Names) {
+    let mut program = Program::empty(Kind::Preference);
+    let minimised = random.within(0, most);
+    let varying = random.within(0, most);
+    let fixed = random.within(0, most);
+    program.atoms = minimised + varying + fixed;
+    program.classes = random.within(minimised.min(1), 3);
+    let mut classes: Vec<usize> = (0..minimised)
+        .map(|_| random.within(1, program.classes))
+        .collect();
+    classes.sort_unstable();
+    program.roles = classes.into_iter().map(Role::Minimised).collect();
+    program.roles.extend(vec![Role::Varying; varying]);
+    program.roles.extend(vec![Role::Fixed; fixed]);
+    let first_fixed = minimised + varying;
+    let roles = [
+        (0..minimised).collect(),
+        (minimised..first_fixed).collect(),
+        (first_fixed..program.atoms).collect(),
+    ];
+    for _ in 0..random.within(1, 6) {
+        let rule = Rule {
+            head: mixed_list(random, &roles),
+            body: mixed_list(random, &roles),
+            not: Vec::new(),
+        };
+        // A rule without lists makes each set a broken one, so it is kept rare.
+        if rule.occurrences() > 0 || random.once_in(20) {
+            program.rules.push(rule);
+        }
+    }
+    let names = names(random, Kind::Preference, program.atoms);
+    (program, names)
+}
+
 /// A plain program with its names.
 pub fn plain(random: &mut Random, size: Size) -> (Program, Names) {
     let mut program = Program::empty(Kind::Plain);
@@ -202,5 +254,34 @@ pub fn either(random: &mut Random, size: Size) -> (Program, Names) {
         preference(random, size)
     } else {
         plain(random, size)
+    }
+}
+
+#[cfg(test)]
+mod tests {
+    use super::*;
+    use std::collections::HashSet;
+
+    /// Which roles the list has: minimised, varying, fixed.
+    fn roles(program: &Program, list: &[usize]) -> [bool; 3] {
+        let any = |wanted: fn(Role) -> bool| list.iter().any(|&atom| wanted(program.roles[atom]));
+        [
+            any(|role| matches!(role, Role::Minimised(_))),
+            any(|role| role == Role::Varying),
+            any(|role| role == Role::Fixed),
+        ]
+    }
+
+    #[test]
+    fn every_mixture_of_roles_is_drawn() {
+        let mut random = Random::new(1);
+        let mut seen = HashSet::new();
+        for _ in 0..1_000 {
+            let (program, _) = mixed(&mut random, 3);
+            for rule in &program.rules {
+                seen.insert((roles(&program, &rule.head), roles(&program, &rule.body)));
+            }
+        }
+        assert_eq!(seen.len(), 64);
     }
 }

@@ -10,7 +10,7 @@ use std::time::{Duration, Instant};
 type Family = fn(&mut Checker, &mut Random) -> Checked;
 
 /// The families with how often each has its turn in a round.
-const FAMILIES: [(&str, Family, usize); 10] = [
+const FAMILIES: [(&str, Family, usize); 11] = [
     ("valid files", cases::valid, 60),
     ("damaged texts", cases::damaged_text, 40),
     ("no files", cases::soup, 20),
@@ -21,6 +21,7 @@ const FAMILIES: [(&str, Family, usize); 10] = [
     ("long files", cases::long, 2),
     ("edges of names", cases::edges_of_names, 20),
     ("reducts", cases::reducts, 40),
+    ("choices", cases::choices, 20),
 ];
 
 /// When a run ends: when both are reached.

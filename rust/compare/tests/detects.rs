@@ -3,9 +3,10 @@
 use compare::engine::{Engine, ReadAnswer, Reference, TextAnswer, VerdictAnswer};
 use compare::run::{run, Until};
 use reference::limits::Kind;
-use reference::program::Rule;
-use reference::stores::{check_rules_of, rule_store};
+use reference::program::{Role, Rule};
+use reference::stores::{check_names, check_rules_of, rule_store};
 use reference::verdicts::reduct;
+use reference::{translator, writer};
 use std::time::Duration;
 
 /// What is wrong with an engine.
@@ -29,9 +30,14 @@ enum Slip {
     MarkOfTheRuleBefore,
     MarkByTheBody,
     NumberedAmongTheKept,
+    FirstRuleForMinimised,
+    NoFirstRuleForFixed,
+    RulesAsConstraints,
+    HeadAndBodyExchanged,
+    VaryingLeftInTheHead,
 }
 
-const SLIPS: [Slip; 18] = [
+const SLIPS: [Slip; 23] = [
     Slip::RefusesEverything,
     Slip::WritesOnRefusal,
     Slip::WritesPastTheEnd,
@@ -50,6 +56,11 @@ const SLIPS: [Slip; 18] = [
     Slip::MarkOfTheRuleBefore,
     Slip::MarkByTheBody,
     Slip::NumberedAmongTheKept,
+    Slip::FirstRuleForMinimised,
+    Slip::NoFirstRuleForFixed,
+    Slip::RulesAsConstraints,
+    Slip::HeadAndBodyExchanged,
+    Slip::VaryingLeftInTheHead,
 ];
 
 /// The store with other `not` lists, by which the reduct then keeps other rules; as it is where
@@ -63,6 +74,65 @@ fn with_nots(rules: &[u16], nots: impl Fn(&[Rule], usize) -> Vec<usize>) -> Vec<
         rule.not = nots(&before, place);
     }
     rule_store(&program)
+}
+
+/// The text that a slip in step 1 or 2 delivers for a preference file's stores.
+fn wrong_translation(slip: Slip, rules: &[u16], names: &[u8]) -> Option<Vec<u8>> {
+    let file = check_rules_of(Kind::Preference, rules).ok()?;
+    let names = check_names(&file, names).ok()?;
+    let (mut plain, plain_names) = translator::translate(&file, &names);
+    let (n, p) = (file.atoms, file.minimised().len());
+    let step_1 = 2 * n - p;
+    let step_2 = step_1..step_1 + file.rules.len();
+    let varying = |a: &usize| *a < n && file.roles[*a] == Role::Varying;
+    match slip {
+        Slip::FirstRuleForMinimised => {
+            for a in 0..p {
+                let first = Rule {
+                    head: vec![a],
+                    body: Vec::new(),
+                    not: vec![n + a],
+                };
+                plain.rules.insert(2 * a, first);
+            }
+        }
+        Slip::NoFirstRuleForFixed => {
+            let fixed = |rule: &Rule| matches!(rule.head[..], [a] if a < n && file.is_fixed(a));
+            plain.rules.retain(|rule| !fixed(rule));
+        }
+        Slip::RulesAsConstraints => {
+            for rule in &mut plain.rules[step_2] {
+                rule.head.clear();
+            }
+        }
+        Slip::HeadAndBodyExchanged => {
+            for rule in &mut plain.rules[step_2] {
+                std::mem::swap(&mut rule.head, &mut rule.body);
+            }
+        }
+        Slip::VaryingLeftInTheHead => {
+            for rule in &mut plain.rules[step_2] {
+                rule.head.extend(rule.not.iter().filter(|a| varying(a)));
+                rule.not.retain(|a| !varying(a));
+            }
+        }
+        _ => return None,
+    }
+    Some(writer::write(&plain, &plain_names))
+}
+
+fn deliver(text: &[u8], out: &mut [u8]) -> TextAnswer {
+    let Some(lent) = out.get_mut(..text.len()) else {
+        return TextAnswer {
+            refusal: 9,
+            bytes: 0,
+        };
+    };
+    lent.copy_from_slice(text);
+    TextAnswer {
+        refusal: 0,
+        bytes: text.len() as u64,
+    }
 }
 
 struct Wrong(Slip);
@@ -123,6 +193,9 @@ impl Engine for Wrong {
     fn translate(&self, rules: &[u16], names: &[u8], out: &mut [u8]) -> TextAnswer {
         if self.0 == Slip::ReturnsWithoutWriting {
             return Reference.translate(rules, names, &mut out.to_vec());
+        }
+        if let Some(text) = wrong_translation(self.0, rules, names) {
+            return deliver(&text, out);
         }
         let answer = Reference.translate(rules, names, out);
         self.text(answer, out)

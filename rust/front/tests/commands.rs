@@ -159,8 +159,8 @@ fn checks() {
     let counts = "\
         accepted: a plain program\n\
         atoms        15 of 1,100\n\
-        rules        31 of 4,200\n\
-        occurrences  79 of 24,000\n";
+        rules        29 of 4,200\n\
+        occurrences  75 of 24,000\n";
     assert_eq!(rigtomato("check -", &translation), ran(0, counts, ""));
     let full = format!(
         "(vary)\n(fix)\n{}",

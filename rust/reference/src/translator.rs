@@ -45,16 +45,26 @@ fn name(atom: Atom, names: &Names) -> Vec<u8> {
 
 fn step_1(file: &Program, rules: &mut Vec<Lists>) {
     for a in 0..file.atoms {
-        rules.push((vec![Original(a)], vec![], vec![N(a)]));
+        if file.class(a).is_none() {
+            rules.push((vec![Original(a)], vec![], vec![N(a)]));
+        }
         rules.push((vec![N(a)], vec![], vec![Original(a)]));
     }
 }
 
 fn step_2(file: &Program, rules: &mut Vec<Lists>) {
+    let minimised = |list: &[usize]| -> Vec<Atom> {
+        let chosen = list.iter().filter(|&&a| file.class(a).is_some());
+        chosen.map(|&a| Original(a)).collect()
+    };
+    let others = |list: &[usize], atom: fn(usize) -> Atom| -> Vec<Atom> {
+        let chosen = list.iter().filter(|&&a| file.class(a).is_none());
+        chosen.map(|&a| atom(a)).collect()
+    };
     for rule in &file.rules {
-        let mut not: Vec<Atom> = rule.head.iter().map(|&a| Original(a)).collect();
-        not.extend(rule.body.iter().map(|&b| N(b)));
-        rules.push((vec![], vec![], not));
+        let mut not = others(&rule.head, Original);
+        not.extend(others(&rule.body, N));
+        rules.push((minimised(&rule.head), minimised(&rule.body), not));
     }
 }
 

@@ -128,8 +128,8 @@ fn the_largest_translation_is_inside_the_plain_limits() {
     }
     let (n, p, k, r, l) = (256, 256, 16, 1_024, 8_192);
     let atoms = 3 * n + p + k + 2;
-    let rules = 3 * n + 2 * r + 5 * p + 2 * k + 4;
-    let occurrences = 6 * n + 2 * l + r + 17 * p + 5 * k + 7;
+    let rules = 3 * n + 2 * r + 4 * p + 2 * k + 4;
+    let occurrences = 6 * n + 2 * l + r + 15 * p + 5 * k + 7;
     assert_eq!(translated_sums(&text), (atoms, rules, occurrences));
 }
 

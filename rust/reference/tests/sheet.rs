@@ -1,4 +1,5 @@
-//! Document 01, "Sheets of known states".
+//! Document 01, "Sheets of known states"; the choice rules of a translation and its sums by
+//! document 02, W-214.
 
 mod common;
 
@@ -96,7 +97,33 @@ fn three_empty_lists() {
 
 #[test]
 fn sensor_or_dark() {
-    assert_eq!(translated_sums(SENSOR_OR_DARK), (10, 19, 46));
+    assert_eq!(translated_sums(SENSOR_OR_DARK), (10, 18, 44));
+}
+
+/// Steps 1 and 2, and where step 3 begins, of a file with atoms of every role.
+#[test]
+fn choice_rules() {
+    let text = "(min a)\n(min b)\n(vary v)\n(fix f)\n\
+        (rule (head v b f a) (body) (not))\n\
+        (rule (head) (body f b v a) (not))\n\
+        (rule (head a) (body b) (not))\n\
+        (rule (head v) (body f) (not))\n\
+        (rule (head) (body) (not))\n";
+    let expected = "(rule (head N.a) (body) (not a))\n\
+        (rule (head N.b) (body) (not b))\n\
+        (rule (head v) (body) (not N.v))\n\
+        (rule (head N.v) (body) (not v))\n\
+        (rule (head f) (body) (not N.f))\n\
+        (rule (head N.f) (body) (not f))\n\
+        (rule (head b a) (body) (not v f))\n\
+        (rule (head) (body b a) (not N.f N.v))\n\
+        (rule (head a) (body b) (not))\n\
+        (rule (head) (body) (not v N.f))\n\
+        (rule (head) (body) (not))\n\
+        (rule (head S.v S.b S.a U) (body) (not f))\n";
+    let delivered = String::from_utf8(programs::translate(text.as_bytes())).unwrap();
+    let (_, rules) = delivered.split_once('\n').unwrap();
+    assert!(rules.starts_with(expected), "{rules}");
 }
 
 #[test]
