@@ -1,4 +1,4 @@
--- The translations that document 01 marks ("Sheets of known states"), by computation.
+-- The translations that document 01 marks ("Sheets of known states"), with the counts of document 02, W-214, by computation.
 use mathlib.Core.Path.{_≡_, refl}
 use mathlib.Core.List.{[], _∷_}
 use lib.ListN.{length}

@@ -1,4 +1,4 @@
--- The ten steps of the translation, each its own definition under document 01's words, over the atoms as such.
+-- The ten steps of the translation, each its own definition, over the atoms as such: steps 1 and 2 in the words of document 02, W-214, the others in those of document 01.
 use Prim.Native.Nat.{suc, _-_}
 use mathlib.Core.List.{List, [], _∷_, _++_, map}
 use Rattle.rules.specs.Lists.{keep, filter, flat, from}

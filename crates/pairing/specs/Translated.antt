@@ -1,4 +1,4 @@
--- The plain program of the ten steps, its names, and the three sums (document 01, "The translation").
+-- The plain program of the ten steps, its names, and the three sums (document 01, "The translation"; document 02, W-214).
 use Prim.Native.Nat.{ℕ, _+_, _-_, _*_}
 use mathlib.Core.List.{List, [], map}
 use lib.ListN.{length}

@@ -1,4 +1,4 @@
--- The marked cases of document 01's "Sheets of known states", from the bytes of the files.
+-- The marked cases of document 01's "Sheets of known states", from the bytes of the files; the counts of translations are those of document 02, W-214.
 use Prim.Native.Nat.{ℕ}
 use mathlib.Core.Path.{_≡_}
 use mathlib.Core.List.{List, [], _∷_, _++_}
