@@ -1,7 +1,6 @@
 -- What the code learns of an atom from its class word.
-use Prim.Native.Nat.{ℕ, suc, _+_, _-_, _≤_, _<_}
+use Prim.Native.Nat.{ℕ, _+_, _≤_, _<_}
 use native.Mathlib.Omega.{arith}
-use native.Mathlib.Numerals.{add-one}
 use mathlib.Core.Path.{_≡_, sym, ap, _∙_, subst}
 use mathlib.Core.Bool.{Bool, true, false}
 use mathlib.Core.List.{List}
@@ -10,7 +9,6 @@ use lib.ListN.{length, getD}
 use borrow.Author.Tests.{le-leb, lt-leb, eq-eqb, ne-eqb}
 use native.Mathlib.Decide.{decLe, ℕ-discrete}
 use Rattle.kinds.specs.Limits.{classLimit, varying, fixed}
-use Rattle.rules.specs.Lists.{keep, filter, from}
 use Rattle.stores.specs.Program.{roleOf}
 use Rattle.stores.specs.declared.roles.Role.{Role}
 use Rattle.stores.specs.declared.roles.Role.the-variants.{Minimised, Varying, Fixed, Unknown}
@@ -135,26 +133,3 @@ module _ {ws : List ℕ} (low : Low ws) {a : ℕ} (l : a < length ws) {class : �
 
     pub goes-on : (class ≡ 0 → ⊥) → class ≤ limit → a + 1 ≤ upTo limit ws
     goes-on z k = cases (λ u e. up-to-more limit ws a at l (omega arith)) (λ u e. absurd (z e))
-
--- counting
-
-pub record Counting (t : ℕ → Bool) (n i c : ℕ) : Type 0 where
-  pub passed : i ≤ n
-  pub most : c ≤ i
-  pub is : c + length (filter t (from i (n - i))) ≡ length (filter t (from 0 n))
-
-pub count-begins : (t : ℕ → Bool) (n : ℕ) → Counting t n 0 0
-count-begins t n = let e : n - 0 ≡ n = omega arith in record { passed = omega arith; most = omega arith; is = rw e (omega arith) }
-
-module _ {t : ℕ → Bool} {n i c : ℕ} (h : Counting t n i c) where
-  next : i < n → length (filter t (from i (n - i))) ≡ length (keep (t i) i (filter t (from (i + 1) (n - (i + 1)))))
-  next l = let e : n - i ≡ suc (n - (i + 1)) = omega arith in rw (e, add-one)
-
-  pub count-more : {d : ℕ} → i < n → t i ≡ true → d ≡ c + 1 → Counting t n (i + 1) d
-  count-more {d} l e f = record { passed = omega arith; most = omega (arith, h .most); is = omega (arith, h .is, next l ∙ ap (λ (b : Bool). length (keep b i (filter t (from (i + 1) (n - (i + 1)))))) e) }
-
-  pub count-same : {d : ℕ} → i < n → t i ≡ false → d ≡ c → Counting t n (i + 1) d
-  count-same {d} l e f = record { passed = omega arith; most = omega (arith, h .most); is = omega (arith, h .is, next l ∙ ap (λ (b : Bool). length (keep b i (filter t (from (i + 1) (n - (i + 1)))))) e) }
-
-  pub count-ends : n ≤ i → c ≡ length (filter t (from 0 n))
-  count-ends l = let e : n - i ≡ 0 = omega arith in omega (arith, h .is, ap (λ (k : ℕ). length (filter t (from i k))) e)

@@ -1,4 +1,5 @@
-use Rattle.atom_lists.proofs.Roles.{Counting, count-begins, count-more, count-same, count-ends, some-class, no-class}
+use Rattle.atom_lists.proofs.Counting.{Counting, count-begins, count-more, count-same, count-ends}
+use Rattle.atom_lists.proofs.Roles.{some-class, no-class}
 use Rattle.atom_lists.specs.Roles.{minimisedCount}
 use Rattle.pairing.specs.Loops.{minimisedWord?}
 use mathlib.Core.Logic.{⊎-elim}

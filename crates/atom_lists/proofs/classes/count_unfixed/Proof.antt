@@ -1,4 +1,4 @@
-use Rattle.atom_lists.proofs.Roles.{Counting, count-begins, count-more, count-same, count-ends}
+use Rattle.atom_lists.proofs.Counting.{Counting, count-begins, count-more, count-same, count-ends}
 use Rattle.atom_lists.specs.Roles.{unfixedCount}
 use Rattle.pairing.specs.Loops.{fixedWord?}
 use mathlib.Core.Path.{sym, ap, _∙_}

@@ -1,4 +1,4 @@
-use Rattle.atom_lists.proofs.Counting.{Counted, begins, one-more, no-more, ends}
+use Rattle.atom_lists.proofs.Counting.{CountingAmong, among-begins, among-more, among-same, among-ends}
 use mathlib.Core.Logic.{⊎-elim}
 use native.Mathlib.Omega.{arith}
 use lib.ListN.{length}
@@ -9,13 +9,13 @@ use Rattle.atom_lists.proofs.parts.count_part.Tie as tie
 use Rattle.rules.proofs.Lists.{all-at}
 
 abbrev Inv-loop : tie.InvT-loop
-Inv-loop part atoms classes count₀ i₀ count i = Counted part classes atoms i count
+Inv-loop part atoms classes count₀ i₀ count i = CountingAmong part classes atoms i count
 
 abbrev μ-loop : tie.MeasureT-loop
 μ-loop part atoms classes count₀ i₀ count i = length atoms - i
 
 loop-holds : tie.Need-loop-holds Inv-loop μ-loop
-loop-holds c = begins _ _ _
+loop-holds c = among-begins _ _ _
 
 mul-is-of : tie.Need-mul-is-of Inv-loop μ-loop
 mul-is-of c = search needs
@@ -36,10 +36,10 @@ loop-less : tie.Need-loop-less Inv-loop μ-loop
 loop-less c = search needs
 
 loop-again : tie.Need-loop-again Inv-loop μ-loop
-loop-again c = ⊎-elim (λ w. one-more (c .before .before .before .before .loop .inv) (c .before .before .before .loop-test .taken) (c .before .is-of .ensures) (w .0 .taken) (omega arith)) (λ w. no-more (c .before .before .before .before .loop .inv) (c .before .before .before .loop-test .taken) (c .before .is-of .ensures) (w .0 .left) (omega arith)) (c .if1 .came)
+loop-again c = ⊎-elim (λ w. among-more (c .before .before .before .before .loop .inv) (c .before .before .before .loop-test .taken) (c .before .is-of .ensures) (w .0 .taken) (omega arith)) (λ w. among-same (c .before .before .before .before .loop .inv) (c .before .before .before .loop-test .taken) (c .before .is-of .ensures) (w .0 .left) (omega arith)) (c .if1 .came)
 
 returns : tie.Need-returns Inv-loop μ-loop
-returns c = ends (c .before .loop .inv) (c .loop-test .left)
+returns c = among-ends (c .before .loop .inv) (c .loop-test .left)
 
 pub count-part-spec : {M : Type 1} → statement M
 count-part-spec =
