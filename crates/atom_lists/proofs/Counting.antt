@@ -36,29 +36,28 @@ module _ {t : ℕ → Bool} {n i c : ℕ} (h : Counting t n i c) where
 
 -- in a list
 
-module _ (part : Part) (ws : List ℕ) where
-  pub record CountingAmong (xs : List ℕ) (i c : ℕ) : Type 0 where
-    pub passed : i ≤ length xs
-    pub most : c ≤ i
-    pub is : c + among part ws (drop i xs) ≡ among part ws xs
+pub record CountingAmong (part : Part) (xs : List ℕ) (i c : ℕ) : Type 0 where
+  pub passed : i ≤ length xs
+  pub most : c ≤ i
+  pub is : c + among part (drop i xs) ≡ among part xs
 
-  pub among-begins : (xs : List ℕ) → CountingAmong xs 0 0
-  among-begins xs = record { passed = omega arith; most = omega arith; is = omega arith }
+pub among-begins : (part : Part) (xs : List ℕ) → CountingAmong part xs 0 0
+among-begins part xs = record { passed = omega arith; most = omega arith; is = omega arith }
 
-module _ {part : Part} {ws xs : List ℕ} {i c : ℕ} (h : CountingAmong part ws xs i c) where
-  module _ (l : i < length xs) {b : Bool} (g : b ≡ of? part ws (getD xs i 0)) where
-    next-among : {t : Bool} → b ≡ t → among part ws (drop i xs) ≡ length (keep t (getD xs i 0) (filter (of? part ws) (drop (i + 1) xs)))
+module _ {part : Part} {xs : List ℕ} {i c : ℕ} (h : CountingAmong part xs i c) where
+  module _ (l : i < length xs) {b : Bool} (g : b ≡ of? part (getD xs i 0)) where
+    next-among : {t : Bool} → b ≡ t → among part (drop i xs) ≡ length (keep t (getD xs i 0) (filter (of? part) (drop (i + 1) xs)))
     unfolding among
     next-among e = rw (drop-cons xs i 0 l, add-one, ← g, e)
 
-    pub among-more : {d : ℕ} → b ≡ true → d ≡ c + 1 → CountingAmong part ws xs (i + 1) d
+    pub among-more : {d : ℕ} → b ≡ true → d ≡ c + 1 → CountingAmong part xs (i + 1) d
     unfolding among
     among-more e f = record { passed = omega arith; most = omega (arith, h .most); is = omega (arith, h .is, next-among e) }
 
-    pub among-same : {d : ℕ} → b ≡ false → d ≡ c → CountingAmong part ws xs (i + 1) d
+    pub among-same : {d : ℕ} → b ≡ false → d ≡ c → CountingAmong part xs (i + 1) d
     unfolding among
     among-same e f = record { passed = omega arith; most = omega (arith, h .most); is = omega (arith, h .is, next-among e) }
 
-  pub among-ends : length xs ≤ i → c ≡ among part ws xs
+  pub among-ends : length xs ≤ i → c ≡ among part xs
   unfolding among
-  among-ends l = omega (arith, h .is, ap (among part ws) (drop-of-length-le xs l))
+  among-ends l = omega (arith, h .is, ap (among part) (drop-of-length-le xs l))

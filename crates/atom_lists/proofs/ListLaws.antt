@@ -47,11 +47,11 @@ unfolding single
 single-is a = refl
 
 -- an atom of a part or of another, by its test
-module _ (part : Part) (ws : List ℕ) (b a : ℕ) {is : Bool} (h : is ≡ of? part ws a) where
-  pub of-part : is ≡ true → raised part ws b a ≡ (b + a) ∷ []
+module _ (part : Part) (b a : ℕ) {is : Bool} (h : is ≡ of? part a) where
+  pub of-part : is ≡ true → raised part b a ≡ (b + a) ∷ []
   unfolding raised
   of-part e = ap (λ (t : Bool). keep t (b + a) []) (sym h ∙ e)
 
-  pub of-another : is ≡ false → [] ≡ raised part ws b a
+  pub of-another : is ≡ false → [] ≡ raised part b a
   unfolding raised
   of-another e = ap (λ (t : Bool). keep t (b + a) []) (sym e ∙ h)

@@ -13,10 +13,9 @@ use Rattle.stores.specs.Program.{roleOf}
 use Rattle.stores.specs.declared.roles.Role.{Role}
 use Rattle.stores.specs.declared.roles.Role.the-variants.{Minimised, Varying, Fixed, Unknown}
 use Rattle.stores.proofs.ClassWord.{minimised, varies, is-fixed, below, above}
-use Rattle.pairing.specs.Loops.{minimisedWord?, fixedWord?}
 use Rattle.text.specs.ClassRuns.{upTo}
 use Rattle.text.proofs.ClassWords.{up-to-more, up-to-stop}
-use Rattle.atom_lists.specs.Roles.{pickClass, classOf, Low}
+use Rattle.atom_lists.specs.Roles.{pickClass, classOf, fixedWord?, Low}
 
 -- the class word behind a role
 pub data Told (w : ℕ) : Role → Type 0 where
@@ -39,18 +38,12 @@ tell w = first (decLe 1 w) (decLe w classLimit)
         last (no e) (yes f) = subst (Told w) (is-fixed w f) (told-fixed f)
         last (no e) (no f) = subst (Told w) (above w (omega arith) e f) (told-high (omega arith))
 
--- the class that each role stands for, whether it is minimised, and whether it is fixed
+-- the class that each role stands for, and whether it is fixed
 abbrev pub classIn : Role → ℕ
 classIn (Minimised i) = i
 classIn Varying = 0
 classIn Fixed = 0
 classIn Unknown = 0
-
-abbrev pub minimisedIn : Role → Bool
-minimisedIn (Minimised i) = true
-minimisedIn Varying = false
-minimisedIn Fixed = false
-minimisedIn Unknown = false
 
 abbrev pub fixedIn : Role → Bool
 fixedIn (Minimised i) = false
@@ -65,13 +58,6 @@ class-told {w} (told-fixed e) = let k : classLimit < w = omega arith in rw (lt-l
 class-told {w} (told-low h) = let e : w ≡ 0 = omega arith in rw e
 class-told {w} (told-high h) = let k : classLimit < w = omega arith in rw (lt-leb w classLimit k)
 
-minimised-told : {w : ℕ} {r : Role} → 1 ≤ w → Told w r → minimisedIn r ≡ leb w classLimit
-minimised-told {w} p (told-class l u) = sym (le-leb w classLimit u)
-minimised-told {w} p (told-varying e) = sym (lt-leb w classLimit (omega arith))
-minimised-told {w} p (told-fixed e) = sym (lt-leb w classLimit (omega arith))
-minimised-told {w} p (told-low h) = absurd (omega arith)
-minimised-told {w} p (told-high h) = sym (lt-leb w classLimit (omega arith))
-
 fixed-told : {w : ℕ} {r : Role} → Told w r → fixedIn r ≡ eqb w fixed
 fixed-told {w} (told-class l u) = sym (ne-eqb w fixed (λ e. omega arith))
 fixed-told {w} (told-varying e) = sym (ne-eqb w fixed (λ f. omega arith))
@@ -83,9 +69,6 @@ module _ (ws : List ℕ) (a : ℕ) {role known : Role} (h : role ≡ roleOf (get
   pub class-is : classIn known ≡ classOf ws a
   unfolding classOf
   class-is = ap classIn (sym e ∙ h) ∙ class-told (tell (getD ws a 0))
-
-  pub minimised-is : Low ws → a < length ws → minimisedIn known ≡ minimisedWord? ws a
-  minimised-is low l = ap minimisedIn (sym e ∙ h) ∙ minimised-told (low .word a l) (tell (getD ws a 0))
 
   pub fixed-is : fixedIn known ≡ fixedWord? ws a
   fixed-is = ap fixedIn (sym e ∙ h) ∙ fixed-told (tell (getD ws a 0))

@@ -14,5 +14,5 @@ unfoldable pub single : ℕ → List ℕ
 single a = a ∷ []
 
 -- an atom of a part, with its number raised
-unfoldable pub raised : Part → List ℕ → ℕ → ℕ → List ℕ
-raised part ws b a = keep (of? part ws a) (b + a) []
+unfoldable pub raised : Part → ℕ → ℕ → List ℕ
+raised part b a = keep (of? part a) (b + a) []

@@ -2,11 +2,10 @@
 use Prim.Native.Nat.{ℕ, _≤_, _<_}
 use mathlib.Core.Bool.{Bool, true, false, not}
 use mathlib.Core.List.{List}
-use lib.Dec.{leb}
+use lib.Dec.{leb, eqb}
 use lib.ListN.{length, getD}
-use Rattle.kinds.specs.Limits.{classLimit}
+use Rattle.kinds.specs.Limits.{classLimit, fixed}
 use Rattle.rules.specs.Lists.{filter, from}
-use Rattle.pairing.specs.Loops.{minimisedWord?, fixedWord?}
 
 abbrev pub pickClass : Bool → ℕ → ℕ
 pickClass true w = w
@@ -21,7 +20,10 @@ pub record Low (ws : List ℕ) : Type 0 where
   pub word : (a : ℕ) → a < length ws → 1 ≤ getD ws a 0
 
 unfoldable pub minimisedCount : List ℕ → ℕ
-minimisedCount ws = length (filter (minimisedWord? ws) (from 0 (length ws)))
+minimisedCount ws = length (filter (λ a. leb (getD ws a 0) classLimit) (from 0 (length ws)))
+
+abbrev pub fixedWord? : List ℕ → ℕ → Bool
+fixedWord? ws a = eqb (getD ws a 0) fixed
 
 unfoldable pub unfixedCount : List ℕ → ℕ
 unfixedCount ws = length (filter (λ a. not (fixedWord? ws a)) (from 0 (length ws)))

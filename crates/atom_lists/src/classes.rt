@@ -4,9 +4,8 @@ use stores::roles::role_of;
 ghost use mathlib.Core.Path.{_≡_};
 ghost use Prim.Native.Nat.{_<_, _≤_};
 ghost use lib.ListN.{length};
-ghost use Rattle.pairing.specs.Loops.{minimisedWord?, fixedWord?};
 ghost use Rattle.text.specs.ClassRuns.{upTo};
-ghost use Rattle.atom_lists.specs.Roles.{classOf, Low, unfixedCount, minimisedCount};
+ghost use Rattle.atom_lists.specs.Roles.{classOf, Low, fixedWord?, unfixedCount, minimisedCount};
 
 // An atom's class; 0 for an atom that is not minimised.
 pub fn class_of(classes: &[u16], atom: u16) -> u16
@@ -22,21 +21,7 @@ pub fn class_of(classes: &[u16], atom: u16) -> u16
     }
 }
 
-// Whether an atom is minimised.
-pub fn is_minimised(classes: &[u16], atom: u16) -> bool
-    requires { ⌜ (atom < length (now classes)) × Low (now classes) ⌝ }
-    ensures { λ r. ⌜ r ≡ minimisedWord? (now (classes .entry)) atom ⌝ }
-{
-    let role = role_of(classes[atom as usize]);
-    match role {
-        Role::Minimised(_) => true,
-        Role::Varying => false,
-        Role::Fixed => false,
-        Role::Unknown => false,
-    }
-}
-
-pub fn is_fixed(classes: &[u16], atom: u16) -> bool
+fn is_fixed(classes: &[u16], atom: u16) -> bool
     requires { ⌜ atom < length (now classes) ⌝ }
     ensures { λ r. ⌜ r ≡ fixedWord? (now (classes .entry)) atom ⌝ }
 {

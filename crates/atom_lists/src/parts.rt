@@ -1,6 +1,4 @@
 // The atoms of a list that are of one part.
-use crate::classes::is_fixed;
-use crate::classes::is_minimised;
 use output::words::push;
 ghost use mathlib.Core.Path.{_≡_};
 ghost use Prim.Native.Nat.{_<_, _≤_};
@@ -11,36 +9,32 @@ ghost use Rattle.rules.specs.Lists.{All};
 ghost use Rattle.output.specs.Emitted.{Emitted, InRange};
 ghost use Rattle.atom_lists.specs.ListWords.{each, raised};
 ghost use Rattle.atom_lists.specs.Parts.{of?, among};
-ghost use Rattle.atom_lists.specs.Roles.{Low};
 
+// The atoms below a number, or those from it on. A file's class words rise, so its minimised atoms are those below
+// their count, and its fixed ones those from the count of the others on.
 pub enum Part {
-    Minimised,
-    Unminimised,
-    Fixed,
-    Unfixed,
+    Below(u16),
+    From(u16),
 }
 
-fn is_of(part: Part, classes: &[u16], atom: u16) -> bool
-    requires { ⌜ (atom < length (now classes)) × Low (now classes) ⌝ }
-    ensures { λ r. ⌜ r ≡ of? part (now (classes .entry)) atom ⌝ }
+fn is_of(part: Part, atom: u16) -> bool
+    ensures { λ r. ⌜ r ≡ of? part atom ⌝ }
 {
     match part {
-        Part::Minimised => is_minimised(classes, atom),
-        Part::Unminimised => !is_minimised(classes, atom),
-        Part::Fixed => is_fixed(classes, atom),
-        Part::Unfixed => !is_fixed(classes, atom),
+        Part::Below(end) => atom < end,
+        Part::From(first) => first <= atom,
     }
 }
 
 // How many atoms of a list are of a part.
-pub fn count_part(part: Part, atoms: &[u16], classes: &[u16]) -> u16
-    requires { ⌜ All (λ a. a < length (now classes)) (now atoms) × Low (now classes) × (length (now atoms) ≤ occurrenceLimit Plain) ⌝ }
-    ensures { λ r. ⌜ r ≡ among part (now (classes .entry)) (now (atoms .entry)) ⌝ }
+pub fn count_part(part: Part, atoms: &[u16]) -> u16
+    requires { ⌜ length (now atoms) ≤ occurrenceLimit Plain ⌝ }
+    ensures { λ r. ⌜ r ≡ among part (now (atoms .entry)) ⌝ }
 {
     let mut count: u16 = 0;
     let mut i: usize = 0;
     while i < atoms.len() {
-        if is_of(part, classes, atoms[i]) {
+        if is_of(part, atoms[i]) {
             count += 1;
         }
         i += 1;
@@ -49,39 +43,25 @@ pub fn count_part(part: Part, atoms: &[u16], classes: &[u16]) -> u16
 }
 
 // An atom of a part, with its number raised by `shift`.
-fn push_part(
-    part: Part,
-    atom: u16,
-    classes: &[u16],
-    shift: u16,
-    out: &mut [u16],
-    at: usize,
-) -> usize
-    requires { ⌜ (atom < length (now classes)) × (length (now classes) ≤ 256) × Low (now classes) × (shift ≤ 1100) × InRange at (raised part (now classes) shift atom) ⌝ }
-    ensures { λ r. ⌜ Emitted (now (out .entry)) at (raised part (now (classes .entry)) shift atom) (now (out .exit)) r ⌝ }
+fn push_part(part: Part, atom: u16, shift: u16, out: &mut [u16], at: usize) -> usize
+    requires { ⌜ (atom < 256) × (shift ≤ 1100) × InRange at (raised part shift atom) ⌝ }
+    ensures { λ r. ⌜ Emitted (now (out .entry)) at (raised part shift atom) (now (out .exit)) r ⌝ }
 {
-    if is_of(part, classes, atom) {
+    if is_of(part, atom) {
         return push(shift + atom, out, at);
     }
     at
 }
 
 // The atoms of a list that are of a part, each with its number raised by `shift`.
-pub fn emit_part(
-    part: Part,
-    atoms: &[u16],
-    classes: &[u16],
-    shift: u16,
-    out: &mut [u16],
-    at: usize,
-) -> usize
-    requires { ⌜ All (λ a. a < length (now classes)) (now atoms) × (length (now classes) ≤ 256) × Low (now classes) × (shift ≤ 1100) × InRange at (each (raised part (now classes) shift) (now atoms)) ⌝ }
-    ensures { λ r. ⌜ Emitted (now (out .entry)) at (each (raised part (now (classes .entry)) shift) (now (atoms .entry))) (now (out .exit)) r ⌝ }
+pub fn emit_part(part: Part, atoms: &[u16], shift: u16, out: &mut [u16], at: usize) -> usize
+    requires { ⌜ All (λ a. a < 256) (now atoms) × (shift ≤ 1100) × InRange at (each (raised part shift) (now atoms)) ⌝ }
+    ensures { λ r. ⌜ Emitted (now (out .entry)) at (each (raised part shift) (now (atoms .entry))) (now (out .exit)) r ⌝ }
 {
     let mut next = at;
     let mut i: usize = 0;
     while i < atoms.len() {
-        next = push_part(part, atoms[i], classes, shift, out, next);
+        next = push_part(part, atoms[i], shift, out, next);
         i += 1;
     }
     next

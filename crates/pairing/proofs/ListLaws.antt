@@ -1,16 +1,16 @@
 -- General laws of lists: following numbers, chosen entries, entries that differ.
 use Prim.Native.Nat.{ℕ, zero, suc, _+_, _≤_, _<_}
 use native.Mathlib.Omega.{arith}
-use mathlib.Core.Path.{_≡_, refl, sym, ap, ap₂, _∙_}
+use mathlib.Core.Path.{_≡_, refl, sym, ap, ap₂, subst, _∙_}
 use mathlib.Core.List.{List, [], _∷_, _++_, map, map-append, append-assoc, head-eq-of-cons-eq, tail-eq-of-cons-eq}
 use mathlib.Core.Bool.{Bool, true, false}
 use mathlib.Core.Logic.{_≢_}
-use lib.Dec.{T}
+use lib.Dec.{T, ltb, lt→ltb, ltb→lt}
 use lib.ListN.{length, getD, take, length-append}
 use lib.Seq.{getD-append-seam}
-use Rattle.rules.specs.Lists.{All, Distinct, keep, filter, flat, from}
-use Rattle.rules.proofs.Booleans.{T-of}
-use Rattle.rules.proofs.Lists.{all-imp, all-app, all-filter, all-map, all-from, distinct-map}
+use Rattle.rules.specs.Lists.{All, Any, Distinct, keep, filter, flat, from}
+use Rattle.rules.proofs.Booleans.{T-of, bool-ext}
+use Rattle.rules.proofs.Lists.{all-imp, all-app, all-filter, any-filter, all-map, all-from, from-all, any-from, from-any, distinct-map}
 
 -- following numbers
 
@@ -52,13 +52,26 @@ pub map-keep : {A B : Type 0} (f : A → B) (b : Bool) (x : A) (l : List A) → 
 map-keep f true x l = refl
 map-keep f false x l = refl
 
-pub map-eq : {A B : Type 0} (f g : A → B) → ((a : A) → f a ≡ g a) → (l : List A) → map f l ≡ map g l
-map-eq f g h [] = refl
-map-eq {B} f g h (x ∷ l) = ap₂ (λ (y : B) (r : List B). y ∷ r) (h x) (map-eq f g h l)
-
 pub all-each : {A : Type 0} (P : A → Type 0) → ((a : A) → P a) → (l : List A) → All P l
 all-each P f [] = tt
 all-each P f (x ∷ l) = (f x, all-each P f l)
+
+-- functions that agree on a list
+
+pub map-same : {A B : Type 0} (f g : A → B) (l : List A) → All (λ a. f a ≡ g a) l → map f l ≡ map g l
+map-same f g [] h = refl
+map-same {B} f g (x ∷ l) h = ap₂ (λ (y : B) (r : List B). y ∷ r) (h .0) (map-same f g l (h .1))
+
+pub map-eq : {A B : Type 0} (f g : A → B) → ((a : A) → f a ≡ g a) → (l : List A) → map f l ≡ map g l
+map-eq f g h l = map-same f g l (all-each (λ a. f a ≡ g a) h l)
+
+pub flat-same : {A B : Type 0} (f g : A → List B) (l : List A) → All (λ a. f a ≡ g a) l → flat f l ≡ flat g l
+flat-same f g [] h = refl
+flat-same {B} f g (x ∷ l) h = ap₂ (λ (y r : List B). y ++ r) (h .0) (flat-same f g l (h .1))
+
+pub filter-same : {A : Type 0} (t u : A → Bool) (l : List A) → All (λ a. t a ≡ u a) l → filter t l ≡ filter u l
+filter-same t u [] h = refl
+filter-same {A} t u (x ∷ l) h = ap₂ (λ (b : Bool) (r : List A). keep b x r) (h .0) (filter-same t u l (h .1))
 
 -- chosen entries
 
@@ -84,6 +97,19 @@ filter-first t s (suc c) h = step (t s) refl (filter-first t (suc s) c (λ a b l
       where
         none : rest ≡ []
         none = filter-none t (from (suc s) c) (all-from (λ a. T (t a) → ⊥) (suc s) c (λ a l u k. T-of e (h s a (omega arith) l (omega arith) k)))
+
+-- a test that chooses a first part holds below its end
+pub first-part : (t : ℕ → Bool) (n c : ℕ) → filter t (from 0 n) ≡ from 0 c → (a : ℕ) → a < n → t a ≡ ltb a c
+first-part t n c e a l = bool-ext (t a) (ltb a c) there back
+  where
+    there : T (t a) → T (ltb a c)
+    there h =
+        let q = from-any (λ b. b ≡ a) 0 c (subst (Any (λ b. b ≡ a)) e (any-filter (λ b. b ≡ a) t (from 0 n) (any-from (λ b. T (t b) × (b ≡ a)) 0 n a (omega arith) (omega arith) (h, refl)))) in
+        let is : q .0 ≡ a = q .3 in
+        lt→ltb a c (omega (arith, q .2))
+
+    back : T (ltb a c) → T (t a)
+    back h = from-all (λ b. T (t b)) 0 c (subst (All (λ b. T (t b))) e (all-filter (λ b. T (t b)) t (from 0 n) (all-each (λ b. T (t b) → T (t b)) (λ b k. k) (from 0 n)))) a (omega arith) (omega (arith, ltb→lt a c h))
 
 -- entries that differ
 

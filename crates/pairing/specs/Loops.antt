@@ -1,40 +1,37 @@
 -- The translation as loops over numbers write it. N.a has the number n + a, S.a s + a, D.a d + a, E.j e + j, and U u; proofs/Looped says that this is the translation.
 use Prim.Native.Nat.{ℕ, suc, _+_, _-_, _*_}
 use mathlib.Core.List.{List, [], _∷_, _++_, map}
-use mathlib.Core.Bool.{Bool, not}
-use lib.Dec.{leb, eqb}
+use mathlib.Core.Bool.{Bool}
+use lib.Dec.{leb, ltb}
 use lib.ListN.{length, getD, take}
 use Rattle.kinds.specs.Words.{bytes, byte, decimal}
 use Rattle.rules.specs.Lists.{keep, filter, flat, from}
 use Rattle.rules.specs.Rules.{Rule, rule}
-use Rattle.kinds.specs.Limits.{classLimit, fixed}
 use Rattle.rules.specs.Preferred.{ofClass}
 use Rattle.stores.specs.Program.{Program}
 use Rattle.pairing.specs.Atoms.{minimisedAtoms, unfixedAtoms}
 
-abbrev pub fixedWord? : List ℕ → ℕ → Bool
-fixedWord? ws a = eqb (getD ws a 0) fixed
+-- the atoms below m
+abbrev pub below : ℕ → ℕ → Bool
+below m a = ltb a m
 
-abbrev pub minimisedWord? : List ℕ → ℕ → Bool
-minimisedWord? ws a = leb (getD ws a 0) classLimit
-
--- step 1, atom a
-abbrev pub loop1 : List ℕ → ℕ → ℕ → List (Rule ℕ)
-loop1 ws n a = keep (not (minimisedWord? ws a)) (rule (a ∷ []) [] ((n + a) ∷ [])) (rule ((n + a) ∷ []) [] (a ∷ []) ∷ [])
+-- step 1, atom a; the minimised atoms are those below m
+abbrev pub loop1 : ℕ → ℕ → ℕ → List (Rule ℕ)
+loop1 m n a = keep (leb m a) (rule (a ∷ []) [] ((n + a) ∷ [])) (rule ((n + a) ∷ []) [] (a ∷ []) ∷ [])
 
 -- step 2, rule r
-abbrev pub loop2 : List ℕ → ℕ → Rule ℕ → Rule ℕ
-loop2 ws n r = rule
-    (filter (minimisedWord? ws) (r .head))
-    (filter (minimisedWord? ws) (r .body))
-    (filter (λ a. not (minimisedWord? ws a)) (r .head) ++ map (λ a. n + a) (filter (λ a. not (minimisedWord? ws a)) (r .body)))
+abbrev pub loop2 : ℕ → ℕ → Rule ℕ → Rule ℕ
+loop2 m n r = rule
+    (filter (below m) (r .head))
+    (filter (below m) (r .body))
+    (filter (leb m) (r .head) ++ map (λ a. n + a) (filter (leb m) (r .body)))
 
--- step 3, rule r
-abbrev pub loop3 : List ℕ → ℕ → ℕ → Rule ℕ → Rule ℕ
-loop3 ws s u r = rule
-    (map (λ a. s + a) (filter (λ a. not (fixedWord? ws a)) (r .head)) ++ (u ∷ []))
-    (map (λ a. s + a) (filter (λ a. not (fixedWord? ws a)) (r .body)) ++ filter (fixedWord? ws) (r .body))
-    (filter (fixedWord? ws) (r .head))
+-- step 3, rule r; the unfixed atoms are those below q
+abbrev pub loop3 : ℕ → ℕ → ℕ → Rule ℕ → Rule ℕ
+loop3 q s u r = rule
+    (map (λ a. s + a) (filter (below q) (r .head)) ++ (u ∷ []))
+    (map (λ a. s + a) (filter (below q) (r .body)) ++ filter (leb q) (r .body))
+    (filter (leb q) (r .head))
 
 -- step 4
 abbrev pub loop4 : ℕ → ℕ → Rule ℕ
@@ -68,9 +65,9 @@ loops ws rs n k q m =
     let d : ℕ = 2 * n + q in
     let e : ℕ = 2 * n + q + m in
     let u : ℕ = 2 * n + q + m + suc k in
-    flat (loop1 ws n) (from 0 n)
-    ++ (map (loop2 ws n) rs
-    ++ (map (loop3 ws s u) rs
+    flat (loop1 m n) (from 0 n)
+    ++ (map (loop2 m n) rs
+    ++ (map (loop3 q s u) rs
     ++ ((loop4 e u ∷ [])
     ++ (map (loop5 ws d e u) (from 1 k)
     ++ (flat (λ a. loop6 n s d e u (getD ws a 0) a) (from 0 m)

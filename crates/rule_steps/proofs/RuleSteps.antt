@@ -1,42 +1,55 @@
 -- Steps 2 and 3, rule by rule.
-use Prim.Native.Nat.{ℕ, _+_, _-_, _≤_, _<_}
+use Prim.Native.Nat.{ℕ, suc, _+_, _-_, _≤_, _<_}
 use native.Mathlib.Nat.{add-sub-cancel-left}
 use native.Mathlib.Omega.{arith}
+use native.Mathlib.Decide.{decLt}
 use mathlib.Core.Path.{_≡_, refl, sym, ap, ap₂, _∙_, subst}
 use mathlib.Core.Bool.{Bool, true, false}
 use mathlib.Core.List.{List, [], _∷_, _++_, map, map-id, append-assoc}
+use lib.Dec.{leb, ltb}
 use lib.ListN.{length, take, drop, length-append, length-map, length-drop}
 use lib.Seq.{length-take-le}
+use borrow.Author.Tests.{lt-ltb, le-ltb, le-leb, lt-leb}
 use Rattle.rules.specs.Lists.{All, keep, filter, flat}
 use Rattle.rules.specs.Rules.{rule}
+use Rattle.rules.proofs.Lists.{all-imp}
 use Rattle.stores.specs.RuleStore.{heads, bodies, ruleAt, ruleWords}
 use Rattle.stores.specs.StoredRules.{StoredRule}
-use Rattle.pairing.specs.Loops.{minimisedWord?, fixedWord?, loop2, loop3}
+use Rattle.pairing.specs.Loops.{below, loop2, loop3}
 use Rattle.pairing.proofs.ListLaws.{map-eq}
-use Rattle.pairing.proofs.SumLaws.{length-parts}
 use Rattle.output.proofs.Emitting.{Ahead}
 use Rattle.steps.specs.RuleLists.{RuleLists}
-use Rattle.atom_lists.specs.Roles.{Low}
 use Rattle.atom_lists.specs.Parts.{of?, among}
 use Rattle.atom_lists.specs.declared.parts.Part.{Part}
-use Rattle.atom_lists.specs.declared.parts.Part.the-variants.{Minimised, Unminimised, Fixed, Unfixed}
+use Rattle.atom_lists.specs.declared.parts.Part.the-variants.{Below, From}
 use Rattle.atom_lists.specs.ListWords.{each, raised}
 use Rattle.steps.specs.StepWords.{lists2, words2, lists3, words3}
 
 -- the words of a list, as the steps say it
 
-module _ (part : Part) (ws : List ℕ) where
-  each-raised : (b : ℕ) (xs : List ℕ) → each (raised part ws b) xs ≡ map (λ a. b + a) (filter (of? part ws) xs)
+module _ (part : Part) where
+  each-raised : (b : ℕ) (xs : List ℕ) → each (raised part b) xs ≡ map (λ a. b + a) (filter (of? part) xs)
   unfolding each raised
   each-raised b [] = refl
-  each-raised b (x ∷ xs) = go (of? part ws x) (each-raised b xs)
+  each-raised b (x ∷ xs) = go (of? part x) (each-raised b xs)
     where
-      go : (t : Bool) → flat (raised part ws b) xs ≡ map (λ a. b + a) (filter (of? part ws) xs) → keep t (b + x) [] ++ flat (raised part ws b) xs ≡ map (λ a. b + a) (keep t x (filter (of? part ws) xs))
+      go : (t : Bool) → flat (raised part b) xs ≡ map (λ a. b + a) (filter (of? part) xs) → keep t (b + x) [] ++ flat (raised part b) xs ≡ map (λ a. b + a) (keep t x (filter (of? part) xs))
       go true e = ap (λ (l : List ℕ). (b + x) ∷ l) e
       go false e = e
 
-  each-itself : (xs : List ℕ) → each (raised part ws 0) xs ≡ filter (of? part ws) xs
-  each-itself xs = each-raised 0 xs ∙ map-eq (λ a. 0 + a) (λ a. a) (λ a. omega arith) (filter (of? part ws) xs) ∙ map-id (filter (of? part ws) xs)
+  each-itself : (xs : List ℕ) → each (raised part 0) xs ≡ filter (of? part) xs
+  each-itself xs = each-raised 0 xs ∙ map-eq (λ a. 0 + a) (λ a. a) (λ a. omega arith) (filter (of? part) xs) ∙ map-id (filter (of? part) xs)
+
+-- a list is those below a number and those from it on
+both-parts : (m : ℕ) (xs : List ℕ) → among (Below m) xs + among (From m) xs ≡ length xs
+unfolding among
+both-parts m [] = omega arith
+both-parts m (x ∷ xs) = step (decLt x m) (both-parts m xs)
+  where
+    step : Dec (x < m) → length (filter (of? (Below m)) xs) + length (filter (of? (From m)) xs) ≡ length xs
+        → length (keep (ltb x m) x (filter (of? (Below m)) xs)) + length (keep (leb m x) x (filter (of? (From m)) xs)) ≡ suc (length xs)
+    step (yes l) e = rw (lt-ltb x m l, lt-leb m x l) (omega arith)
+    step (no l) e = let u : m ≤ x = omega arith in rw (le-ltb x m u, le-leb m x u) (omega arith)
 
 -- the lists of the rule at the front of the words, as the code takes them
 
@@ -72,68 +85,70 @@ module _ (ws : List ℕ) where
     pub bodies-below : All (λ a. a < n) bodyPart
     bodies-below = subst (All (λ a. a < n)) (sym body-part) (h .bodies)
 
-    pub lists-fit : {cs : List ℕ} → n ≡ length cs → length cs ≤ 256 → Low cs → RuleLists cs headPart bodyPart
-    lists-fit {cs} e l low =
+    pub lists-fit : n ≤ 256 → RuleLists headPart bodyPart
+    lists-fit l =
         record {
-          few = l;
-          low = low;
           few-heads = omega (arith, head-length, h .few);
           few-bodies = omega (arith, body-length, h .few);
-          heads-below = subst (λ (k : ℕ). All (λ a. a < k) headPart) e heads-below;
-          bodies-below = subst (λ (k : ℕ). All (λ a. a < k) bodyPart) e bodies-below;
+          heads-below = few headPart heads-below;
+          bodies-below = few bodyPart bodies-below;
         }
+      where
+        few : (xs : List ℕ) → All (λ a. a < n) xs → All (λ a. a < 256) xs
+        few = all-imp (λ a. a < n) (λ a. a < 256) (λ a k. omega arith)
 
 -- the steps by the lists of a rule
 
-module _ (cs : List ℕ) where
-  module _ (n : ℕ) where
-    abbrev words-by2 : List ℕ → List ℕ → List ℕ
-    words-by2 h b = ruleWords (loop2 cs n (rule h b []))
+module _ (m n : ℕ) where
+  abbrev words-by2 : List ℕ → List ℕ → List ℕ
+  words-by2 h b = ruleWords (loop2 m n (rule h b []))
 
-    by-lists2 : (h b : List ℕ) → words-by2 h b ≡ lists2 cs n h b
-    unfolding lists2 among
-    by-lists2 h b =
-        let others = map (λ a. n + a) (filter (of? Unminimised cs) b) in
-        let third : length (filter (of? Unminimised cs) h ++ others) ≡ length h - length (filter (of? Minimised cs) h) + (length b - length (filter (of? Minimised cs) b)) =
-        omega (arith, length-append (filter (of? Unminimised cs) h) others, length-map (filter (of? Unminimised cs) b) (λ a. n + a), length-parts (minimisedWord? cs) h, length-parts (minimisedWord? cs) b) in
-        rw (third, each-itself Minimised cs h, each-itself Minimised cs b, each-itself Unminimised cs h, each-raised Unminimised cs n b)
+  by-lists2 : (h b : List ℕ) → words-by2 h b ≡ lists2 m n h b
+  unfolding lists2 among
+  by-lists2 h b =
+      let others = map (λ a. n + a) (filter (leb m) b) in
+      let third : length (filter (leb m) h ++ others) ≡ length h - length (filter (below m) h) + (length b - length (filter (below m) b)) =
+      omega (arith, length-append (filter (leb m) h) others, length-map (filter (leb m) b) (λ a. n + a), both-parts m h, both-parts m b) in
+      rw (third, each-itself (Below m) h, each-itself (Below m) b, each-itself (From m) h, each-raised (From m) n b)
 
-    pub by-rule2 : (ws : List ℕ) → words2 cs n (ruleAt ws) ≡ lists2 cs n (headPart ws) (bodyPart ws)
-    unfolding words2
-    by-rule2 ws = ap₂ words-by2 (sym (head-part ws)) (sym (body-part ws)) ∙ by-lists2 (headPart ws) (bodyPart ws)
+  pub by-rule2 : (ws : List ℕ) → words2 m n (ruleAt ws) ≡ lists2 m n (headPart ws) (bodyPart ws)
+  unfolding words2
+  by-rule2 ws = ap₂ words-by2 (sym (head-part ws)) (sym (body-part ws)) ∙ by-lists2 (headPart ws) (bodyPart ws)
 
-  module _ (s u : ℕ) where
-    abbrev words-by3 : List ℕ → List ℕ → List ℕ
-    words-by3 h b = ruleWords (loop3 cs s u (rule h b []))
+module _ (q s u : ℕ) where
+  abbrev words-by3 : List ℕ → List ℕ → List ℕ
+  words-by3 h b = ruleWords (loop3 q s u (rule h b []))
 
-    by-lists3 : (h b : List ℕ) → words-by3 h b ≡ lists3 cs s u h b
-    unfolding lists3 among
-    by-lists3 h b =
-        let heads = map (λ a. s + a) (filter (of? Unfixed cs) h) in
-        let bodies = map (λ a. s + a) (filter (of? Unfixed cs) b) in
-        let first : length (heads ++ (u ∷ [])) ≡ length h - length (filter (of? Fixed cs) h) + 1 =
-        omega (arith, length-append heads (u ∷ []), length-map (filter (of? Unfixed cs) h) (λ a. s + a), length-parts (fixedWord? cs) h) in
-        let second : length (bodies ++ filter (of? Fixed cs) b) ≡ length b =
-        omega (arith, length-append bodies (filter (of? Fixed cs) b), length-map (filter (of? Unfixed cs) b) (λ a. s + a), length-parts (fixedWord? cs) b) in
-        let lists = append-assoc heads (u ∷ []) ((bodies ++ filter (of? Fixed cs) b) ++ filter (of? Fixed cs) h) ∙ ap (λ (l : List ℕ). heads ++ (u ∷ l)) (append-assoc bodies (filter (of? Fixed cs) b) (filter (of? Fixed cs) h)) in
-        rw (first, second, each-raised Unfixed cs s h, each-raised Unfixed cs s b, each-itself Fixed cs h, each-itself Fixed cs b) (ap (λ (l : List ℕ). (length h - length (filter (of? Fixed cs) h) + 1) ∷ length b ∷ length (filter (of? Fixed cs) h) ∷ l) lists)
+  by-lists3 : (h b : List ℕ) → words-by3 h b ≡ lists3 q s u h b
+  unfolding lists3 among
+  by-lists3 h b =
+      let heads = map (λ a. s + a) (filter (below q) h) in
+      let bodies = map (λ a. s + a) (filter (below q) b) in
+      let first : length (heads ++ (u ∷ [])) ≡ length h - length (filter (leb q) h) + 1 =
+      omega (arith, length-append heads (u ∷ []), length-map (filter (below q) h) (λ a. s + a), both-parts q h) in
+      let second : length (bodies ++ filter (leb q) b) ≡ length b =
+      omega (arith, length-append bodies (filter (leb q) b), length-map (filter (below q) b) (λ a. s + a), both-parts q b) in
+      let lists = append-assoc heads (u ∷ []) ((bodies ++ filter (leb q) b) ++ filter (leb q) h) ∙ ap (λ (l : List ℕ). heads ++ (u ∷ l)) (append-assoc bodies (filter (leb q) b) (filter (leb q) h)) in
+      rw (first, second, each-raised (Below q) s h, each-raised (Below q) s b, each-itself (From q) h, each-itself (From q) b) (ap (λ (l : List ℕ). (length h - length (filter (leb q) h) + 1) ∷ length b ∷ length (filter (leb q) h) ∷ l) lists)
 
-    pub by-rule3 : (ws : List ℕ) → words3 cs s u (ruleAt ws) ≡ lists3 cs s u (headPart ws) (bodyPart ws)
-    unfolding words3
-    by-rule3 ws = ap₂ words-by3 (sym (head-part ws)) (sym (body-part ws)) ∙ by-lists3 (headPart ws) (bodyPart ws)
+  pub by-rule3 : (ws : List ℕ) → words3 q s u (ruleAt ws) ≡ lists3 q s u (headPart ws) (bodyPart ws)
+  unfolding words3
+  by-rule3 ws = ap₂ words-by3 (sym (head-part ws)) (sym (body-part ws)) ∙ by-lists3 (headPart ws) (bodyPart ws)
 
 -- the counts ahead of the lists
-module _ (cs h b : List ℕ) where
-  pub counted2 : (n : ℕ) {i j : ℕ} → i ≡ among Minimised cs h → j ≡ among Minimised cs b
-      → Ahead (lists2 cs n h b) (i ∷ j ∷ (length h - i + (length b - j)) ∷ []) (each (raised Minimised cs 0) h ++ (each (raised Minimised cs 0) b ++ (each (raised Unminimised cs 0) h ++ each (raised Unminimised cs n) b)))
+module _ (h b : List ℕ) where
+  pub counted2 : (m n : ℕ) {i j : ℕ} → i ≡ among (Below m) h → j ≡ among (Below m) b
+      → Ahead (lists2 m n h b) (i ∷ j ∷ (length h - i + (length b - j)) ∷ []) (each (raised (Below m) 0) h ++ (each (raised (Below m) 0) b ++ (each (raised (From m) 0) h ++ each (raised (From m) n) b)))
   unfolding lists2
-  counted2 n d e = record { is = rw (← d, ← e) }
+  counted2 m n d e = record { is = rw (← d, ← e) }
 
-  pub counted3 : (s u : ℕ) {k : ℕ} → k ≡ among Fixed cs h
-      → Ahead (lists3 cs s u h b) ((length h - k + 1) ∷ length b ∷ k ∷ []) (each (raised Unfixed cs s) h ++ (u ∷ (each (raised Unfixed cs s) b ++ (each (raised Fixed cs 0) b ++ each (raised Fixed cs 0) h))))
+  pub counted3 : (q s u : ℕ) {k : ℕ} → k ≡ among (From q) h
+      → Ahead (lists3 q s u h b) ((length h - k + 1) ∷ length b ∷ k ∷ []) (each (raised (Below q) s) h ++ (u ∷ (each (raised (Below q) s) b ++ (each (raised (From q) 0) b ++ each (raised (From q) 0) h))))
   unfolding lists3
-  counted3 s u e = record { is = rw (← e) }
+  counted3 q s u e = record { is = rw (← e) }
 
-pub few-among : (part : Part) (ws xs : List ℕ) → among part ws xs ≤ length xs
-unfolding among
-few-among part ws xs = omega (arith, length-parts (of? part ws) xs)
+pub few-below : (m : ℕ) (xs : List ℕ) → among (Below m) xs ≤ length xs
+few-below m xs = omega (arith, both-parts m xs)
+
+pub few-from : (m : ℕ) (xs : List ℕ) → among (From m) xs ≤ length xs
+few-from m xs = omega (arith, both-parts m xs)

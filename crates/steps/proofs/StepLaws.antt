@@ -4,9 +4,8 @@ use native.Mathlib.Omega.{arith}
 use native.Mathlib.Nat.{add-zero}
 use mathlib.Core.Path.{_≡_, refl, sym, ap, _∙_}
 use mathlib.Core.List.{List, [], _∷_, _++_}
-use mathlib.Core.Bool.{Bool, true, false}
 use lib.ListN.{getD}
-use Rattle.pairing.specs.Loops.{minimisedWord?}
+use borrow.Author.Tests.{le-leb, lt-leb}
 use Rattle.output.proofs.Emitting.{Ahead}
 use Rattle.steps.specs.StepWords.{words1, words4, classWords6, words6}
 use Rattle.steps.specs.declared.offsets.Offsets.{Offsets}
@@ -18,14 +17,14 @@ unfolding words4
 ends-words e u = ap (λ (x : ℕ). 2 ∷ 0 ∷ 0 ∷ x ∷ u ∷ []) (add-zero e)
 
 -- the rules of step 1
-module _ (ws : List ℕ) (n a : ℕ) {minimised : Bool} (h : minimised ≡ minimisedWord? ws a) where
-  pub second-alone : minimised ≡ true → words1 ws n a ≡ 1 ∷ 0 ∷ 1 ∷ (n + a) ∷ a ∷ []
+module _ (m n a : ℕ) where
+  pub second-alone : a < m → words1 m n a ≡ 1 ∷ 0 ∷ 1 ∷ (n + a) ∷ a ∷ []
   unfolding words1
-  second-alone e = rw (← h, e)
+  second-alone l = rw (lt-leb m a l)
 
-  pub both-rules : minimised ≡ false → words1 ws n a ≡ 1 ∷ 0 ∷ 1 ∷ a ∷ (n + a) ∷ 1 ∷ 0 ∷ 1 ∷ (n + a) ∷ a ∷ []
+  pub both-rules : m ≤ a → words1 m n a ≡ 1 ∷ 0 ∷ 1 ∷ a ∷ (n + a) ∷ 1 ∷ 0 ∷ 1 ∷ (n + a) ∷ a ∷ []
   unfolding words1
-  both-rules e = rw (← h, e)
+  both-rules l = rw (le-leb m a l)
 
 -- the four rules of step 6, one after the other
 module _ (o : Offsets) (i a : ℕ) where

@@ -6,7 +6,7 @@ use lib.ListN.{length}
 use Rattle.kinds.specs.Limits.{classLimit}
 use Rattle.stores.specs.Program.{NeverFalling}
 use Rattle.stores.specs.StoredRules.{StoredRules}
-use Rattle.atom_lists.specs.Roles.{Low, FirstMinimised}
+use Rattle.atom_lists.specs.Roles.{FirstMinimised}
 use Rattle.steps.specs.declared.offsets.Offsets.{Offsets}
 
 -- n atoms, k classes, m minimised and q unfixed atoms
@@ -21,11 +21,9 @@ pub record Small (o : Offsets) : Type 0 where
   pub e-fits : o .e ≤ 1100
   pub u-fits : o .u ≤ 1100
 
--- what steps 1 to 3 need of the class words ws and of the words rs of so many rules
-pub record FileFits (ws rs : List ℕ) (count : ℕ) (o : Offsets) : Type 0 where
+-- what steps 1 to 3 need of the words of so many rules
+pub record FileFits (rs : List ℕ) (count : ℕ) (o : Offsets) : Type 0 where
   pub small : Small o
-  pub atoms : length ws ≡ o .n
-  pub low : Low ws
   pub rules : StoredRules (o .n) count rs
 
 -- what steps 4 to 6 need of the class words of k classes and m minimised atoms

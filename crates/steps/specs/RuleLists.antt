@@ -5,13 +5,10 @@ use lib.ListN.{length}
 use Rattle.kinds.specs.Limits.{atomLimit, occurrenceLimit}
 use Rattle.kinds.specs.declared.limits.Kind.the-variants.{Plain, Preference}
 use Rattle.rules.specs.Lists.{All}
-use Rattle.atom_lists.specs.Roles.{Low}
 
--- the head and the body of a rule over the atoms that have class words
-pub record RuleLists (ws heads bodies : List ℕ) : Type 0 where
-  pub few : length ws ≤ atomLimit Preference
-  pub low : Low ws
+-- the head and the body of a rule of a preference file
+pub record RuleLists (heads bodies : List ℕ) : Type 0 where
   pub few-heads : length heads ≤ occurrenceLimit Plain
   pub few-bodies : length bodies ≤ occurrenceLimit Plain
-  pub heads-below : All (λ a. a < length ws) heads
-  pub bodies-below : All (λ a. a < length ws) bodies
+  pub heads-below : All (λ a. a < atomLimit Preference) heads
+  pub bodies-below : All (λ a. a < atomLimit Preference) bodies

@@ -8,30 +8,32 @@ use Rattle.stores.specs.RuleStore.{ruleWords}
 use Rattle.steps.specs.declared.offsets.Offsets.{Offsets}
 use Rattle.atom_lists.specs.ListWords.{each, single, raised}
 use Rattle.atom_lists.specs.Parts.{among}
-use Rattle.atom_lists.specs.declared.parts.Part.the-variants.{Minimised, Unminimised, Fixed, Unfixed}
+use Rattle.atom_lists.specs.declared.parts.Part.the-variants.{Below, From}
 use Rattle.pairing.specs.Loops.{loop1, loop2, loop3, loop4, loop5, loop6, loop789, loop10}
 
--- step 1, atom a
-unfoldable pub words1 : List ℕ → ℕ → ℕ → List ℕ
-words1 ws n a = flat ruleWords (loop1 ws n a)
+-- step 1, atom a; the minimised atoms are those below m
+unfoldable pub words1 : ℕ → ℕ → ℕ → List ℕ
+words1 m n a = flat ruleWords (loop1 m n a)
 
--- steps 2 and 3, rule r
-unfoldable pub words2 : List ℕ → ℕ → Rule ℕ → List ℕ
-words2 ws n r = ruleWords (loop2 ws n r)
+-- step 2, rule r
+unfoldable pub words2 : ℕ → ℕ → Rule ℕ → List ℕ
+words2 m n r = ruleWords (loop2 m n r)
 
-unfoldable pub words3 : List ℕ → ℕ → ℕ → Rule ℕ → List ℕ
-words3 ws s u r = ruleWords (loop3 ws s u r)
+-- step 3, rule r; the unfixed atoms are those below q
+unfoldable pub words3 : ℕ → ℕ → ℕ → Rule ℕ → List ℕ
+words3 q s u r = ruleWords (loop3 q s u r)
 
 -- the same for a rule with these atoms in its head and body
-unfoldable pub lists2 : List ℕ → ℕ → List ℕ → List ℕ → List ℕ
-lists2 ws n heads bodies =
-    among Minimised ws heads ∷ among Minimised ws bodies ∷ (length heads - among Minimised ws heads + (length bodies - among Minimised ws bodies))
-    ∷ (each (raised Minimised ws 0) heads ++ (each (raised Minimised ws 0) bodies ++ (each (raised Unminimised ws 0) heads ++ each (raised Unminimised ws n) bodies)))
 
-unfoldable pub lists3 : List ℕ → ℕ → ℕ → List ℕ → List ℕ → List ℕ
-lists3 ws s u heads bodies =
-    (length heads - among Fixed ws heads + 1) ∷ length bodies ∷ among Fixed ws heads
-    ∷ (each (raised Unfixed ws s) heads ++ (u ∷ (each (raised Unfixed ws s) bodies ++ (each (raised Fixed ws 0) bodies ++ each (raised Fixed ws 0) heads))))
+unfoldable pub lists2 : ℕ → ℕ → List ℕ → List ℕ → List ℕ
+lists2 m n heads bodies =
+    among (Below m) heads ∷ among (Below m) bodies ∷ (length heads - among (Below m) heads + (length bodies - among (Below m) bodies))
+    ∷ (each (raised (Below m) 0) heads ++ (each (raised (Below m) 0) bodies ++ (each (raised (From m) 0) heads ++ each (raised (From m) n) bodies)))
+
+unfoldable pub lists3 : ℕ → ℕ → ℕ → List ℕ → List ℕ → List ℕ
+lists3 q s u heads bodies =
+    (length heads - among (From q) heads + 1) ∷ length bodies ∷ among (From q) heads
+    ∷ (each (raised (Below q) s) heads ++ (u ∷ (each (raised (Below q) s) bodies ++ (each (raised (From q) 0) bodies ++ each (raised (From q) 0) heads))))
 
 unfoldable pub words4 : ℕ → ℕ → List ℕ
 words4 e u = ruleWords (loop4 e u)
@@ -62,8 +64,8 @@ unfoldable pub words10 : ℕ → ℕ → ℕ → List ℕ
 words10 e u k = flat ruleWords (loop10 e u k)
 
 -- steps 1 to 3, which go by the atoms and rules of the file
-abbrev pub fileWords : List ℕ → List (Rule ℕ) → Offsets → List ℕ
-fileWords ws rs o = each (words1 ws (o .n)) (from 0 (o .n - 0)) ++ (each (words2 ws (o .n)) rs ++ each (words3 ws (o .s) (o .u)) rs)
+abbrev pub fileWords : List (Rule ℕ) → ℕ → ℕ → Offsets → List ℕ
+fileWords rs m q o = each (words1 m (o .n)) (from 0 (o .n - 0)) ++ (each (words2 m (o .n)) rs ++ each (words3 q (o .s) (o .u)) rs)
 
 -- steps 4 to 6, which go by its classes and minimised atoms
 abbrev pub classWords : List ℕ → ℕ → ℕ → Offsets → List ℕ
@@ -77,5 +79,5 @@ lastWords k o =
     ++ (each (words789 (o .u)) (from (o .e) (o .u - o .e))
     ++ words10 (o .e) (o .u) k))
 
-unfoldable pub stepWords : List ℕ → List (Rule ℕ) → ℕ → ℕ → Offsets → List ℕ
-stepWords ws rs k m o = fileWords ws rs o ++ (classWords ws k m o ++ lastWords k o)
+unfoldable pub stepWords : List ℕ → List (Rule ℕ) → ℕ → ℕ → ℕ → Offsets → List ℕ
+stepWords ws rs k m q o = fileWords rs m q o ++ (classWords ws k m o ++ lastWords k o)

@@ -1,23 +1,22 @@
 // The steps that go by atoms, and those of one or two rules: 1, 4 and 6 to 10.
 use crate::offsets::Offsets;
 use atom_lists::classes::class_of;
-use atom_lists::classes::is_minimised;
 use output::words::emit;
-ghost use Prim.Native.Nat.{_-_, _<_, _≤_};
+ghost use Prim.Native.Nat.{_-_, _≤_};
 ghost use lib.ListN.{length};
 ghost use Rattle.rules.specs.Lists.{from};
 ghost use Rattle.output.specs.Emitted.{Emitted, InRange};
 ghost use Rattle.steps.specs.Offsets.{Small};
-ghost use Rattle.atom_lists.specs.Roles.{Low, FirstMinimised};
+ghost use Rattle.atom_lists.specs.Roles.{FirstMinimised};
 ghost use Rattle.atom_lists.specs.ListWords.{each};
 ghost use Rattle.steps.specs.StepWords.{words1, words4, classWords6, words6, words789, words10};
 
 // a if not N.a, unless a is minimised; N.a if not a.
-fn step1_atom(a: u16, classes: &[u16], n: u16, out: &mut [u16], at: usize) -> usize
-    requires { ⌜ (a < length (now classes)) × (length (now classes) ≤ 256) × Low (now classes) × (n ≤ 256) × InRange at (words1 (now classes) n a) ⌝ }
-    ensures { λ r. ⌜ Emitted (now (out .entry)) at (words1 (now (classes .entry)) n a) (now (out .exit)) r ⌝ }
+fn step1_atom(a: u16, minimised: u16, n: u16, out: &mut [u16], at: usize) -> usize
+    requires { ⌜ (a ≤ 256) × (n ≤ 256) × InRange at (words1 minimised n a) ⌝ }
+    ensures { λ r. ⌜ Emitted (now (out .entry)) at (words1 minimised n a) (now (out .exit)) r ⌝ }
 {
-    if is_minimised(classes, a) {
+    if a < minimised {
         let second = [1, 0, 1, n + a, a];
         return emit(&second, out, at);
     }
@@ -25,14 +24,14 @@ fn step1_atom(a: u16, classes: &[u16], n: u16, out: &mut [u16], at: usize) -> us
     emit(&both, out, at)
 }
 
-pub fn step1(classes: &[u16], n: u16, out: &mut [u16], at: usize) -> usize
-    requires { ⌜ (n ≤ length (now classes)) × (length (now classes) ≤ 256) × Low (now classes) × InRange at (each (words1 (now classes) n) (from 0 (n - 0))) ⌝ }
-    ensures { λ r. ⌜ Emitted (now (out .entry)) at (each (words1 (now (classes .entry)) n) (from 0 (n - 0))) (now (out .exit)) r ⌝ }
+pub fn step1(minimised: u16, n: u16, out: &mut [u16], at: usize) -> usize
+    requires { ⌜ (n ≤ 256) × InRange at (each (words1 minimised n) (from 0 (n - 0))) ⌝ }
+    ensures { λ r. ⌜ Emitted (now (out .entry)) at (each (words1 minimised n) (from 0 (n - 0))) (now (out .exit)) r ⌝ }
 {
     let mut next = at;
     let mut a: u16 = 0;
     while a < n {
-        next = step1_atom(a, classes, n, out, next);
+        next = step1_atom(a, minimised, n, out, next);
         a += 1;
     }
     next

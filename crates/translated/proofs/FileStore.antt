@@ -4,13 +4,14 @@ use native.Mathlib.Omega.{arith}
 use mathlib.Core.Path.{_≡_, refl, sym, ap, _∙_, subst}
 use mathlib.Core.Bool.{not}
 use mathlib.Core.List.{List, [], _∷_}
-use lib.Dec.{T, leb→le}
+use lib.Dec.{leb→le, lt→ltb}
 use lib.ListN.{length, getD, take, drop, length-append}
 use Rattle.kinds.specs.Sizes.{storeWords}
 use Rattle.kinds.specs.Limits.{classLimit}
 use Rattle.kinds.specs.declared.limits.Kind.{Kind}
-use Rattle.rules.specs.Lists.{All, filter, flat, from}
-use Rattle.rules.proofs.Lists.{all-filter, all-from, from-all, length-from, part-rest}
+use Rattle.rules.specs.Lists.{filter, flat, from}
+use Rattle.rules.proofs.Booleans.{T-of}
+use Rattle.rules.proofs.Lists.{length-from, part-rest}
 use Rattle.stores.specs.Program.{Program, ProgramForm, ClassesForm, NeverFalling}
 use Rattle.stores.specs.RuleStore.{ruleWords, encode, decode, wordCount, rulesFrom}
 use Rattle.stores.specs.StoredRules.{StoredRules}
@@ -21,7 +22,7 @@ use Rattle.pairing.specs.Loops.{looped}
 use Rattle.pairing.specs.Translated.{translated, numbers}
 use Rattle.pairing.proofs.Fit.{Fit, fit-of}
 use Rattle.pairing.proofs.SumLaws.{length-parts}
-use Rattle.pairing.proofs.Numbering.{count, minimised-first}
+use Rattle.pairing.proofs.Numbering.{count, minimised-below}
 use Rattle.pairing.proofs.Sums.{rules-sum}
 use Rattle.pairing.proofs.Looped.{looped-rules}
 use Rattle.pairing.proofs.PlainForm.{plain-form}
@@ -121,14 +122,11 @@ module _ {ws : List ℕ} (h : PreferenceStore ws) where
   pub few-unfixed : length (fixedAtoms p) + length (unfixedAtoms p) ≡ p .atoms
   few-unfixed = length-parts (fixed? p) (originals p) ∙ length-from 0 (p .atoms)
 
-  minimised-all : All (λ a. T (minimised? p a)) (from 0 (length (minimisedAtoms p)))
-  minimised-all = subst (All (λ a. T (minimised? p a))) (minimised-first p fit) (all-filter (λ a. T (minimised? p a)) (minimised? p) (originals p) (all-from (λ a. T (minimised? p a) → T (minimised? p a)) 0 (p .atoms) (λ a l u t. t)))
-
   first-words : FirstMinimised (length (minimisedAtoms p)) (p .words)
   first-words = record {
     inside = omega (arith, few-minimised, fit .count);
     low = low-words;
-    class = λ a l. leb→le (classWord p a) classLimit (from-all (λ b. T (minimised? p b)) 0 (length (minimisedAtoms p)) minimised-all a (omega arith) (omega arith));
+    class = λ a l. leb→le (classWord p a) classLimit (T-of (sym (minimised-below p fit a (omega (arith, few-minimised)))) (lt→ltb a (length (minimisedAtoms p)) l));
   }
 
   rising : NeverFalling 0 (p .words)
@@ -154,13 +152,10 @@ module _ {ws : List ℕ} (h : PreferenceStore ws) where
       n-is : getD ws 1 0 ≡ o .n
       n-is = ap (λ (x : Offsets). x .n) (sym o-is)
 
-      pub file-fits : FileFits (classPart ws) (rulePart ws) (getD ws 3 0) o
+      pub file-fits : FileFits (rulePart ws) (getD ws 3 0) o
       file-fits = record {
         small = small;
-        atoms = class-count ∙ n-is;
-        low = low;
-        rules =
-            subst (λ (n : ℕ). StoredRules n (getD ws 3 0) (rulePart ws)) n-is rules-stored;
+        rules = subst (λ (n : ℕ). StoredRules n (getD ws 3 0) (rulePart ws)) n-is rules-stored;
       }
 
       pub classes-fit : ClassesFit (classPart ws) (getD ws 2 0) m o
@@ -199,12 +194,12 @@ module _ {ws : List ℕ} (h : PreferenceStore ws) where
           ∙ (λ i. offsetsOf (atoms-at i) (classes-at i) (ms i) (qs i))
           ∙ sym o-is
 
-      steps-are : flat ruleWords (translated p .rules) ≡ stepWords (classPart ws) (rulesFrom (getD ws 3 0) (rulePart ws)) (getD ws 2 0) m o
+      steps-are : flat ruleWords (translated p .rules) ≡ stepWords (classPart ws) (rulesFrom (getD ws 3 0) (rulePart ws)) (getD ws 2 0) m q o
       unfolding looped
       steps-are =
           ap (flat ruleWords) (looped-rules p (h .kind) (h .store .form))
           ∙ all-steps (p .words) (p .rules) (p .classes) (length (minimisedAtoms p)) (length (unfixedAtoms p)) offsets refl refl refl
-          ∙ (λ i. stepWords (words-at i) (rules-at i) (classes-at i) (sym (m-is ∙ minimised-count) i) (offsets-are i))
+          ∙ (λ i. stepWords (words-at i) (rules-at i) (classes-at i) (sym (m-is ∙ minimised-count) i) (sym (q-is ∙ unfixed-count) i) (offsets-are i))
 
       atoms-are : length (declared p) ≡ o .u + 1
       atoms-are =
@@ -215,7 +210,7 @@ module _ {ws : List ℕ} (h : PreferenceStore ws) where
       unfolding numbers
       rules-are = omega (arith, rules-sum p (h .kind) (h .store .form), few-unfixed, atoms-at, classes-at, count-at, q-is, unfixed-count, m-is, minimised-count)
 
-      pub header-ahead : Ahead (encode (translated p)) (0 ∷ (o .u + 1) ∷ 0 ∷ (2 * getD ws 1 0 + q + 2 * getD ws 3 0 + 4 * m + 2 * getD ws 2 0 + 4) ∷ []) (stepWords (classPart ws) (rulesFrom (getD ws 3 0) (rulePart ws)) (getD ws 2 0) m o)
+      pub header-ahead : Ahead (encode (translated p)) (0 ∷ (o .u + 1) ∷ 0 ∷ (2 * getD ws 1 0 + q + 2 * getD ws 3 0 + 4 * m + 2 * getD ws 2 0 + 4) ∷ []) (stepWords (classPart ws) (rulesFrom (getD ws 3 0) (rulePart ws)) (getD ws 2 0) m q o)
       unfolding encode
       header-ahead = record { is = λ i. 0 ∷ atoms-are i ∷ 0 ∷ rules-are i ∷ steps-are i }
 

@@ -27,19 +27,19 @@ flat-flat f g [] = refl
 flat-flat {C} f g (x ∷ xs) = flat-append f (g x) (flat g xs) ∙ ap (λ (l : List C). flat f (g x) ++ l) (flat-flat f g xs)
 
 module _ (ws : List ℕ) (rs : List (Rule ℕ)) (k m q : ℕ) (o : Offsets) (d-is : o .d ≡ o .s + q) (e-is : o .e ≡ o .d + m) (u-is : o .u ≡ o .e + suc k) where
-  part1 : flat ruleWords (flat (loop1 ws (o .n)) (from 0 (o .n))) ≡ each (words1 ws (o .n)) (from 0 (o .n - 0))
+  part1 : flat ruleWords (flat (loop1 m (o .n)) (from 0 (o .n))) ≡ each (words1 m (o .n)) (from 0 (o .n - 0))
   unfolding each words1
   part1 =
       let z : o .n ≡ o .n - 0 = omega arith in
-      flat-flat ruleWords (loop1 ws (o .n)) (from 0 (o .n)) ∙ ap (λ (c : ℕ). flat (λ a. flat ruleWords (loop1 ws (o .n) a)) (from 0 c)) z
+      flat-flat ruleWords (loop1 m (o .n)) (from 0 (o .n)) ∙ ap (λ (c : ℕ). flat (λ a. flat ruleWords (loop1 m (o .n) a)) (from 0 c)) z
 
-  part2 : flat ruleWords (map (loop2 ws (o .n)) rs) ≡ each (words2 ws (o .n)) rs
+  part2 : flat ruleWords (map (loop2 m (o .n)) rs) ≡ each (words2 m (o .n)) rs
   unfolding each words2
-  part2 = flat-map ruleWords (loop2 ws (o .n)) rs
+  part2 = flat-map ruleWords (loop2 m (o .n)) rs
 
-  part3 : flat ruleWords (map (loop3 ws (o .s) (o .u)) rs) ≡ each (words3 ws (o .s) (o .u)) rs
+  part3 : flat ruleWords (map (loop3 q (o .s) (o .u)) rs) ≡ each (words3 q (o .s) (o .u)) rs
   unfolding each words3
-  part3 = flat-map ruleWords (loop3 ws (o .s) (o .u)) rs
+  part3 = flat-map ruleWords (loop3 q (o .s) (o .u)) rs
 
   part4 : flat ruleWords (loop4 (o .e) (o .u) ∷ []) ≡ words4 (o .e) (o .u)
   unfolding words4
@@ -73,10 +73,10 @@ module _ (ws : List ℕ) (rs : List (Rule ℕ)) (k m q : ℕ) (o : Offsets) (d-i
   both : (xs ys : List (Rule ℕ)) (v w : List ℕ) → flat ruleWords xs ≡ v → flat ruleWords ys ≡ w → flat ruleWords (xs ++ ys) ≡ v ++ w
   both xs ys v w f g = flat-append ruleWords xs ys ∙ ap₂ (λ (x y : List ℕ). x ++ y) f g
 
-  regrouped : stepWords ws rs k m o
-      ≡ each (words1 ws (o .n)) (from 0 (o .n - 0))
-      ++ (each (words2 ws (o .n)) rs
-      ++ (each (words3 ws (o .s) (o .u)) rs
+  regrouped : stepWords ws rs k m q o
+      ≡ each (words1 m (o .n)) (from 0 (o .n - 0))
+      ++ (each (words2 m (o .n)) rs
+      ++ (each (words3 q (o .s) (o .u)) rs
       ++ (words4 (o .e) (o .u)
       ++ (each (words5 ws o) (from 1 (k + 1 - 1))
       ++ (each (words6 ws o) (from 0 (m - 0))
@@ -104,16 +104,16 @@ module _ (ws : List ℕ) (rs : List (Rule ℕ)) (k m q : ℕ) (o : Offsets) (d-i
   from4 = (loop4 (o .e) (o .u) ∷ []) ++ from5
 
   abbrev from3 : List (Rule ℕ)
-  from3 = map (loop3 ws (o .s) (o .u)) rs ++ from4
+  from3 = map (loop3 q (o .s) (o .u)) rs ++ from4
 
   abbrev from2 : List (Rule ℕ)
-  from2 = map (loop2 ws (o .n)) rs ++ from3
+  from2 = map (loop2 m (o .n)) rs ++ from3
 
-  pub all-steps : flat ruleWords (flat (loop1 ws (o .n)) (from 0 (o .n)) ++ from2) ≡ stepWords ws rs k m o
+  pub all-steps : flat ruleWords (flat (loop1 m (o .n)) (from 0 (o .n)) ++ from2) ≡ stepWords ws rs k m q o
   all-steps =
-      both (flat (loop1 ws (o .n)) (from 0 (o .n))) from2 _ _ part1
-      (both (map (loop2 ws (o .n)) rs) from3 _ _ part2
-      (both (map (loop3 ws (o .s) (o .u)) rs) from4 _ _ part3
+      both (flat (loop1 m (o .n)) (from 0 (o .n))) from2 _ _ part1
+      (both (map (loop2 m (o .n)) rs) from3 _ _ part2
+      (both (map (loop3 q (o .s) (o .u)) rs) from4 _ _ part3
       (both (loop4 (o .e) (o .u) ∷ []) from5 _ _ part4
       (both (map (loop5 ws (o .d) (o .e) (o .u)) (from 1 k)) from6 _ _ part5
       (both (flat (λ a. loop6 (o .n) (o .s) (o .d) (o .e) (o .u) (getD ws a 0) a) (from 0 m)) from7 _ _ part6
@@ -122,6 +122,6 @@ module _ (ws : List ℕ) (rs : List (Rule ℕ)) (k m q : ℕ) (o : Offsets) (d-i
       (both (map (λ j. loop789 (o .u) (o .e + j)) (from 0 (suc k))) (loop10 (o .e) (o .u) k) _ _ (part789 (o .e) (o .u) (suc k) u-is) part10))))))))
       ∙ sym regrouped
 
-pub steps-open : (ws : List ℕ) (rs : List (Rule ℕ)) (k m : ℕ) (o : Offsets) → Ahead (stepWords ws rs k m o) (fileWords ws rs o) (classWords ws k m o ++ lastWords k o)
+pub steps-open : (ws : List ℕ) (rs : List (Rule ℕ)) (k m q : ℕ) (o : Offsets) → Ahead (stepWords ws rs k m q o) (fileWords rs m q o) (classWords ws k m o ++ lastWords k o)
 unfolding stepWords
-steps-open ws rs k m o = record { is = refl }
+steps-open ws rs k m q o = record { is = refl }

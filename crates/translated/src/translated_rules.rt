@@ -22,19 +22,20 @@ ghost use Rattle.translated.specs.PreferenceStore.{PreferenceStore};
 
 // A local names the step that writes on from its place.
 fn steps_1_to_3(
-    classes: &[u16],
     rules: &[u16],
     count: u16,
+    minimised: u16,
+    unfixed: u16,
     o: Offsets,
     out: &mut [u16],
     at: usize,
 ) -> usize
-    requires { ⌜ FileFits (now classes) (now rules) count o × InRange at (fileWords (now classes) (rulesFrom count (now rules)) o) ⌝ }
-    ensures { λ r. ⌜ Emitted (now (out .entry)) at (fileWords (now (classes .entry)) (rulesFrom count (now (rules .entry))) o) (now (out .exit)) r ⌝ }
+    requires { ⌜ FileFits (now rules) count o × InRange at (fileWords (rulesFrom count (now rules)) minimised unfixed o) ⌝ }
+    ensures { λ r. ⌜ Emitted (now (out .entry)) at (fileWords (rulesFrom count (now (rules .entry))) minimised unfixed o) (now (out .exit)) r ⌝ }
 {
-    let second = step1(classes, o.n, out, at);
-    let third = step2(rules, count, classes, o.n, out, second);
-    step3(rules, count, classes, o.s, o.u, out, third)
+    let second = step1(minimised, o.n, out, at);
+    let third = step2(rules, count, minimised, o.n, out, second);
+    step3(rules, count, unfixed, o, out, third)
 }
 
 fn steps_4_to_6(
@@ -70,14 +71,15 @@ fn emit_steps(
     count: u16,
     k: u16,
     minimised: u16,
+    unfixed: u16,
     o: Offsets,
     out: &mut [u16],
     at: usize,
 ) -> usize
-    requires { ⌜ FileFits (now classes) (now rules) count o × ClassesFit (now classes) k minimised o × InRange at (stepWords (now classes) (rulesFrom count (now rules)) k minimised o) ⌝ }
-    ensures { λ r. ⌜ Emitted (now (out .entry)) at (stepWords (now (classes .entry)) (rulesFrom count (now (rules .entry))) k minimised o) (now (out .exit)) r ⌝ }
+    requires { ⌜ FileFits (now rules) count o × ClassesFit (now classes) k minimised o × InRange at (stepWords (now classes) (rulesFrom count (now rules)) k minimised unfixed o) ⌝ }
+    ensures { λ r. ⌜ Emitted (now (out .entry)) at (stepWords (now (classes .entry)) (rulesFrom count (now (rules .entry))) k minimised unfixed o) (now (out .exit)) r ⌝ }
 {
-    let fourth = steps_1_to_3(classes, rules, count, o, out, at);
+    let fourth = steps_1_to_3(rules, count, minimised, unfixed, o, out, at);
     let seventh = steps_4_to_6(classes, k, minimised, o, out, fourth);
     steps_7_to_10(k, o, out, seventh)
 }
@@ -108,6 +110,7 @@ pub fn translate_rules(store: &[u16], out: &mut [u16]) -> usize
         count,
         k,
         minimised,
+        unfixed,
         o,
         out,
         headed,

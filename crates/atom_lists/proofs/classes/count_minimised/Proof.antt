@@ -1,17 +1,18 @@
 use Rattle.atom_lists.proofs.Counting.{Counting, count-begins, count-more, count-same, count-ends}
 use Rattle.atom_lists.proofs.Roles.{some-class, no-class}
 use Rattle.atom_lists.specs.Roles.{minimisedCount}
-use Rattle.pairing.specs.Loops.{minimisedWord?}
+use Rattle.kinds.specs.Limits.{classLimit}
 use mathlib.Core.Logic.{⊎-elim}
 use native.Mathlib.Omega.{arith}
-use lib.ListN.{length}
+use lib.Dec.{leb}
+use lib.ListN.{length, getD}
 use Prim.Native.Nat.{_-_}
 use borrow.Author.Needs.{needs}
 use Rattle.atom_lists.proofs.classes.count_minimised.Statement.{statement}
 use Rattle.atom_lists.proofs.classes.count_minimised.Tie as tie
 
 abbrev Inv-loop : tie.InvT-loop
-Inv-loop classes count₀ i₀ count i = Counting (minimisedWord? classes) (length classes) i count
+Inv-loop classes count₀ i₀ count i = Counting (λ a. leb (getD classes a 0) classLimit) (length classes) i count
 
 abbrev μ-loop : tie.MeasureT-loop
 μ-loop classes count₀ i₀ count i = length classes - i

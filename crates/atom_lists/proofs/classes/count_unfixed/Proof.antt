@@ -1,6 +1,5 @@
 use Rattle.atom_lists.proofs.Counting.{Counting, count-begins, count-more, count-same, count-ends}
-use Rattle.atom_lists.specs.Roles.{unfixedCount}
-use Rattle.pairing.specs.Loops.{fixedWord?}
+use Rattle.atom_lists.specs.Roles.{fixedWord?, unfixedCount}
 use mathlib.Core.Path.{sym, ap, _∙_}
 use mathlib.Core.Bool.{not}
 use mathlib.Core.Logic.{⊎-elim}

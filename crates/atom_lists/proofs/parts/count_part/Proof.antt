@@ -2,20 +2,19 @@ use Rattle.atom_lists.proofs.Counting.{CountingAmong, among-begins, amo
 use mathlib.Core.Logic.{⊎-elim}
 use native.Mathlib.Omega.{arith}
 use lib.ListN.{length}
-use Prim.Native.Nat.{_<_, _-_}
+use Prim.Native.Nat.{_-_}
 use borrow.Author.Needs.{needs}
 use Rattle.atom_lists.proofs.parts.count_part.Statement.{statement}
 use Rattle.atom_lists.proofs.parts.count_part.Tie as tie
-use Rattle.rules.proofs.Lists.{all-at}
 
 abbrev Inv-loop : tie.InvT-loop
-Inv-loop part atoms classes count₀ i₀ count i = CountingAmong part classes atoms i count
+Inv-loop part atoms count₀ i₀ count i = CountingAmong part atoms i count
 
 abbrev μ-loop : tie.MeasureT-loop
-μ-loop part atoms classes count₀ i₀ count i = length atoms - i
+μ-loop part atoms count₀ i₀ count i = length atoms - i
 
 loop-holds : tie.Need-loop-holds Inv-loop μ-loop
-loop-holds c = among-begins _ _ _
+loop-holds c = among-begins _ _
 
 mul-is-of : tie.Need-mul-is-of Inv-loop μ-loop
 mul-is-of c = search needs
@@ -24,7 +23,7 @@ shared-slice-read-is-of : tie.Need-shared-slice-read-is-of Inv-loop μ-loop
 shared-slice-read-is-of c = search needs
 
 is-of-requires : tie.Need-is-of-requires Inv-loop μ-loop
-is-of-requires c κs = (all-at (λ a. a < length (c .before .before .before .before .before .args .classes .now)) 0 (c .before .before .before .before .before .args .atoms .now) (c .before .before .before .before .before .pre .0) _ (c .before .loop-test .taken), c .before .before .before .before .before .pre .1)
+is-of-requires c κs = search needs
 
 add-count : tie.Need-add-count Inv-loop μ-loop
 add-count c = search needs

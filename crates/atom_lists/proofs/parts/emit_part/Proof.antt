@@ -9,13 +9,13 @@ use Rattle.atom_lists.proofs.parts.emit_part.Tie as tie
 use Rattle.rules.proofs.Lists.{all-at}
 
 abbrev Inv-loop : tie.InvT-loop
-Inv-loop part atoms classes shift out₀ at next₀ i₀ out next i = (i ≤ length atoms) × Emitting (each (raised part classes shift) atoms) out₀ at (each (raised part classes shift) (drop i atoms)) out next
+Inv-loop part atoms shift out₀ at next₀ i₀ out next i = (i ≤ length atoms) × Emitting (each (raised part shift) atoms) out₀ at (each (raised part shift) (drop i atoms)) out next
 
 abbrev μ-loop : tie.MeasureT-loop
-μ-loop part atoms classes shift out₀ at next₀ i₀ out next i = length atoms - i
+μ-loop part atoms shift out₀ at next₀ i₀ out next i = length atoms - i
 
 loop-holds : tie.Need-loop-holds Inv-loop μ-loop
-loop-holds c = (search needs, start (c .before .before .before .pre .4))
+loop-holds c = (search needs, start (c .before .before .pre .2))
 
 mul-push-part : tie.Need-mul-push-part Inv-loop μ-loop
 mul-push-part c = search needs
@@ -24,7 +24,7 @@ shared-slice-read-push-part : tie.Need-shared-slice-read-push-part Inv-loop μ-l
 shared-slice-read-push-part c = search needs
 
 push-part-requires : tie.Need-push-part-requires Inv-loop μ-loop
-push-part-requires c κs = (all-at (λ a. a < length (c .before .before .before .before .before .before .before .args .classes .now)) 0 (c .before .before .before .before .before .before .before .args .atoms .now) (c .before .before .before .before .before .before .before .pre .0) _ (c .before .before .loop-test .taken), c .before .before .before .before .before .before .before .pre .1, c .before .before .before .before .before .before .before .pre .2, c .before .before .before .before .before .before .before .pre .3, range-here (c .before .before .before .loop .inv .1) (list-next _ (c .before .before .before .before .before .before .before .args .atoms .now) (c .before .before .loop-test .taken)))
+push-part-requires c κs = (all-at (λ a. a < 256) 0 (c .before .before .before .before .before .before .args .atoms .now) (c .before .before .before .before .before .before .pre .0) _ (c .before .before .loop-test .taken), c .before .before .before .before .before .before .pre .1, range-here (c .before .before .before .loop .inv .1) (list-next _ (c .before .before .before .before .before .before .args .atoms .now) (c .before .before .loop-test .taken)))
 
 add-i : tie.Need-add-i Inv-loop μ-loop
 add-i c = search needs
@@ -33,13 +33,13 @@ loop-less : tie.Need-loop-less Inv-loop μ-loop
 loop-less c = search needs
 
 loop-again : tie.Need-loop-again Inv-loop μ-loop
-loop-again c = (search needs, turn (c .before .before .before .before .before .before .loop .inv .1) (list-next _ (c .before .before .before .before .before .before .before .before .before .before .args .atoms .now) (c .before .before .before .before .before .loop-test .taken)) (c .before .before .push-part .ensures))
+loop-again c = (search needs, turn (c .before .before .before .before .before .before .loop .inv .1) (list-next _ (c .before .before .before .before .before .before .before .before .before .args .atoms .now) (c .before .before .before .before .before .loop-test .taken)) (c .before .before .push-part .ensures))
 
 same-length : tie.Need-same-length Inv-loop μ-loop
 same-length c = length-kept (c .before .loop .inv .1)
 
 returns : tie.Need-returns Inv-loop μ-loop
-returns c = finish (c .before .loop .inv .1) (list-ends _ (c .before .before .before .before .before .args .atoms .now) (c .loop-test .left))
+returns c = finish (c .before .loop .inv .1) (list-ends _ (c .before .before .before .before .args .atoms .now) (c .loop-test .left))
 
 pub emit-part-spec : {M : Type 1} → statement M
 emit-part-spec =

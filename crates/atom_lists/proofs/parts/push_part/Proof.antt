@@ -12,16 +12,16 @@ add-push : tie.Need-add-push
 add-push c = search needs
 
 push-requires : tie.Need-push-requires
-push-requires c κs = range-renamed (c .before .before .before .before .before .pre .4) (of-part _ _ _ _ (c .before .before .is-of .ensures) (c .before .if1 .taken))
+push-requires c κs = range-renamed (c .before .before .before .before .pre .2) (of-part _ _ _ (c .before .before .is-of .ensures) (c .before .if1 .taken))
 
 same-length : tie.Need-same-length
 same-length c = search needs
 
 returns : tie.Need-returns
-returns c = renamed (c .before .before .push .ensures) (sym (of-part _ _ _ _ (c .before .before .before .before .before .is-of .ensures) (c .before .before .before .before .if1 .taken)))
+returns c = renamed (c .before .before .push .ensures) (sym (of-part _ _ _ (c .before .before .before .before .before .is-of .ensures) (c .before .before .before .before .if1 .taken)))
 
 returns-2 : tie.Need-returns-2
-returns-2 c = renamed none (of-another _ _ _ _ (c .before .is-of .ensures) (c .if1 .left))
+returns-2 c = renamed none (of-another _ _ _ (c .before .is-of .ensures) (c .if1 .left))
 
 pub push-part-spec : {M : Type 1} → statement M
 push-part-spec =

@@ -3,21 +3,20 @@ use Rattle.atom_lists.specs.ListWords.{each}
 use Rattle.steps.specs.StepWords.{words2}
 use Rattle.output.proofs.Emitting.{length-kept}
 use native.Mathlib.Omega.{arith}
-use lib.ListN.{length}
 use Prim.Native.Nat.{_-_}
 use borrow.Author.Needs.{needs}
 use Rattle.rule_steps.proofs.rule_steps.step2.Statement.{statement}
 use Rattle.rule_steps.proofs.rule_steps.step2.Tie as tie
 
 abbrev Inv-loop : tie.InvT-loop
-Inv-loop words count classes n out₀ at next₀ from₀ i₀ out next from i = RulesLeft (words2 classes n) (length classes) count words out₀ at out next from i
+Inv-loop words count minimised n out₀ at next₀ from₀ i₀ out next from i = RulesLeft (words2 minimised n) n count words out₀ at out next from i
 
 abbrev μ-loop : tie.MeasureT-loop
-μ-loop words count classes n out₀ at next₀ from₀ i₀ out next from i = count - i
+μ-loop words count minimised n out₀ at next₀ from₀ i₀ out next from i = count - i
 
 loop-holds : tie.Need-loop-holds Inv-loop μ-loop
 unfolding each
-loop-holds c = rules-begin (c .before .before .before .pre .2) (c .before .before .before .pre .4)
+loop-holds c = rules-begin (c .before .before .pre .1) (c .before .before .pre .2)
 
 mul-rule-size : tie.Need-mul-rule-size Inv-loop μ-loop
 mul-rule-size c = omega (arith, place-inside (c .before .loop .inv) (c .loop-test .taken))
@@ -47,7 +46,7 @@ part-step2-rule-end : tie.Need-part-step2-rule-end Inv-loop μ-loop
 part-step2-rule-end c = search needs
 
 step2-rule-requires : tie.Need-step2-rule-requires Inv-loop μ-loop
-step2-rule-requires c κs = (c .before .before .before .before .before .before .before .before .before .pre .0, c .before .before .before .before .before .before .before .before .before .pre .1, rule-stored (c .before .before .before .before .before .loop .inv) (c .before .before .before .before .loop-test .taken), c .before .before .before .before .before .before .before .before .before .pre .3, rule-range (c .before .before .before .before .before .loop .inv) (c .before .before .before .before .loop-test .taken))
+step2-rule-requires c κs = (c .before .before .before .before .before .before .before .before .pre .0, rule-stored (c .before .before .before .before .before .loop .inv) (c .before .before .before .before .loop-test .taken), rule-range (c .before .before .before .before .before .loop .inv) (c .before .before .before .before .loop-test .taken))
 
 add-from : tie.Need-add-from Inv-loop μ-loop
 add-from c = omega (arith, place-inside (c .before .before .before .before .before .before .before .before .loop .inv) (c .before .before .before .before .before .before .before .loop-test .taken), c .before .before .before .before .before .rule-size .ensures)

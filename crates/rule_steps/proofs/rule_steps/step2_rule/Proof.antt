@@ -1,6 +1,6 @@
 use Rattle.rule_steps.proofs.RuleSteps.{by-rule2, lists-fit}
 use Rattle.output.proofs.Emitting.{renamed, range-renamed}
-use mathlib.Core.Path.{refl, sym}
+use mathlib.Core.Path.{sym}
 use borrow.Author.Needs.{needs}
 use Rattle.rule_steps.proofs.rule_steps.step2_rule.Statement.{statement}
 use Rattle.rule_steps.proofs.rule_steps.step2_rule.Tie as tie
@@ -45,13 +45,13 @@ part-step2-lists-end-2 : tie.Need-part-step2-lists-end-2
 part-step2-lists-end-2 c = search needs
 
 step2-lists-requires : tie.Need-step2-lists-requires
-step2-lists-requires c κs = (lists-fit _ (c .before .before .before .before .before .before .before .before .pre .2) refl (c .before .before .before .before .before .before .before .before .pre .0) (c .before .before .before .before .before .before .before .before .pre .1), c .before .before .before .before .before .before .before .before .pre .3, range-renamed (c .before .before .before .before .before .before .before .before .pre .4) (by-rule2 _ _ (c .before .before .before .before .before .before .before .before .args .words .now)))
+step2-lists-requires c κs = (lists-fit _ (c .before .before .before .before .before .before .before .pre .1) (c .before .before .before .before .before .before .before .pre .0), c .before .before .before .before .before .before .before .pre .0, range-renamed (c .before .before .before .before .before .before .before .pre .2) (by-rule2 _ _ (c .before .before .before .before .before .before .before .args .words .now)))
 
 same-length : tie.Need-same-length
 same-length c = search needs
 
 returns : tie.Need-returns
-returns c = renamed (c .before .before .step2-lists .ensures) (sym (by-rule2 _ _ (c .before .before .before .before .before .before .before .before .before .before .before .args .words .now)))
+returns c = renamed (c .before .before .step2-lists .ensures) (sym (by-rule2 _ _ (c .before .before .before .before .before .before .before .before .before .before .args .words .now)))
 
 pub step2-rule-spec : {M : Type 1} → statement M
 step2-rule-spec =

@@ -1,6 +1,6 @@
 use Rattle.rule_steps.proofs.RuleSteps.{by-rule3, lists-fit}
 use Rattle.output.proofs.Emitting.{renamed, range-renamed}
-use mathlib.Core.Path.{refl, sym}
+use mathlib.Core.Path.{sym}
 use borrow.Author.Needs.{needs}
 use Rattle.rule_steps.proofs.rule_steps.step3_rule.Statement.{statement}
 use Rattle.rule_steps.proofs.rule_steps.step3_rule.Tie as tie
@@ -45,13 +45,13 @@ part-step3-lists-end-2 : tie.Need-part-step3-lists-end-2
 part-step3-lists-end-2 c = search needs
 
 step3-lists-requires : tie.Need-step3-lists-requires
-step3-lists-requires c κs = (lists-fit _ (c .before .before .before .before .before .before .before .before .pre .2) refl (c .before .before .before .before .before .before .before .before .pre .0) (c .before .before .before .before .before .before .before .before .pre .1), c .before .before .before .before .before .before .before .before .pre .3, range-renamed (c .before .before .before .before .before .before .before .before .pre .4) (by-rule3 _ _ _ (c .before .before .before .before .before .before .before .before .args .words .now)))
+step3-lists-requires c κs = (lists-fit _ (c .before .before .before .before .before .before .before .pre .1) (c .before .before .before .before .before .before .before .pre .0 .n-fits), c .before .before .before .before .before .before .before .pre .0 .s-fits, range-renamed (c .before .before .before .before .before .before .before .pre .2) (by-rule3 _ _ _ (c .before .before .before .before .before .before .before .args .words .now)))
 
 same-length : tie.Need-same-length
 same-length c = search needs
 
 returns : tie.Need-returns
-returns c = renamed (c .before .before .step3-lists .ensures) (sym (by-rule3 _ _ _ (c .before .before .before .before .before .before .before .before .before .before .before .args .words .now)))
+returns c = renamed (c .before .before .step3-lists .ensures) (sym (by-rule3 _ _ _ (c .before .before .before .before .before .before .before .before .before .before .args .words .now)))
 
 pub step3-rule-spec : {M : Type 1} → statement M
 step3-rule-spec =

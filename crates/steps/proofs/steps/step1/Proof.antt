@@ -4,21 +4,22 @@ use Rattle.steps.specs.StepWords.{words1}
 use Rattle.output.proofs.Emitting.{Emitting, start, turn, finish, range-here, length-kept}
 use Rattle.rules.specs.Lists.{from}
 use Prim.Native.Nat.{_-_}
+use native.Mathlib.Omega.{arith}
 use borrow.Author.Needs.{needs}
 use Rattle.steps.proofs.steps.step1.Statement.{statement}
 use Rattle.steps.proofs.steps.step1.Tie as tie
 
 abbrev Inv-loop : tie.InvT-loop
-Inv-loop classes n out₀ at next₀ a₀ out next a = Emitting (each (words1 classes n) (from 0 (n - 0))) out₀ at (each (words1 classes n) (from a (n - a))) out next
+Inv-loop minimised n out₀ at next₀ a₀ out next a = Emitting (each (words1 minimised n) (from 0 (n - 0))) out₀ at (each (words1 minimised n) (from a (n - a))) out next
 
 abbrev μ-loop : tie.MeasureT-loop
-μ-loop classes n out₀ at next₀ a₀ out next a = n - a
+μ-loop minimised n out₀ at next₀ a₀ out next a = n - a
 
 loop-holds : tie.Need-loop-holds Inv-loop μ-loop
-loop-holds c = start (c .before .before .pre .3)
+loop-holds c = start (c .before .pre .1)
 
 step1-atom-requires : tie.Need-step1-atom-requires Inv-loop μ-loop
-step1-atom-requires c κs = (search needs, search needs, search needs, search needs, range-here (c .before .before .loop .inv) (run-next _ _ _ (c .before .loop-test .taken)))
+step1-atom-requires c κs = (omega arith, c .before .before .before .before .pre .0, range-here (c .before .before .loop .inv) (run-next _ _ _ (c .before .loop-test .taken)))
 
 add-a : tie.Need-add-a Inv-loop μ-loop
 add-a c = search needs

@@ -1,27 +1,24 @@
 use Rattle.text.proofs.AtomItems.{last-run}
 use Rattle.output.proofs.Emitting.{start, turn, finish, range-begin, range-here, in-front}
-use mathlib.Core.Path.{refl, sym, subst}
-use Prim.Native.Nat.{ℕ}
-use native.Mathlib.Omega.{arith}
-use Rattle.stores.specs.StoredRules.{StoredRules}
+use mathlib.Core.Path.{refl}
 use borrow.Author.Needs.{needs}
 use Rattle.translated.proofs.translated_rules.steps_1_to_3.Statement.{statement}
 use Rattle.translated.proofs.translated_rules.steps_1_to_3.Tie as tie
 
 step1-requires : tie.Need-step1-requires
-step1-requires c κs = (omega (arith, c .before .before .before .before .pre .0 .atoms), omega (arith, c .before .before .before .before .pre .0 .atoms, c .before .before .before .before .pre .0 .small .n-fits), c .before .before .before .before .pre .0 .low, range-begin (c .before .before .before .before .pre .1) (in-front _ _))
+step1-requires c κs = (c .before .before .before .pre .0 .small .n-fits, range-begin (c .before .before .before .pre .1) (in-front _ _))
 
 step2-requires : tie.Need-step2-requires
-step2-requires c κs = (omega (arith, c .before .before .before .before .before .before .before .before .pre .0 .atoms, c .before .before .before .before .before .before .before .before .pre .0 .small .n-fits), c .before .before .before .before .before .before .before .before .pre .0 .low, subst (λ (k : ℕ). StoredRules k (c .before .before .before .before .before .before .before .before .args .count) (c .before .before .before .before .before .before .before .before .args .rules .now)) (sym (c .before .before .before .before .before .before .before .before .pre .0 .atoms)) (c .before .before .before .before .before .before .before .before .pre .0 .rules), c .before .before .before .before .before .before .before .before .pre .0 .small .n-fits, range-here (turn (start (c .before .before .before .before .before .before .before .before .pre .1)) (in-front _ _) (c .before .before .before .step1 .ensures)) (in-front _ _))
+step2-requires c κs = (c .before .before .before .before .before .before .before .pre .0 .small .n-fits, c .before .before .before .before .before .before .before .pre .0 .rules, range-here (turn (start (c .before .before .before .before .before .before .before .pre .1)) (in-front _ _) (c .before .before .before .step1 .ensures)) (in-front _ _))
 
 step3-requires : tie.Need-step3-requires
-step3-requires c κs = (omega (arith, c .before .before .before .before .before .before .before .before .before .before .before .before .pre .0 .atoms, c .before .before .before .before .before .before .before .before .before .before .before .before .pre .0 .small .n-fits), c .before .before .before .before .before .before .before .before .before .before .before .before .pre .0 .low, subst (λ (k : ℕ). StoredRules k (c .before .before .before .before .before .before .before .before .before .before .before .before .args .count) (c .before .before .before .before .before .before .before .before .before .before .before .before .args .rules .now)) (sym (c .before .before .before .before .before .before .before .before .before .before .before .before .pre .0 .atoms)) (c .before .before .before .before .before .before .before .before .before .before .before .before .pre .0 .rules), c .before .before .before .before .before .before .before .before .before .before .before .before .pre .0 .small .s-fits, range-here (turn (turn (start (c .before .before .before .before .before .before .before .before .before .before .before .before .pre .1)) (in-front _ _) (c .before .before .before .before .before .before .before .step1 .ensures)) (in-front _ _) (c .before .before .before .step2 .ensures)) (last-run _))
+step3-requires c κs = (c .before .before .before .before .before .before .before .before .before .before .before .pre .0 .small, c .before .before .before .before .before .before .before .before .before .before .before .pre .0 .rules, range-here (turn (turn (start (c .before .before .before .before .before .before .before .before .before .before .before .pre .1)) (in-front _ _) (c .before .before .before .before .before .before .before .step1 .ensures)) (in-front _ _) (c .before .before .before .step2 .ensures)) (last-run _))
 
 same-length : tie.Need-same-length
 same-length c = search needs
 
 returns : tie.Need-returns
-returns c = finish (turn (turn (turn (start (c .before .before .before .before .before .before .before .before .before .before .before .before .before .before .before .pre .1)) (in-front _ _) (c .before .before .before .before .before .before .before .before .before .before .step1 .ensures)) (in-front _ _) (c .before .before .before .before .before .before .step2 .ensures)) (last-run _) (c .before .before .step3 .ensures)) refl
+returns c = finish (turn (turn (turn (start (c .before .before .before .before .before .before .before .before .before .before .before .before .before .before .pre .1)) (in-front _ _) (c .before .before .before .before .before .before .before .before .before .before .step1 .ensures)) (in-front _ _) (c .before .before .before .before .before .before .step2 .ensures)) (last-run _) (c .before .before .step3 .ensures)) refl
 
 pub steps-1-to-3-spec : {M : Type 1} → statement M
 steps-1-to-3-spec =
