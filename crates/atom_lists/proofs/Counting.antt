@@ -1,4 +1,4 @@
--- Counting atoms: those of a test among all, and those of a part in a list.
+-- Counting atoms: those of a test among all, and those of a list that are below a number.
 use Prim.Native.Nat.{ℕ, suc, _+_, _-_, _≤_, _<_}
 use native.Mathlib.Omega.{arith}
 use native.Mathlib.Numerals.{add-one}
@@ -7,9 +7,10 @@ use mathlib.Core.Bool.{Bool, true, false}
 use mathlib.Core.List.{List}
 use lib.ListN.{length, getD, drop, drop-of-length-le}
 use lib.Seq.{drop-cons}
+use borrow.Author.Tests.{lt-ltb, le-ltb}
 use Rattle.rules.specs.Lists.{keep, filter, from}
-use Rattle.atom_lists.specs.Parts.{of?, among}
-use Rattle.atom_lists.specs.declared.parts.Part.{Part}
+use Rattle.pairing.specs.Loops.{below}
+use Rattle.atom_lists.specs.Split.{countBelow}
 
 -- among the atoms below n
 
@@ -36,28 +37,27 @@ module _ {t : ℕ → Bool} {n i c : ℕ} (h : Counting t n i c) where
 
 -- in a list
 
-pub record CountingAmong (part : Part) (xs : List ℕ) (i c : ℕ) : Type 0 where
+pub record CountingBelow (end : ℕ) (xs : List ℕ) (i c : ℕ) : Type 0 where
   pub passed : i ≤ length xs
   pub most : c ≤ i
-  pub is : c + among part (drop i xs) ≡ among part xs
+  pub is : c + countBelow end (drop i xs) ≡ countBelow end xs
 
-pub among-begins : (part : Part) (xs : List ℕ) → CountingAmong part xs 0 0
-among-begins part xs = record { passed = omega arith; most = omega arith; is = omega arith }
+pub below-begins : (end : ℕ) (xs : List ℕ) → CountingBelow end xs 0 0
+below-begins end xs = record { passed = omega arith; most = omega arith; is = omega arith }
 
-module _ {part : Part} {xs : List ℕ} {i c : ℕ} (h : CountingAmong part xs i c) where
-  module _ (l : i < length xs) {b : Bool} (g : b ≡ of? part (getD xs i 0)) where
-    next-among : {t : Bool} → b ≡ t → among part (drop i xs) ≡ length (keep t (getD xs i 0) (filter (of? part) (drop (i + 1) xs)))
-    unfolding among
-    next-among e = rw (drop-cons xs i 0 l, add-one, ← g, e)
+module _ {end : ℕ} {xs : List ℕ} {i c : ℕ} (h : CountingBelow end xs i c) where
+  next-below : {t : Bool} → i < length xs → below end (getD xs i 0) ≡ t → countBelow end (drop i xs) ≡ length (keep t (getD xs i 0) (filter (below end) (drop (i + 1) xs)))
+  unfolding countBelow
+  next-below l e = rw (drop-cons xs i 0 l, add-one, e)
 
-    pub among-more : {d : ℕ} → b ≡ true → d ≡ c + 1 → CountingAmong part xs (i + 1) d
-    unfolding among
-    among-more e f = record { passed = omega arith; most = omega (arith, h .most); is = omega (arith, h .is, next-among e) }
+  pub below-more : {d : ℕ} → i < length xs → getD xs i 0 < end → d ≡ c + 1 → CountingBelow end xs (i + 1) d
+  unfolding countBelow
+  below-more l u f = record { passed = omega arith; most = omega (arith, h .most); is = omega (arith, h .is, next-below l (lt-ltb (getD xs i 0) end u)) }
 
-    pub among-same : {d : ℕ} → b ≡ false → d ≡ c → CountingAmong part xs (i + 1) d
-    unfolding among
-    among-same e f = record { passed = omega arith; most = omega (arith, h .most); is = omega (arith, h .is, next-among e) }
+  pub below-same : {d : ℕ} → i < length xs → end ≤ getD xs i 0 → d ≡ c → CountingBelow end xs (i + 1) d
+  unfolding countBelow
+  below-same l u f = record { passed = omega arith; most = omega (arith, h .most); is = omega (arith, h .is, next-below l (le-ltb (getD xs i 0) end u)) }
 
-  pub among-ends : length xs ≤ i → c ≡ among part xs
-  unfolding among
-  among-ends l = omega (arith, h .is, ap (among part) (drop-of-length-le xs l))
+  pub below-ends : length xs ≤ i → c ≡ countBelow end xs
+  unfolding countBelow
+  below-ends l = omega (arith, h .is, ap (countBelow end) (drop-of-length-le xs l))

@@ -2,3 +2,4 @@
 pub mod Roles
 pub mod Counting
 pub mod ListLaws
+pub mod Splitting

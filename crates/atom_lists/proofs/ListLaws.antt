@@ -4,14 +4,13 @@ use native.Mathlib.Omega.{arith}
 use native.Mathlib.Numerals.{add-one}
 use mathlib.Core.Path.{_≡_, refl, sym, ap, _∙_}
 use mathlib.Core.Bool.{Bool, true, false}
-use mathlib.Core.List.{List, [], _∷_, _++_}
+use mathlib.Core.List.{List, [], _∷_, _++_, map, map-id}
 use lib.ListN.{length, getD, drop, drop-of-length-le}
 use lib.Seq.{drop-cons}
-use Rattle.rules.specs.Lists.{keep, from}
+use Rattle.rules.specs.Lists.{keep, filter, flat, from}
+use Rattle.pairing.proofs.ListLaws.{map-eq}
 use Rattle.output.proofs.Emitting.{Ahead}
 use Rattle.atom_lists.specs.ListWords.{each, single, raised}
-use Rattle.atom_lists.specs.Parts.{of?}
-use Rattle.atom_lists.specs.declared.parts.Part.{Part}
 
 pub each-single : (xs : List ℕ) → each single xs ≡ xs
 unfolding each single
@@ -40,18 +39,22 @@ module _ (g : ℕ → List ℕ) (xs : List ℕ) {i : ℕ} where
   unfolding each
   list-ends l = ap (each g) (drop-of-length-le xs l)
 
+-- the atoms that pass a test
+
+pub each-raised : (t : ℕ → Bool) (b : ℕ) (xs : List ℕ) → each (raised t b) xs ≡ map (λ a. b + a) (filter t xs)
+unfolding each raised
+each-raised t b [] = refl
+each-raised t b (x ∷ xs) = go (t x) (each-raised t b xs)
+  where
+    go : (s : Bool) → flat (raised t b) xs ≡ map (λ a. b + a) (filter t xs) → keep s (b + x) [] ++ flat (raised t b) xs ≡ map (λ a. b + a) (keep s x (filter t xs))
+    go true e = ap (λ (l : List ℕ). (b + x) ∷ l) e
+    go false e = e
+
+pub each-itself : (t : ℕ → Bool) (xs : List ℕ) → each (raised t 0) xs ≡ filter t xs
+each-itself t xs = each-raised t 0 xs ∙ map-eq (λ a. 0 + a) (λ a. a) (λ a. omega arith) (filter t xs) ∙ map-id (filter t xs)
+
 -- one atom
 
 pub single-is : (a : ℕ) → single a ≡ a ∷ []
 unfolding single
 single-is a = refl
-
--- an atom of a part or of another, by its test
-module _ (part : Part) (b a : ℕ) {is : Bool} (h : is ≡ of? part a) where
-  pub of-part : is ≡ true → raised part b a ≡ (b + a) ∷ []
-  unfolding raised
-  of-part e = ap (λ (t : Bool). keep t (b + a) []) (sym h ∙ e)
-
-  pub of-another : is ≡ false → [] ≡ raised part b a
-  unfolding raised
-  of-another e = ap (λ (t : Bool). keep t (b + a) []) (sym e ∙ h)

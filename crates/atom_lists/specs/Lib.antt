@@ -1,4 +1,4 @@
 -- Atoms by their class words, and the words of a list of atoms.
 pub mod Roles
-pub mod Parts
 pub mod ListWords
+pub mod Split

@@ -6,16 +6,30 @@ use native.Mathlib.Omega.{arith}
 use mathlib.Core.Path.{_≡_, refl, sym, ap, ap₂, _∙_, subst}
 use mathlib.Core.List.{List, [], _∷_, _++_, append-assoc, append-nil}
 use lib.ListN.{length, getD, take, drop, set, length-append}
-use lib.Seq.{drop-cons, drop-drop, set-append-seam, set-out, sets, sets-eq, length-sets}
+use lib.Seq.{drop-cons, drop-drop, set-append-seam, set-out, set-comm, sets, sets-eq, length-sets}
 use borrow.Rule.Slice.PartMut.{putMid}
 use Rattle.output.specs.Emitted.{Emitted, InRange}
 
 -- what is written in two runs is written in one
-sets-append : (d : List ℕ) (at : ℕ) (u v : List ℕ) → sets (sets d at u) (at + length u) v ≡ sets d at (u ++ v)
+pub sets-append : (d : List ℕ) (at : ℕ) (u v : List ℕ) → sets (sets d at u) (at + length u) v ≡ sets d at (u ++ v)
 sets-append d at [] v = ap (λ (k : ℕ). sets d k v) (add-zero at)
 sets-append d at (b ∷ u) v =
     let e : at + suc (length u) ≡ suc at + length u = omega arith in
     ap (λ (k : ℕ). sets (sets (set d at b) (suc at) u) k v) e ∙ sets-append (set d at b) (suc at) u v
+
+-- what is written in two runs apart may be written in either sequence
+
+set-sets : (d : List ℕ) (p x q : ℕ) (v : List ℕ) → p < q → set (sets d q v) p x ≡ sets (set d p x) q v
+set-sets d p x q [] l = refl
+set-sets d p x q (y ∷ v) l = set-sets (set d q y) p x (suc q) v (omega arith) ∙ ap (λ (e : List ℕ). sets e (suc q) v) (set-comm d q p y x (λ e. omega arith))
+
+pub sets-comm : (d : List ℕ) (p : ℕ) (u : List ℕ) (q : ℕ) (v : List ℕ) → p + length u ≤ q → sets (sets d q v) p u ≡ sets (sets d p u) q v
+sets-comm d p [] q v l = refl
+sets-comm d p (x ∷ u) q v l = ap (λ (e : List ℕ). sets e (suc p) u) (set-sets d p x q v (omega arith)) ∙ sets-comm (set d p x) (suc p) u q v (omega arith)
+
+-- a run written in front of another
+pub sets-front : (d : List ℕ) (p : ℕ) (u : List ℕ) (q : ℕ) (v : List ℕ) → q ≡ p + length u → sets (sets d q v) p u ≡ sets d p (u ++ v)
+sets-front d p u q v e = sets-comm d p u q v (omega arith) ∙ ap (λ (k : ℕ). sets (sets d p u) k v) e ∙ sets-append d p u v
 
 -- what is written where it has room
 pub sets-seam : (p q w : List ℕ) → length w ≤ length q → sets (p ++ q) (length p) w ≡ p ++ (w ++ drop (length w) q)

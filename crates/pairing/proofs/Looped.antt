@@ -4,7 +4,6 @@ use native.Mathlib.Omega.{arith}
 use mathlib.Core.Path.{_≡_, refl, sym, ap, ap₂, _∙_}
 use mathlib.Core.List.{List, [], _∷_, _++_, map, map-map, map-id, map-append}
 use mathlib.Core.Bool.{Bool}
-use lib.Dec.{leb}
 use lib.ListN.{length, getD, take}
 use lib.Seq.{take-length}
 use Rattle.kinds.specs.declared.limits.Kind.the-variants.{Preference}
@@ -16,11 +15,11 @@ use Rattle.stores.specs.Program.{Program, ProgramForm}
 use Rattle.pairing.specs.Atoms.{Atom, original, N, S, D, E, U, originals, classWord, fixed?, unfixed?, minimised?, unminimised?, minimisedAtoms, unfixedAtoms, declared, atomNumber, nameOf}
 use Rattle.pairing.specs.Steps.{step1, step2, step3, step4, step5, step6, step7, step8, step9, step10, translation}
 use Rattle.pairing.specs.Translated.{translated, translatedRules, translatedNames}
-use Rattle.pairing.specs.Loops.{below, loop1, loop2, loop3, loop4, loop5, loop6, loop789, loop10, looped, dot, loopedNames}
+use Rattle.pairing.specs.Loops.{below, beyond, loop1, loop2, loop3, loop4, loop5, loop6, loop789, loop10, looped, dot, loopedNames}
 use Rattle.pairing.proofs.ListLaws.{map-flat, map-keep, map-eq, map-same, flat-same, filter-same, entries}
 use Rattle.pairing.proofs.SumLaws.{length-parts}
 use Rattle.pairing.proofs.Fit.{Fit, Inside, fit-of}
-use Rattle.pairing.proofs.Numbering.{unfixed-first, minimised-first, minimised-below, unminimised-from, unfixed-below, fixed-from}
+use Rattle.pairing.proofs.Numbering.{unfixed-first, minimised-first, minimised-below, unminimised-beyond, unfixed-below, fixed-beyond}
 
 module _ (p : Program) where
   abbrev q : ℕ
@@ -64,7 +63,7 @@ module _ (p : Program) where
     looped1 : map numbered (step1 p) ≡ flat (loop1 m (p .atoms)) (from 0 (p .atoms))
     unfolding step1
     looped1 = simp (map-flat, map-keep) (flat-same _ (loop1 m (p .atoms)) (from 0 (p .atoms)) (all-from _ 0 (p .atoms) (λ a l h.
-        ap (λ (b : Bool). keep b (rule (a ∷ []) [] ((p .atoms + a) ∷ [])) (rule ((p .atoms + a) ∷ []) [] (a ∷ []) ∷ [])) (unminimised-from p fit a (omega arith)))))
+        ap (λ (b : Bool). keep b (rule (a ∷ []) [] ((p .atoms + a) ∷ [])) (rule ((p .atoms + a) ∷ []) [] (a ∷ []) ∷ [])) (unminimised-beyond p fit a (omega arith)))))
 
     -- a rule's lists by the two tests
     chosen : (t u : ℕ → Bool) → ((a : ℕ) → a < p .atoms → t a ≡ u a) → (l : List ℕ) → All (λ a. a < p .atoms) l → filter t l ≡ filter u l
@@ -75,14 +74,14 @@ module _ (p : Program) where
     looped2 = simp (map-map, map-append, map-id) (map-same _ (loop2 m (p .atoms)) (p .rules) (all-imp (Inside (p .atoms)) _ (λ r i j. rule
         (chosen (minimised? p) (below m) (minimised-below p fit) (r .head) (i .head) j)
         (chosen (minimised? p) (below m) (minimised-below p fit) (r .body) (i .body) j)
-        (chosen (unminimised? p) (leb m) (unminimised-from p fit) (r .head) (i .head) j ++ map (λ a. p .atoms + a) (chosen (unminimised? p) (leb m) (unminimised-from p fit) (r .body) (i .body) j))) (p .rules) (fit .rules)))
+        (chosen (unminimised? p) (beyond m) (unminimised-beyond p fit) (r .head) (i .head) j ++ map (λ a. p .atoms + a) (chosen (unminimised? p) (beyond m) (unminimised-beyond p fit) (r .body) (i .body) j))) (p .rules) (fit .rules)))
 
     looped3 : map numbered (step3 p) ≡ map (loop3 q s u) (p .rules)
     unfolding step3
     looped3 = simp (map-map, map-append, map-id) (map-same _ (loop3 q s u) (p .rules) (all-imp (Inside (p .atoms)) _ (λ r i j. rule
         (map (λ a. s + a) (chosen (unfixed? p) (below q) (unfixed-below p fit) (r .head) (i .head) j) ++ (u ∷ []))
-        (map (λ a. s + a) (chosen (unfixed? p) (below q) (unfixed-below p fit) (r .body) (i .body) j) ++ chosen (fixed? p) (leb q) (fixed-from p fit) (r .body) (i .body) j)
-        (chosen (fixed? p) (leb q) (fixed-from p fit) (r .head) (i .head) j)) (p .rules) (fit .rules)))
+        (map (λ a. s + a) (chosen (unfixed? p) (below q) (unfixed-below p fit) (r .body) (i .body) j) ++ chosen (fixed? p) (beyond q) (fixed-beyond p fit) (r .body) (i .body) j)
+        (chosen (fixed? p) (beyond q) (fixed-beyond p fit) (r .head) (i .head) j)) (p .rules) (fit .rules)))
 
     looped6 : map numbered (step6 p) ≡ flat (λ a. loop6 (p .atoms) s d e u (classWord p a) a) (from 0 m)
     unfolding step6

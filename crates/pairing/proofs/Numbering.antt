@@ -1,30 +1,22 @@
 -- The declared atoms: kind by kind, and numbered from 0 by their places.
-use Prim.Native.Nat.{ℕ, suc, _+_, _*_, _≤_, _<_}
+use Prim.Native.Nat.{ℕ, suc, _+_, _*_, _<_}
 use native.Mathlib.Omega.{arith}
-use native.Mathlib.Decide.{decLe}
 use mathlib.Core.Path.{_≡_, refl, sym, ap, ap₂, _∙_}
 use mathlib.Core.List.{List, [], _∷_, _++_, map, map-map, map-append}
 use mathlib.Core.Bool.{Bool, true, false, not}
 use mathlib.Core.Logic.{and-true}
-use lib.Dec.{T, leb, ltb, leb→le, le→leb, eqb→eq}
+use lib.Dec.{T, leb→le, le→leb, eqb→eq}
 use lib.ListN.{length, getD, length-append, length-map}
-use borrow.Author.Tests.{lt-ltb, le-ltb, le-leb, lt-leb}
 use Rattle.kinds.specs.Limits.{classLimit, fixed}
 use Rattle.rules.specs.Lists.{All, from}
 use Rattle.rules.proofs.Booleans.{eq→eqb, T-not-in, T-not-out}
 use Rattle.rules.proofs.Lists.{length-from, from-append}
 use Rattle.stores.specs.Program.{Program}
 use Rattle.pairing.specs.Atoms.{Atom, original, N, S, D, E, U, originals, classWord, minimised?, unminimised?, fixed?, unfixed?, minimisedAtoms, unfixedAtoms, declared, atomNumber}
+use Rattle.pairing.specs.Loops.{below, beyond}
 use Rattle.pairing.proofs.Quantified.{Each·simp}
 use Rattle.pairing.proofs.ListLaws.{shifted, map-eq, filter-first, first-part, found}
 use Rattle.pairing.proofs.Fit.{Fit, Minimised}
-
-not-below : (a c : ℕ) → not (ltb a c) ≡ leb c a
-not-below a c = step (decLe c a)
-  where
-    step : Dec (c ≤ a) → not (ltb a c) ≡ leb c a
-    step (yes l) = rw (le-ltb a c l, le-leb c a l)
-    step (no l) = let u : a < c = omega arith in rw (lt-ltb a c u, lt-leb c a u)
 
 not-not : (b : Bool) → not (not b) ≡ b
 not-not true = refl
@@ -72,17 +64,17 @@ module _ (p : Program) where
 
     -- the minimised atoms are those below their count, and so are the unfixed ones
 
-    pub minimised-below : (a : ℕ) → a < p .atoms → minimised? p a ≡ ltb a (length (minimisedAtoms p))
+    pub minimised-below : (a : ℕ) → a < p .atoms → minimised? p a ≡ below (length (minimisedAtoms p)) a
     minimised-below = first-part (minimised? p) (p .atoms) (length (minimisedAtoms p)) minimised-first
 
-    pub unminimised-from : (a : ℕ) → a < p .atoms → unminimised? p a ≡ leb (length (minimisedAtoms p)) a
-    unminimised-from a l = ap not (minimised-below a l) ∙ not-below a (length (minimisedAtoms p))
+    pub unminimised-beyond : (a : ℕ) → a < p .atoms → unminimised? p a ≡ beyond (length (minimisedAtoms p)) a
+    unminimised-beyond a l = ap not (minimised-below a l)
 
-    pub unfixed-below : (a : ℕ) → a < p .atoms → unfixed? p a ≡ ltb a (length (unfixedAtoms p))
+    pub unfixed-below : (a : ℕ) → a < p .atoms → unfixed? p a ≡ below (length (unfixedAtoms p)) a
     unfixed-below = first-part (unfixed? p) (p .atoms) (length (unfixedAtoms p)) unfixed-first
 
-    pub fixed-from : (a : ℕ) → a < p .atoms → fixed? p a ≡ leb (length (unfixedAtoms p)) a
-    fixed-from a l = sym (not-not (fixed? p a)) ∙ ap not (unfixed-below a l) ∙ not-below a (length (unfixedAtoms p))
+    pub fixed-beyond : (a : ℕ) → a < p .atoms → fixed? p a ≡ beyond (length (unfixedAtoms p)) a
+    fixed-beyond a l = sym (not-not (fixed? p a)) ∙ ap not (unfixed-below a l)
 
     -- a run of c atoms numbered from s, and what follows it
     run : (f : ℕ → Atom) (s : ℕ) (l : List ℕ) (c : ℕ) → ((a : ℕ) → atomNumber p (f a) ≡ s + a) → l ≡ from 0 c → map (atomNumber p) (map f l) ≡ from s c

@@ -1,8 +1,8 @@
 -- The translation as loops over numbers write it. N.a has the number n + a, S.a s + a, D.a d + a, E.j e + j, and U u; proofs/Looped says that this is the translation.
 use Prim.Native.Nat.{ℕ, suc, _+_, _-_, _*_}
 use mathlib.Core.List.{List, [], _∷_, _++_, map}
-use mathlib.Core.Bool.{Bool}
-use lib.Dec.{leb, ltb}
+use mathlib.Core.Bool.{Bool, not}
+use lib.Dec.{ltb}
 use lib.ListN.{length, getD, take}
 use Rattle.kinds.specs.Words.{bytes, byte, decimal}
 use Rattle.rules.specs.Lists.{keep, filter, flat, from}
@@ -11,27 +11,30 @@ use Rattle.rules.specs.Preferred.{ofClass}
 use Rattle.stores.specs.Program.{Program}
 use Rattle.pairing.specs.Atoms.{minimisedAtoms, unfixedAtoms}
 
--- the atoms below m
+-- the atoms below m, and those from m on
 abbrev pub below : ℕ → ℕ → Bool
 below m a = ltb a m
 
+abbrev pub beyond : ℕ → ℕ → Bool
+beyond m a = not (ltb a m)
+
 -- step 1, atom a; the minimised atoms are those below m
 abbrev pub loop1 : ℕ → ℕ → ℕ → List (Rule ℕ)
-loop1 m n a = keep (leb m a) (rule (a ∷ []) [] ((n + a) ∷ [])) (rule ((n + a) ∷ []) [] (a ∷ []) ∷ [])
+loop1 m n a = keep (beyond m a) (rule (a ∷ []) [] ((n + a) ∷ [])) (rule ((n + a) ∷ []) [] (a ∷ []) ∷ [])
 
 -- step 2, rule r
 abbrev pub loop2 : ℕ → ℕ → Rule ℕ → Rule ℕ
 loop2 m n r = rule
     (filter (below m) (r .head))
     (filter (below m) (r .body))
-    (filter (leb m) (r .head) ++ map (λ a. n + a) (filter (leb m) (r .body)))
+    (filter (beyond m) (r .head) ++ map (λ a. n + a) (filter (beyond m) (r .body)))
 
 -- step 3, rule r; the unfixed atoms are those below q
 abbrev pub loop3 : ℕ → ℕ → ℕ → Rule ℕ → Rule ℕ
 loop3 q s u r = rule
     (map (λ a. s + a) (filter (below q) (r .head)) ++ (u ∷ []))
-    (map (λ a. s + a) (filter (below q) (r .body)) ++ filter (leb q) (r .body))
-    (filter (leb q) (r .head))
+    (map (λ a. s + a) (filter (below q) (r .body)) ++ filter (beyond q) (r .body))
+    (filter (beyond q) (r .head))
 
 -- step 4
 abbrev pub loop4 : ℕ → ℕ → Rule ℕ

@@ -1,2 +1,3 @@
 -- The laws of the steps over the rules.
 pub mod RuleSteps
+pub mod Woven

@@ -1,7 +1,7 @@
 // Steps 2 and 3, which go by rules.
-use atom_lists::parts::Part;
-use atom_lists::parts::count_part;
-use atom_lists::parts::emit_part;
+use atom_lists::split::Split;
+use atom_lists::split::count_below;
+use atom_lists::split::emit_split;
 use output::words::emit;
 use output::words::push;
 use steps::offsets::Offsets;
@@ -27,15 +27,27 @@ fn step2_lists(
     requires { ⌜ RuleLists (now heads) (now bodies) × (n ≤ 256) × InRange at (lists2 minimised n (now heads) (now bodies)) ⌝ }
     ensures { λ r. ⌜ Emitted (now (out .entry)) at (lists2 minimised n (now (heads .entry)) (now (bodies .entry))) (now (out .exit)) r ⌝ }
 {
-    let head = count_part(Part::Below(minimised), heads);
-    let body = count_part(Part::Below(minimised), bodies);
+    let head = count_below(minimised, heads);
+    let body = count_below(minimised, bodies);
     let others = heads.len() as u16 - head + (bodies.len() as u16 - body);
     let counts = [head, body, others];
-    let counted = emit(&counts, out, at);
-    let headed = emit_part(Part::Below(minimised), heads, 0, out, counted);
-    let bodied = emit_part(Part::Below(minimised), bodies, 0, out, headed);
-    let negated = emit_part(Part::From(minimised), heads, 0, out, bodied);
-    emit_part(Part::From(minimised), bodies, n, out, negated)
+    let first = emit(&counts, out, at);
+    let second = first + head as usize;
+    let third = second + body as usize;
+    let fourth = third + (heads.len() - head as usize);
+    let own = Split {
+        end: minimised,
+        low: 0,
+        high: 0,
+    };
+    let negated = Split {
+        end: minimised,
+        low: 0,
+        high: n as usize,
+    };
+    emit_split(heads, own, out, first, third);
+    emit_split(bodies, negated, out, second, fourth);
+    fourth + (bodies.len() - body as usize)
 }
 
 fn step2_rule(words: &[u16], minimised: u16, n: u16, out: &mut [u16], at: usize) -> usize
@@ -76,14 +88,21 @@ fn step3_lists(
     requires { ⌜ RuleLists (now heads) (now bodies) × (s ≤ 1100) × InRange at (lists3 unfixed s u (now heads) (now bodies)) ⌝ }
     ensures { λ r. ⌜ Emitted (now (out .entry)) at (lists3 unfixed s u (now (heads .entry)) (now (bodies .entry))) (now (out .exit)) r ⌝ }
 {
-    let fixed = count_part(Part::From(unfixed), heads);
-    let counts = [heads.len() as u16 - fixed + 1, bodies.len() as u16, fixed];
-    let counted = emit(&counts, out, at);
-    let headed = emit_part(Part::Below(unfixed), heads, s, out, counted);
-    let united = push(u, out, headed);
-    let copied = emit_part(Part::Below(unfixed), bodies, s, out, united);
-    let bodied = emit_part(Part::From(unfixed), bodies, 0, out, copied);
-    emit_part(Part::From(unfixed), heads, 0, out, bodied)
+    let head = count_below(unfixed, heads);
+    let body = count_below(unfixed, bodies);
+    let counts = [head + 1, bodies.len() as u16, heads.len() as u16 - head];
+    let first = emit(&counts, out, at);
+    let second = push(u, out, first + head as usize);
+    let third = second + body as usize;
+    let fourth = third + (bodies.len() - body as usize);
+    let copied = Split {
+        end: unfixed,
+        low: s as usize,
+        high: 0,
+    };
+    emit_split(bodies, copied, out, second, third);
+    emit_split(heads, copied, out, first, fourth);
+    fourth + (heads.len() - head as usize)
 }
 
 fn step3_rule(words: &[u16], unfixed: u16, o: Offsets, out: &mut [u16], at: usize) -> usize

@@ -5,7 +5,7 @@ use native.Mathlib.Nat.{add-zero}
 use mathlib.Core.Path.{_≡_, refl, sym, ap, _∙_}
 use mathlib.Core.List.{List, [], _∷_, _++_}
 use lib.ListN.{getD}
-use borrow.Author.Tests.{le-leb, lt-leb}
+use borrow.Author.Tests.{lt-ltb, le-ltb}
 use Rattle.output.proofs.Emitting.{Ahead}
 use Rattle.steps.specs.StepWords.{words1, words4, classWords6, words6}
 use Rattle.steps.specs.declared.offsets.Offsets.{Offsets}
@@ -20,11 +20,11 @@ ends-words e u = ap (λ (x : ℕ). 2 ∷ 0 ∷ 0 ∷ x ∷ u ∷ []) (add-zero e
 module _ (m n a : ℕ) where
   pub second-alone : a < m → words1 m n a ≡ 1 ∷ 0 ∷ 1 ∷ (n + a) ∷ a ∷ []
   unfolding words1
-  second-alone l = rw (lt-leb m a l)
+  second-alone l = rw (lt-ltb a m l)
 
   pub both-rules : m ≤ a → words1 m n a ≡ 1 ∷ 0 ∷ 1 ∷ a ∷ (n + a) ∷ 1 ∷ 0 ∷ 1 ∷ (n + a) ∷ a ∷ []
   unfolding words1
-  both-rules l = rw (le-leb m a l)
+  both-rules l = rw (le-ltb a m l)
 
 -- the four rules of step 6, one after the other
 module _ (o : Offsets) (i a : ℕ) where

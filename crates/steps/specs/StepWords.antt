@@ -6,9 +6,9 @@ use Rattle.rules.specs.Lists.{flat, from}
 use Rattle.rules.specs.Rules.{Rule}
 use Rattle.stores.specs.RuleStore.{ruleWords}
 use Rattle.steps.specs.declared.offsets.Offsets.{Offsets}
-use Rattle.atom_lists.specs.ListWords.{each, single, raised}
-use Rattle.atom_lists.specs.Parts.{among}
-use Rattle.atom_lists.specs.declared.parts.Part.the-variants.{Below, From}
+use Rattle.atom_lists.specs.ListWords.{each, single}
+use Rattle.atom_lists.specs.Split.{countBelow, lows, highs}
+use Rattle.atom_lists.specs.declared.split.Split.{Split}
 use Rattle.pairing.specs.Loops.{loop1, loop2, loop3, loop4, loop5, loop6, loop789, loop10}
 
 -- step 1, atom a; the minimised atoms are those below m
@@ -25,15 +25,18 @@ words3 q s u r = ruleWords (loop3 q s u r)
 
 -- the same for a rule with these atoms in its head and body
 
+abbrev pub splitAt : ℕ → ℕ → ℕ → Split
+splitAt end low high = record { end = end; low = low; high = high }
+
 unfoldable pub lists2 : ℕ → ℕ → List ℕ → List ℕ → List ℕ
 lists2 m n heads bodies =
-    among (Below m) heads ∷ among (Below m) bodies ∷ (length heads - among (Below m) heads + (length bodies - among (Below m) bodies))
-    ∷ (each (raised (Below m) 0) heads ++ (each (raised (Below m) 0) bodies ++ (each (raised (From m) 0) heads ++ each (raised (From m) n) bodies)))
+    countBelow m heads ∷ countBelow m bodies ∷ (length heads - countBelow m heads + (length bodies - countBelow m bodies))
+    ∷ (lows (splitAt m 0 0) heads ++ (lows (splitAt m 0 n) bodies ++ (highs (splitAt m 0 0) heads ++ highs (splitAt m 0 n) bodies)))
 
 unfoldable pub lists3 : ℕ → ℕ → ℕ → List ℕ → List ℕ → List ℕ
 lists3 q s u heads bodies =
-    (length heads - among (From q) heads + 1) ∷ length bodies ∷ among (From q) heads
-    ∷ (each (raised (Below q) s) heads ++ (u ∷ (each (raised (Below q) s) bodies ++ (each (raised (From q) 0) bodies ++ each (raised (From q) 0) heads))))
+    (countBelow q heads + 1) ∷ length bodies ∷ (length heads - countBelow q heads)
+    ∷ (lows (splitAt q s 0) heads ++ (u ∷ (lows (splitAt q s 0) bodies ++ (highs (splitAt q s 0) bodies ++ highs (splitAt q s 0) heads))))
 
 unfoldable pub words4 : ℕ → ℕ → List ℕ
 words4 e u = ruleWords (loop4 e u)

@@ -1,69 +1,104 @@
-use Rattle.rule_steps.proofs.RuleSteps.{counted3, few-from}
-use Rattle.text.proofs.AtomItems.{last-run}
-use Rattle.output.proofs.Emitting.{start, turn, finish, range-begin, range-here, in-front, one-in-front}
-use mathlib.Core.Path.{refl}
+use Rattle.rule_steps.proofs.Woven.{counted3, push-fits3, bodies-fit3, heads-fit3, split3}
+use Rattle.atom_lists.proofs.Splitting.{few-below}
+use Rattle.output.proofs.Emitting.{range-begin}
 use native.Mathlib.Omega.{arith}
 use borrow.Author.Needs.{needs}
 use Rattle.rule_steps.proofs.rule_steps.step3_lists.Statement.{statement}
 use Rattle.rule_steps.proofs.rule_steps.step3_lists.Tie as tie
 
-count-part-requires : tie.Need-count-part-requires
-count-part-requires c κs = search needs
+count-below-requires : tie.Need-count-below-requires
+count-below-requires c κs = search needs
 
-cast-t17 : tie.Need-cast-t17
-cast-t17 c = search needs
+count-below-requires-2 : tie.Need-count-below-requires-2
+count-below-requires-2 c κs = search needs
 
-sub-t18 : tie.Need-sub-t18
-sub-t18 c = omega (arith, few-from (c .before .before .before .before .args .unfixed) (c .before .before .before .before .args .heads .now), c .count-part .ensures)
+add-t16 : tie.Need-add-t16
+add-t16 c = omega (arith, few-below (c .before .before .before .before .before .args .unfixed) (c .before .before .before .before .before .args .heads .now), c .before .count-below .ensures, c .before .before .before .before .before .pre .0 .few-heads)
 
-add-t19 : tie.Need-add-t19
-add-t19 c = search needs
+cast-t18 : tie.Need-cast-t18
+cast-t18 c = search needs
 
-cast-t21 : tie.Need-cast-t21
-cast-t21 c = search needs
+cast-t20 : tie.Need-cast-t20
+cast-t20 c = search needs
+
+sub-t21 : tie.Need-sub-t21
+sub-t21 c = omega (arith, few-below (c .before .before .before .before .before .args .unfixed) (c .before .before .before .before .before .args .heads .now), c .before .count-below .ensures)
 
 slice-aggregate-emit : tie.Need-slice-aggregate-emit
 slice-aggregate-emit c = search needs
 
 emit-requires : tie.Need-emit-requires
-emit-requires c κs = range-begin (c .before .before .before .before .before .before .pre .2) (counted3 _ _ _ _ _ (c .before .before .count-part .ensures))
+emit-requires c κs = range-begin (c .before .before .before .before .before .before .before .pre .2) (counted3 _ _ _ (c .before .before .before .before .before .before .before .args .heads .now) (c .before .before .before .before .before .before .before .args .bodies .now) (c .before .before .before .count-below .ensures) (c .before .before .count-below2 .ensures))
 
-emit-part-requires : tie.Need-emit-part-requires
-emit-part-requires c κs = (c .before .before .before .before .before .before .before .before .before .before .pre .0 .heads-below, c .before .before .before .before .before .before .before .before .before .before .pre .1, range-here (turn (start (c .before .before .before .before .before .before .before .before .before .before .pre .2)) (counted3 _ _ _ _ _ (c .before .before .before .before .before .before .count-part .ensures)) (c .before .before .before .emit .ensures)) (in-front _ _))
+cast-push : tie.Need-cast-push
+cast-push c = search needs
+
+add-push : tie.Need-add-push
+add-push c = search needs
 
 push-requires : tie.Need-push-requires
-push-requires c κs = range-here (turn (turn (start (c .before .before .before .before .before .before .before .before .before .before .before .before .before .before .pre .2)) (counted3 _ _ _ _ _ (c .before .before .before .before .before .before .before .before .before .before .count-part .ensures)) (c .before .before .before .before .before .before .before .emit .ensures)) (in-front _ _) (c .before .before .before .emit-part .ensures)) (one-in-front _ _)
+push-requires c κs = push-fits3 _ _ _ (c .before .before .before .before .before .before .before .before .before .before .before .args .heads .now) (c .before .before .before .before .before .before .before .before .before .before .before .args .bodies .now) (c .before .before .before .before .before .before .before .count-below .ensures) (c .before .before .before .before .before .before .count-below2 .ensures) (c .before .before .before .before .before .before .before .before .before .before .before .pre .0) (c .before .before .before .before .before .before .before .before .before .before .before .pre .1) (c .before .before .before .before .before .before .before .before .before .before .before .pre .2) (c .before .before .before .emit .ensures)
 
-emit-part-requires-2 : tie.Need-emit-part-requires-2
-emit-part-requires-2 c κs = (c .before .before .before .before .before .before .before .before .before .before .before .before .before .before .before .before .before .before .pre .0 .bodies-below, c .before .before .before .before .before .before .before .before .before .before .before .before .before .before .before .before .before .before .pre .1, range-here (turn (turn (turn (start (c .before .before .before .before .before .before .before .before .before .before .before .before .before .before .before .before .before .before .pre .2)) (counted3 _ _ _ _ _ (c .before .before .before .before .before .before .before .before .before .before .before .before .before .before .count-part .ensures)) (c .before .before .before .before .before .before .before .before .before .before .before .emit .ensures)) (in-front _ _) (c .before .before .before .before .before .before .before .emit-part .ensures)) (one-in-front _ _) (c .before .before .before .push .ensures)) (in-front _ _))
+cast-third : tie.Need-cast-third
+cast-third c = search needs
 
-emit-part-requires-3 : tie.Need-emit-part-requires-3
-emit-part-requires-3 c κs = (c .before .before .before .before .before .before .before .before .before .before .before .before .before .before .before .before .before .before .before .before .before .before .pre .0 .bodies-below, omega arith, range-here (turn (turn (turn (turn (start (c .before .before .before .before .before .before .before .before .before .before .before .before .before .before .before .before .before .before .before .before .before .before .pre .2)) (counted3 _ _ _ _ _ (c .before .before .before .before .before .before .before .before .before .before .before .before .before .before .before .before .before .before .count-part .ensures)) (c .before .before .before .before .before .before .before .before .before .before .before .before .before .before .before .emit .ensures)) (in-front _ _) (c .before .before .before .before .before .before .before .before .before .before .before .emit-part .ensures)) (one-in-front _ _) (c .before .before .before .before .before .before .before .push .ensures)) (in-front _ _) (c .before .before .before .emit-part2 .ensures)) (in-front _ _))
+add-third : tie.Need-add-third
+add-third c = search needs
 
-emit-part-requires-4 : tie.Need-emit-part-requires-4
-emit-part-requires-4 c κs = (c .before .before .before .before .before .before .before .before .before .before .before .before .before .before .before .before .before .before .before .before .before .before .before .before .before .before .pre .0 .heads-below, omega arith, range-here (turn (turn (turn (turn (turn (start (c .before .before .before .before .before .before .before .before .before .before .before .before .before .before .before .before .before .before .before .before .before .before .before .before .before .before .pre .2)) (counted3 _ _ _ _ _ (c .before .before .before .before .before .before .before .before .before .before .before .before .before .before .before .before .before .before .before .before .before .before .count-part .ensures)) (c .before .before .before .before .before .before .before .before .before .before .before .before .before .before .before .before .before .before .before .emit .ensures)) (in-front _ _) (c .before .before .before .before .before .before .before .before .before .before .before .before .before .before .before .emit-part .ensures)) (one-in-front _ _) (c .before .before .before .before .before .before .before .before .before .before .before .push .ensures)) (in-front _ _) (c .before .before .before .before .before .before .before .emit-part2 .ensures)) (in-front _ _) (c .before .before .before .emit-part3 .ensures)) (last-run _))
+cast-fourth : tie.Need-cast-fourth
+cast-fourth c = search needs
+
+sub-fourth : tie.Need-sub-fourth
+sub-fourth c = omega (arith, few-below (c .before .before .before .before .before .before .before .before .before .before .before .before .before .before .args .unfixed) (c .before .before .before .before .before .before .before .before .before .before .before .before .before .before .args .bodies .now), c .before .before .before .before .before .before .before .before .before .count-below2 .ensures)
+
+add-fourth : tie.Need-add-fourth
+add-fourth c = search needs
+
+emit-split-requires : tie.Need-emit-split-requires
+emit-split-requires c κs = bodies-fit3 _ _ _ (c .before .before .before .before .before .before .before .before .before .before .before .before .before .before .before .args .heads .now) (c .before .before .before .before .before .before .before .before .before .before .before .before .before .before .before .args .bodies .now) (c .before .before .before .before .before .before .before .before .before .before .before .count-below .ensures) (c .before .before .before .before .before .before .before .before .before .before .count-below2 .ensures) (c .before .before .before .before .before .before .before .before .before .before .before .before .before .before .before .pre .0) (c .before .before .before .before .before .before .before .before .before .before .before .before .before .before .before .pre .1) (c .before .before .before .before .before .before .before .before .before .before .before .before .before .before .before .pre .2) (c .before .before .before .before .before .before .before .emit .ensures) (c .before .before .before .push .ensures)
+
+emit-split-requires-2 : tie.Need-emit-split-requires-2
+emit-split-requires-2 c κs = heads-fit3 _ _ _ (c .before .before .before .before .before .before .before .before .before .before .before .before .before .before .before .before .before .before .before .args .heads .now) (c .before .before .before .before .before .before .before .before .before .before .before .before .before .before .before .before .before .before .before .args .bodies .now) (c .before .before .before .before .before .before .before .before .before .before .before .before .before .before .before .count-below .ensures) (c .before .before .before .before .before .before .before .before .before .before .before .before .before .before .count-below2 .ensures) (c .before .before .before .before .before .before .before .before .before .before .before .before .before .before .before .before .before .before .before .pre .0) (c .before .before .before .before .before .before .before .before .before .before .before .before .before .before .before .before .before .before .before .pre .1) (c .before .before .before .before .before .before .before .before .before .before .before .before .before .before .before .before .before .before .before .pre .2) (c .before .before .before .before .before .before .before .before .before .before .before .emit .ensures) (c .before .before .before .before .before .before .before .push .ensures)
+
+cast-result : tie.Need-cast-result
+cast-result c = search needs
+
+sub-result : tie.Need-sub-result
+sub-result c = omega (arith, few-below (c .before .before .before .before .before .before .before .before .before .before .before .before .before .before .before .before .before .before .before .before .before .before .args .unfixed) (c .before .before .before .before .before .before .before .before .before .before .before .before .before .before .before .before .before .before .before .before .before .before .args .heads .now), c .before .before .before .before .before .before .before .before .before .before .before .before .before .before .before .before .before .before .count-below .ensures)
+
+add-result : tie.Need-add-result
+add-result c = search needs
 
 same-length : tie.Need-same-length
 same-length c = search needs
 
 returns : tie.Need-returns
-returns c = finish (turn (turn (turn (turn (turn (turn (start (c .before .before .before .before .before .before .before .before .before .before .before .before .before .before .before .before .before .before .before .before .before .before .before .before .before .before .before .before .before .pre .2)) (counted3 _ _ _ _ _ (c .before .before .before .before .before .before .before .before .before .before .before .before .before .before .before .before .before .before .before .before .before .before .before .before .before .count-part .ensures)) (c .before .before .before .before .before .before .before .before .before .before .before .before .before .before .before .before .before .before .before .before .before .before .emit .ensures)) (in-front _ _) (c .before .before .before .before .before .before .before .before .before .before .before .before .before .before .before .before .before .before .emit-part .ensures)) (one-in-front _ _) (c .before .before .before .before .before .before .before .before .before .before .before .before .before .before .push .ensures)) (in-front _ _) (c .before .before .before .before .before .before .before .before .before .before .emit-part2 .ensures)) (in-front _ _) (c .before .before .before .before .before .before .emit-part3 .ensures)) (last-run _) (c .before .before .emit-part4 .ensures)) refl
+returns c = split3 _ _ _ (c .before .before .before .before .before .before .before .before .before .before .before .before .before .before .before .before .before .before .before .before .before .before .args .heads .now) (c .before .before .before .before .before .before .before .before .before .before .before .before .before .before .before .before .before .before .before .before .before .before .args .bodies .now) (c .before .before .before .before .before .before .before .before .before .before .before .before .before .before .before .before .before .before .count-below .ensures) (c .before .before .before .before .before .before .before .before .before .before .before .before .before .before .before .before .before .count-below2 .ensures) (c .before .before .before .before .before .before .before .before .before .before .before .before .before .before .before .before .before .before .before .before .before .before .pre .0) (c .before .before .before .before .before .before .before .before .before .before .before .before .before .before .before .before .before .before .before .before .before .before .pre .1) (c .before .before .before .before .before .before .before .before .before .before .before .before .before .before .before .before .before .before .before .before .before .before .pre .2) (c .before .before .before .before .before .before .before .before .before .before .before .before .before .before .emit .ensures) (c .before .before .before .before .before .before .before .before .before .before .push .ensures) (c .before .before .before .before .before .before .emit-split .ensures) (c .before .before .emit-split2 .ensures)
 
 pub step3-lists-spec : {M : Type 1} → statement M
 step3-lists-spec =
     tie.close
     (tie.spec
-    count-part-requires
-    cast-t17
-    sub-t18
-    add-t19
-    cast-t21
+    count-below-requires
+    count-below-requires-2
+    add-t16
+    cast-t18
+    cast-t20
+    sub-t21
     slice-aggregate-emit
     emit-requires
-    emit-part-requires
+    cast-push
+    add-push
     push-requires
-    emit-part-requires-2
-    emit-part-requires-3
-    emit-part-requires-4
+    cast-third
+    add-third
+    cast-fourth
+    sub-fourth
+    add-fourth
+    emit-split-requires
+    emit-split-requires-2
+    cast-result
+    sub-result
+    add-result
     same-length
     returns)
