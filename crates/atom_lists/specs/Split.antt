@@ -9,10 +9,12 @@ use Rattle.output.specs.Emitted.{InRange}
 use Rattle.atom_lists.specs.ListWords.{each, raised}
 use Rattle.atom_lists.specs.declared.split.Split.{Split}
 
+-- how many atoms of a list are below the end
 unfoldable pub countBelow : ℕ → List ℕ → ℕ
 countBelow end xs = length (filter (below end) xs)
 
 module _ (split : Split) where
+  -- the atoms below the end, and the others, each raised
   unfoldable pub lows : List ℕ → List ℕ
   lows xs = each (raised (below (split .end)) (split .low)) xs
 

@@ -6,7 +6,7 @@ use mathlib.Core.List.{List, map}
 use mathlib.Core.Bool.{Bool}
 use lib.Dec.{T}
 use Rattle.rules.specs.Lists.{All, filter}
-use Rattle.rules.specs.Rules.{Within}
+use Rattle.rules.specs.Renumbering.{Within}
 use Rattle.rules.specs.Preferred.{ofClass}
 use Rattle.rules.proofs.Lists.{all-imp, app-iff, map-iff, filter-iff, all-map}
 use Rattle.rules.proofs.Preferred.{all-of-class}

@@ -7,7 +7,8 @@ use mathlib.Core.Bool.{Bool}
 use lib.ListN.{length}
 use Rattle.rules.specs.Lists.{All, Any, from}
 use Rattle.rules.specs.Sets.{has, In, Out, Subset}
-use Rattle.rules.specs.Rules.{Rule, Within, rename}
+use Rattle.rules.specs.Rules.{Rule, rename}
+use Rattle.rules.specs.Renumbering.{Within}
 use Rattle.rules.specs.Stable.{Stable}
 use Rattle.rules.proofs.Booleans.{T-of, bool-ext}
 use Rattle.rules.proofs.Lists.{all-imp, all-zip, any-zip, all-map, map-all, any-map, map-any}

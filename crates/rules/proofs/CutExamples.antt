@@ -7,10 +7,10 @@ use mathlib.Core.Logic.{inl, inr}
 use native.Mathlib.Omega.{arith}
 use lib.ListN.{getD}
 use Rattle.rules.specs.Lists.{All}
-use Rattle.rules.specs.Rules.{Rule, rule, Within, rename}
+use Rattle.rules.specs.Rules.{Rule, rule, rename}
 use Rattle.rules.specs.Preferred.{Preferred, preferred?}
 use Rattle.rules.specs.CutClass.{CutClass}
-use Rattle.rules.specs.Renumbering.{Bijection, SameAtoms}
+use Rattle.rules.specs.Renumbering.{Bijection, Within, SameAtoms}
 use Rattle.rules.proofs.Renumbering.{words-renumbered, cut-renumbered}
 
 -- a set may be lost: of `a or b`, both of class 1, {a} and {b} are preferred; with a before b, {b} alone

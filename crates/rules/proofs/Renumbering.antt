@@ -8,10 +8,10 @@ use native.Mathlib.Omega.{arith}
 use lib.ListN.{length, getD, length-map}
 use Rattle.rules.specs.Lists.{All, from}
 use Rattle.rules.specs.Sets.{has, In, Out, Agree}
-use Rattle.rules.specs.Rules.{Rule, Within, Holds, Model, rename}
+use Rattle.rules.specs.Rules.{Rule, Holds, Model, rename}
 use Rattle.rules.specs.Preferred.{OfClass, Beats, Preferred}
 use Rattle.rules.specs.CutClass.{CutClass}
-use Rattle.rules.specs.Renumbering.{Bijection, Renumbered, renumberWords, SameAtoms}
+use Rattle.rules.specs.Renumbering.{Bijection, Renumbered, renumberWords, Within, SameAtoms}
 use Rattle.rules.proofs.Booleans.{T-of}
 use Rattle.rules.proofs.Lists.{all-imp, all-zip, any-zip, all-map, map-all, any-map, map-any, length-from, map-from-at}
 use Rattle.rules.proofs.Sets.{same-set, set-of}

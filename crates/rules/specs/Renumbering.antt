@@ -3,8 +3,9 @@ use Prim.Native.Nat.{ℕ, _<_}
 use mathlib.Core.Path.{_≡_}
 use mathlib.Core.List.{List, map}
 use lib.ListN.{length, getD}
-use Rattle.rules.specs.Lists.{from}
+use Rattle.rules.specs.Lists.{All, from}
 use Rattle.rules.specs.Sets.{has}
+use Rattle.rules.specs.Rules.{Rule}
 
 -- f and g are each other's inverses on the numbers below n
 pub record Bijection (n : ℕ) (f g : ℕ → ℕ) : Type 0 where
@@ -22,6 +23,12 @@ pub record Renumbered (f g : ℕ → ℕ) (ws ws′ : List ℕ) : Type 0 where
 -- the class words by the new numbers
 abbrev pub renumberWords : (ℕ → ℕ) → List ℕ → List ℕ
 renumberWords g ws = map (λ a. getD ws (g a) 0) (from 0 (length ws))
+
+-- Q holds of every atom of a rule
+pub record Within {A : Type 0} (Q : A → Type 0) (r : Rule A) : Type 0 where
+  pub head : All Q (r .head)
+  pub body : All Q (r .body)
+  pub nots : All Q (r .nots)
 
 -- m′ has, by their new numbers, the atoms below n that m has
 abbrev pub SameAtoms : (ℕ → ℕ) → ℕ → ℕ → ℕ → Type 0

@@ -23,12 +23,6 @@ module _ {A : Type 0} where
   abbrev pub occurrences : Rule A → ℕ
   occurrences r = length (r .head) + length (r .body) + length (r .nots)
 
-  -- Q holds of every atom of a rule
-  pub record Within (Q : A → Type 0) (r : Rule A) : Type 0 where
-    pub head : All Q (r .head)
-    pub body : All Q (r .body)
-    pub nots : All Q (r .nots)
-
   -- a rule with its whole body in and no `not` atom in has some head atom in
   abbrev pub Holds : (A → Bool) → Rule A → Type 0
   Holds m r = All (In m) (r .body) → All (Out m) (r .nots) → Any (In m) (r .head)
