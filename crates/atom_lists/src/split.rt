@@ -43,10 +43,11 @@ fn chosen(first: bool, x: usize, y: usize) -> usize
     y
 }
 
-// An atom below the end from `at` on, any other from `behind` on; says which.
+// An atom below the end at `at`, any other at `behind`; says which.
 fn put_atom(atom: u16, split: Split, out: &mut [u16], at: usize, behind: usize) -> bool
     requires { ⌜ (atom < 256) × (split .low ≤ 1100) × (split .high ≤ 1100) × (cond (below (split .end) atom) at behind + 1 < 2 ^ 63) ⌝ }
-    ensures { λ r. ⌜ (r ≡ below (split .end) atom) × (now (out .exit) ≡ sets (now (out .entry)) (cond (below (split .end) atom) at behind) ((cond (below (split .end) atom) (split .low) (split .high) + atom) ∷ [])) ⌝ }
+    ensures { λ r. ⌜ r ≡ below (split .end) atom ⌝ }
+    ensures { λ _. ⌜ now (out .exit) ≡ sets (now (out .entry)) (cond (below (split .end) atom) at behind) ((cond (below (split .end) atom) (split .low) (split .high) + atom) ∷ []) ⌝ }
 {
     let is_below = atom < split.end;
     let place = chosen(is_below, at, behind);
@@ -55,6 +56,7 @@ fn put_atom(atom: u16, split: Split, out: &mut [u16], at: usize, behind: usize) 
     is_below
 }
 
+// The atoms below the end from `at` on, the others from `behind` on.
 pub fn emit_split(atoms: &[u16], split: Split, out: &mut [u16], at: usize, behind: usize)
     requires { ⌜ SplitFits split (now atoms) at behind ⌝ }
     ensures { λ _. ⌜ now (out .exit) ≡ splitInto split (now (out .entry)) (now (atoms .entry)) at behind ⌝ }

@@ -15,7 +15,8 @@ ghost use Rattle.steps.specs.RuleLists.{RuleLists};
 ghost use Rattle.atom_lists.specs.ListWords.{each};
 ghost use Rattle.steps.specs.StepWords.{lists2, words2, lists3, words3};
 
-// Minimised head atoms, if minimised body atoms, not the other head atoms, not N. of the other body atoms.
+// Minimised head atoms, if minimised body atoms, not the other head atoms, not N. of the other body atoms: four lists,
+// each from its own place on.
 fn step2_lists(
     heads: &[u16],
     bodies: &[u16],
