@@ -98,9 +98,13 @@ module _ (p : Program) (fit : Fit p) (m : ℕ) (preferred : Preferred (p .words)
             (all-zip (λ a. a < p .atoms) (In (has own)) (λ a. T (unminimised? p a) → Out t (N a)) (λ a l h o e. full .Ns a l .0 e (own-m a l (T-of (on-own a l) h))) (r .body) (inside .body) b)
             (all-zip (λ a. a < p .atoms) (In (has own)) (λ a. T (minimised? p a) → In x (original a)) (λ a l h c. T-of (on-own a l) h) (r .body) (inside .body) b))
 
+    -- a set of the file's atoms is one of the atoms with class words
+    in-range : (y : ℕ) → y < 2 ^ p .atoms → y < 2 ^ length (p .words)
+    in-range y l = subst (λ (c : ℕ). y < 2 ^ c) (sym (fit .count)) l
+
     own-lt : own < 2 ^ length (p .words)
     unfolding own
-    own-lt = subst (λ (c : ℕ). set-of (p .atoms) (λ a. x (original a)) .0 < 2 ^ c) (sym (fit .count)) (set-of (p .atoms) (λ a. x (original a)) .1)
+    own-lt = in-range (set-of (p .atoms) (λ a. x (original a)) .0) (set-of (p .atoms) (λ a. x (original a)) .1)
 
     inside-words : (a : ℕ) → a < length (p .words) → a < p .atoms
     inside-words a l = let e = fit .count in omega arith
@@ -183,7 +187,7 @@ module _ (p : Program) (fit : Fit p) (m : ℕ) (preferred : Preferred (p .words)
     -- x has E.0 to E.j, and D. of an atom of class j + 1: s beats m
     module _ (j : ℕ) (ends : (i : ℕ) → i ≤ j → In x (E i)) (high : suc j ≤ p .classes) where
       inside-of : (a i : ℕ) → OfClass (p .words) i a → a < p .atoms
-      inside-of a i c = let l = c .0 in let e = fit .count in omega arith
+      inside-of a i c = inside-words a (c .0)
 
       m-of : (a i : ℕ) → OfClass (p .words) i a → i ≤ suc j → In (has s) a → In (has m) a
       m-of a i c l h =
@@ -221,7 +225,7 @@ module _ (p : Program) (fit : Fit p) (m : ℕ) (preferred : Preferred (p .words)
 
     s-lt : s < 2 ^ length (p .words)
     unfolding s
-    s-lt = subst (λ (c : ℕ). set-of (p .atoms) w .0 < 2 ^ c) (sym (fit .count)) (set-of (p .atoms) w .1)
+    s-lt = in-range (set-of (p .atoms) w .0) (set-of (p .atoms) w .1)
 
     -- the first class without its E., or U after the last
     walk : (c j : ℕ) → j + c ≡ p .classes → ((i : ℕ) → i ≤ j → In x (E i)) → ⊥

@@ -7,10 +7,10 @@ use mathlib.Core.Logic.{inl, inr}
 use native.Mathlib.Omega.{arith}
 use lib.ListN.{getD}
 use Rattle.rules.specs.Lists.{All}
-use Rattle.rules.specs.Rules.{Rule, rule, rename}
-use Rattle.rules.specs.Preferred.{Preferred, preferred?}
+use Rattle.rules.specs.Rules.{Rule, rule}
+use Rattle.rules.specs.Preferred.{preferred?}
 use Rattle.rules.specs.CutClass.{CutClass}
-use Rattle.rules.specs.Renumbering.{Bijection, Within, SameAtoms}
+use Rattle.rules.specs.Renumbering.{Bijection, Within, NoneNewRenumbered}
 use Rattle.rules.proofs.Renumbering.{words-renumbered, cut-renumbered}
 
 -- a set may be lost: of `a or b`, both of class 1, {a} and {b} are preferred; with a before b, {b} alone
@@ -64,5 +64,5 @@ exchanged = record {
   back-there = each-of-three (λ a. exchange (exchange a) ≡ a) refl refl refl;
 }
 
-file-cut : (rs : List (Rule ℕ)) → All (Within (λ a. a < 3)) rs → (m m′ : ℕ) → SameAtoms exchange 3 m m′ → Preferred after (map (rename exchange) rs) m′ → Preferred before rs m
+file-cut : (rs : List (Rule ℕ)) → All (Within (λ a. a < 3)) rs → NoneNewRenumbered exchange before after rs
 file-cut = cut-renumbered 1 before cut after exchange exchange before-cut (words-renumbered exchange exchange cut exchanged)

@@ -11,7 +11,7 @@ use Rattle.rules.specs.Sets.{has, In, Out, Agree}
 use Rattle.rules.specs.Rules.{Rule, Holds, Model, rename}
 use Rattle.rules.specs.Preferred.{OfClass, Beats, Preferred}
 use Rattle.rules.specs.CutClass.{CutClass}
-use Rattle.rules.specs.Renumbering.{Bijection, Renumbered, renumberWords, Within, SameAtoms}
+use Rattle.rules.specs.Renumbering.{Bijection, Renumbered, renumberWords, Within, SameAtoms, SamePreferred, NoneNewRenumbered}
 use Rattle.rules.proofs.Booleans.{T-of}
 use Rattle.rules.proofs.Lists.{all-imp, all-zip, any-zip, all-map, map-all, any-map, map-any, length-from, map-from-at}
 use Rattle.rules.proofs.Sets.{same-set, set-of}
@@ -132,7 +132,7 @@ module _ (f g : ℕ → ℕ) (ws ws′ : List ℕ) (k : Renumbered f g ws ws′)
   }
 
 module _ (f g : ℕ → ℕ) (ws ws′ : List ℕ) (k : Renumbered f g ws ws′) (rs : List (Rule ℕ)) (below : All (Within (λ a. a < length ws)) rs) where
-  pub preferred-renumbered : (m m′ : ℕ) → SameAtoms f (length ws) m m′ → Preferred ws rs m ↔ Preferred ws′ (map (rename f) rs) m′
+  pub preferred-renumbered : SamePreferred f ws ws′ rs
   preferred-renumbered m m′ same = (
     preferred-moved f g ws ws′ k rs (map (rename f) rs) (λ s s′ h. model-renumbered f (length ws) s s′ h rs below) m m′ same,
     preferred-moved g f ws′ ws back (map (rename f) rs) rs (λ s′ s h. let i = model-renumbered f (length ws) s s′ (atoms-turned g f ws′ ws back s′ s h) rs below in (i .1, i .0)) m′ m (atoms-turned f g ws ws′ k m m′ same),
@@ -142,6 +142,7 @@ module _ (f g : ℕ → ℕ) (ws ws′ : List ℕ) (k : Renumbered f g ws ws′)
       back = turned f g ws ws′ k
 
 -- a class cut in two and the atoms then numbered class by class, as a file's are
-pub cut-renumbered : (i : ℕ) (ws cut ws′ : List ℕ) (f g : ℕ → ℕ) → CutClass i ws cut → Renumbered f g cut ws′ → (rs : List (Rule ℕ)) → All (Within (λ a. a < length cut)) rs
-    → (m m′ : ℕ) → SameAtoms f (length cut) m m′ → Preferred ws′ (map (rename f) rs) m′ → Preferred ws rs m
-cut-renumbered i ws cut ws′ f g c k rs below m m′ same h = cut-none-new i ws cut c rs m (preferred-renumbered f g cut ws′ k rs below m m′ same .1 h)
+pub cut-renumbered : (i : ℕ) (ws cut ws′ : List ℕ) (f g : ℕ → ℕ) → CutClass i ws cut → Renumbered f g cut ws′ → (rs : List (Rule ℕ)) → All (Within (λ a. a < length cut)) rs → NoneNewRenumbered f ws ws′ rs
+cut-renumbered i ws cut ws′ f g c k rs below m m′ same h =
+    let same-cut : SameAtoms f (length cut) m m′ = subst (λ (n : ℕ). SameAtoms f n m m′) (sym (c .size)) same in
+    cut-none-new i ws cut c rs m (preferred-renumbered f g cut ws′ k rs below m m′ same-cut .1 h)

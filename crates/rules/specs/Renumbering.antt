@@ -2,10 +2,12 @@
 use Prim.Native.Nat.{ℕ, _<_}
 use mathlib.Core.Path.{_≡_}
 use mathlib.Core.List.{List, map}
+use mathlib.Core.Logic.{_↔_}
 use lib.ListN.{length, getD}
 use Rattle.rules.specs.Lists.{All, from}
 use Rattle.rules.specs.Sets.{has}
-use Rattle.rules.specs.Rules.{Rule}
+use Rattle.rules.specs.Rules.{Rule, rename}
+use Rattle.rules.specs.Preferred.{Preferred}
 
 -- f and g are each other's inverses on the numbers below n
 pub record Bijection (n : ℕ) (f g : ℕ → ℕ) : Type 0 where
@@ -33,3 +35,11 @@ pub record Within {A : Type 0} (Q : A → Type 0) (r : Rule A) : Type 0 where
 -- m′ has, by their new numbers, the atoms below n that m has
 abbrev pub SameAtoms : (ℕ → ℕ) → ℕ → ℕ → ℕ → Type 0
 SameAtoms f n m m′ = (a : ℕ) → a < n → has m′ (f a) ≡ has m a
+
+-- a set is preferred exactly when the renumbered one is, by the renumbered class words and rules
+abbrev pub SamePreferred : (ℕ → ℕ) → List ℕ → List ℕ → List (Rule ℕ) → Type 0
+SamePreferred f ws ws′ rs = (m m′ : ℕ) → SameAtoms f (length ws) m m′ → Preferred ws rs m ↔ Preferred ws′ (map (rename f) rs) m′
+
+-- a set is preferred where the renumbered one is
+abbrev pub NoneNewRenumbered : (ℕ → ℕ) → List ℕ → List ℕ → List (Rule ℕ) → Type 0
+NoneNewRenumbered f ws ws′ rs = (m m′ : ℕ) → SameAtoms f (length ws) m m′ → Preferred ws′ (map (rename f) rs) m′ → Preferred ws rs m
