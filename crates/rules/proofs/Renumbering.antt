@@ -1,14 +1,14 @@
 -- Renumbering the atoms, class words and rules alike, keeps the preferred sets, both ways.
 use Prim.Native.Nat.{ℕ, _^_, _<_}
-use mathlib.Core.Path.{_≡_, sym, ap, subst, _∙_}
-use mathlib.Core.List.{List, map}
-use mathlib.Core.Bool.{Bool}
+use mathlib.Core.Path.{_≡_, refl, sym, ap, ap₂, subst, _∙_}
+use mathlib.Core.List.{List, [], _∷_, map}
+use mathlib.Core.Bool.{Bool, true, false, not, _&&_, _||_}
 use mathlib.Core.Logic.{_↔_}
 use native.Mathlib.Omega.{arith}
 use lib.ListN.{length, getD, length-map}
-use Rattle.rules.specs.Lists.{All, from}
+use Rattle.rules.specs.Lists.{All, every, some, keep, from}
 use Rattle.rules.specs.Sets.{has, In, Out, Agree}
-use Rattle.rules.specs.Rules.{Rule, Holds, Model, rename}
+use Rattle.rules.specs.Rules.{Rule, rule, Holds, Model, reduct, holds?, model?, firstBroken, countIf, rename}
 use Rattle.rules.specs.Preferred.{OfClass, Beats, Preferred}
 use Rattle.rules.specs.CutClass.{CutClass}
 use Rattle.rules.specs.Renumbering.{Bijection, Renumbered, renumberWords, Within, SameAtoms, SamePreferred, NoneNewRenumbered}
@@ -51,6 +51,36 @@ module _ (f : ℕ → ℕ) (n s s′ : ℕ) (same : SameAtoms f n s s′) (rs : 
     λ h. all-zip (Within (λ a. a < n)) Moved (Holds (has s)) (λ r b k.
         holds-same (λ a. has s′ (f a)) (has s) r (within-imp (λ a. a < n) _ same r b) (holds-renamed f (has s′) r .0 k)) rs below (map-all (Holds (has s′)) (rename f) rs h),
   )
+
+-- the tests
+module _ (f : ℕ → ℕ) (n s s′ : ℕ) (same : SameAtoms f n s s′) where
+  every-moved : (xs : List ℕ) → All (λ a. a < n) xs → every (has s′) (map f xs) ≡ every (has s) xs
+  every-moved [] h = refl
+  every-moved (a ∷ xs) h = ap₂ (λ (x y : Bool). x && y) (same a (h .0)) (every-moved xs (h .1))
+
+  pub some-moved : (xs : List ℕ) → All (λ a. a < n) xs → some (has s′) (map f xs) ≡ some (has s) xs
+  some-moved [] h = refl
+  some-moved (a ∷ xs) h = ap₂ (λ (x y : Bool). x || y) (same a (h .0)) (some-moved xs (h .1))
+
+  holds-moved : (r : Rule ℕ) → Within (λ a. a < n) r → holds? (has s′) (rename f r) ≡ holds? (has s) r
+  holds-moved r h = rw (every-moved (r .body) (h .body), some-moved (r .nots) (h .nots), some-moved (r .head) (h .head))
+
+  pub model-moved : (rs : List (Rule ℕ)) → All (Within (λ a. a < n)) rs → model? (map (rename f) rs) (has s′) ≡ model? rs (has s)
+  model-moved [] h = refl
+  model-moved (r ∷ rs) h = ap₂ (λ (x y : Bool). x && y) (holds-moved r (h .0)) (model-moved rs (h .1))
+
+  pub first-moved : (rs : List (Rule ℕ)) → All (Within (λ a. a < n)) rs → firstBroken (map (rename f) rs) (has s′) ≡ firstBroken rs (has s)
+  first-moved [] h = refl
+  first-moved (r ∷ rs) h = ap₂ countIf (holds-moved r (h .0)) (first-moved rs (h .1))
+
+  pub reduct-moved : (rs : List (Rule ℕ)) → All (Within (λ a. a < n)) rs → reduct (map (rename f) rs) (has s′) ≡ map (rename f) (reduct rs (has s))
+  reduct-moved [] h = refl
+  reduct-moved (r ∷ rs) h =
+      ap₂ (λ (b : Bool) (l : List (Rule ℕ)). keep (not b) (rename f (rule (r .head) (r .body) [])) l) (some-moved (r .nots) (h .0 .nots)) (reduct-moved rs (h .1)) ∙ step (not (some (has s) (r .nots)))
+    where
+      step : (b : Bool) → keep b (rename f (rule (r .head) (r .body) [])) (map (rename f) (reduct rs (has s))) ≡ map (rename f) (keep b (rule (r .head) (r .body) []) (reduct rs (has s)))
+      step true = refl
+      step false = refl
 
 -- sets
 

@@ -78,20 +78,21 @@ digit-test : (b : Bool) → eqb (digit b) 1 ≡ b
 digit-test true = refl
 digit-test false = refl
 
-pub number-zero : (b : Bool) (bs : List Bool) → has (number (b ∷ bs)) 0 ≡ b
-number-zero b bs =
-    let e : (digit b + 2 * number bs) % 2 ≡ digit b = omega (arith, digit-lt b) in
-    has-zero (digit b + 2 * number bs) ∙ ap (λ (y : ℕ). eqb y 1) e ∙ digit-test b
+-- one digit in front of the others
+pub first-digit : (b : Bool) (z : ℕ) → has (digit b + 2 * z) 0 ≡ b
+first-digit b z =
+    let e : (digit b + 2 * z) % 2 ≡ digit b = omega (arith, digit-lt b) in
+    has-zero (digit b + 2 * z) ∙ ap (λ (y : ℕ). eqb y 1) e ∙ digit-test b
 
-pub number-suc : (b : Bool) (bs : List Bool) (i : ℕ) → has (number (b ∷ bs)) (suc i) ≡ has (number bs) i
-number-suc b bs i =
-    let e : (digit b + 2 * number bs) / 2 ≡ number bs = omega (arith, digit-lt b) in
-    has-suc (digit b + 2 * number bs) i ∙ ap (λ (y : ℕ). has y i) e
+pub later-digits : (b : Bool) (z i : ℕ) → has (digit b + 2 * z) (suc i) ≡ has z i
+later-digits b z i =
+    let e : (digit b + 2 * z) / 2 ≡ z = omega (arith, digit-lt b) in
+    has-suc (digit b + 2 * z) i ∙ ap (λ (y : ℕ). has y i) e
 
 pub has-number : (b : Bool) (bs : List Bool) (i : ℕ) → i < length bs → has (number bs) i ≡ getD bs i b
 has-number b [] i l = absurd (omega arith)
-has-number b (x ∷ bs) zero l = number-zero x bs
-has-number b (x ∷ bs) (suc i) l = number-suc x bs i ∙ has-number b bs i (omega arith)
+has-number b (x ∷ bs) zero l = first-digit x (number bs)
+has-number b (x ∷ bs) (suc i) l = later-digits x (number bs) i ∙ has-number b bs i (omega arith)
 
 -- the set of the atoms below n that pass a test
 pub set-of : (n : ℕ) (t : ℕ → Bool) → (x : ℕ) × (x < 2 ^ n) × ((a : ℕ) → a < n → has x a ≡ t a)

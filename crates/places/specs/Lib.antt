@@ -1,0 +1,2 @@
+-- The order of the sets of n atoms.
+pub mod Places

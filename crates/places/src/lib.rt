@@ -1,0 +1,2 @@
+// The order of the sets of a program's atoms (document 02, W-206).
+pub mod turning;
