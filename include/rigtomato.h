@@ -19,6 +19,8 @@
  * - A name store is an array of bytes: for each atom its name's length in one byte, then the name.
  * - A set of atoms is a number: the sum of 2^i over its atoms i, numbered from 0 in declared
  *   order.
+ * - Of two sets, the earlier is the one lacking the first declared atom on which they differ. A
+ *   set's place in this order, from 0, is the sum of 2^(n-1-i) over its atoms i: rigtomato_place.
  *
  * Memory. A pointer and the length after it, in elements and not in bytes, are one array. The
  * library reads only inside the arrays that it is handed and writes only inside the outputs that
@@ -108,13 +110,13 @@ struct rigtomato_text_answer rigtomato_translate(const uint16_t *rules, size_t r
 /* The kind of an answer, and what its value and units then are (0 where nothing is said). */
 #define RIGTOMATO_YES 0     /* preferred, or stable; units: those the walk took */
 #define RIGTOMATO_BROKEN 1  /* no model; value: the number, from 0, of the first broken rule */
-#define RIGTOMATO_BEATEN 2  /* value: the first better set; units: its place in the walk, from 1 */
+#define RIGTOMATO_BEATEN 2  /* value: the first better set; units: the sets tried, it included */
 #define RIGTOMATO_SPENT 3   /* more units needed than the budget; units: the budget */
 #define RIGTOMATO_REFUSED 4 /* value: the refusal's number: 10, 11, 12 or 13 */
 
 /* Of rigtomato_next_state, beside RIGTOMATO_SPENT and RIGTOMATO_REFUSED: */
-#define RIGTOMATO_STATE 0   /* value: the least preferred set at or above the start; units: taken */
-#define RIGTOMATO_NONE 1    /* no preferred set at or above the start; units: those it took */
+#define RIGTOMATO_STATE 0   /* value: the first preferred set at or after the start; units: taken */
+#define RIGTOMATO_NONE 1    /* no preferred set at or after the start; units: those it took */
 
 struct rigtomato_verdict {
     uint64_t kind;
@@ -123,20 +125,30 @@ struct rigtomato_verdict {
 };
 
 /* Is the set preferred in this preference store? The walk goes over all sets that agree with it on
- * the fixed atoms, by rising number, one unit each. */
+ * the fixed atoms, the earlier first, one unit each. */
 struct rigtomato_verdict rigtomato_preferred(const uint16_t *rules, size_t rules_len,
                                              uint64_t set, uint64_t budget);
 
-/* Is the set stable in this plain store? The walk goes over the set's proper subsets, by rising
- * number, one unit each. */
+/* Is the set stable in this plain store? The walk goes over the set's proper subsets, the earlier
+ * first, one unit each. */
 struct rigtomato_verdict rigtomato_stable(const uint16_t *rules, size_t rules_len,
                                           uint64_t set, uint64_t budget);
 
-/* The least preferred set with number at or above the start, which may be 2^n. Each candidate costs
- * one unit and, if it is a model, the units of its verdict. Starting from 0, then from each answer
- * plus one, until RIGTOMATO_NONE, gives every preferred set once, in rising order. */
+/* The first preferred set at or after the start. The start is a place, from 0 to 2^n; the answer is
+ * a set's number. Each candidate costs one unit and, if it is a model, the units of its verdict.
+ * Starting from 0, then from rigtomato_place of each answer plus one, until RIGTOMATO_NONE, gives
+ * every preferred set once, the earlier first. */
 struct rigtomato_verdict rigtomato_next_state(const uint16_t *rules, size_t rules_len,
                                               uint64_t start, uint64_t budget);
+
+struct rigtomato_value_answer {
+    uint64_t refusal; /* 0, else the refusal's number: 10, 11 or 12 */
+    uint64_t value;   /* on a refusal 0 */
+};
+
+/* The set's place among all sets of this preference store's atoms, from 0 to 2^n - 1. */
+struct rigtomato_value_answer rigtomato_place(const uint16_t *rules, size_t rules_len,
+                                              uint64_t set);
 
 #ifdef __cplusplus
 }

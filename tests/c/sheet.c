@@ -1,5 +1,5 @@
-/* Document 01's sheet for file A, through the C interface. Prints what fails and ends with status
- * 1 then. Compile with
+/* Document 01's sheet for file A, with places, order and units by document 02, W-206, through the C
+ * interface. Prints what fails and ends with status 1 then. Compile with
  *     gcc -Wall -Wextra -Werror -Iinclude tests/c/sheet.c target/staticlib/librigtomato.a */
 #include "rigtomato.h"
 
@@ -72,6 +72,15 @@ static struct rigtomato_verdict next_state(uint64_t start, uint64_t budget)
     return rigtomato_next_state(file.rules, file.rules_len, start, budget);
 }
 
+static int place_is(uint64_t set, uint64_t refusal, uint64_t value)
+{
+    struct rigtomato_value_answer answer = rigtomato_place(file.rules, file.rules_len, set);
+    if (answer.refusal == refusal && answer.value == value)
+        return 1;
+    printf("refusal %" PRIu64 ", value %" PRIu64 "\n", answer.refusal, answer.value);
+    return 0;
+}
+
 /* Are these, in this order, all the preferred states of the file? */
 static int states_are(size_t count, const uint64_t *states)
 {
@@ -80,7 +89,11 @@ static int states_are(size_t count, const uint64_t *states)
         struct rigtomato_verdict next = next_state(start, RIGTOMATO_BUDGET_LIMIT);
         if (next.kind != RIGTOMATO_STATE || next.value != states[i])
             return 0;
-        start = next.value + 1;
+        struct rigtomato_value_answer place =
+            rigtomato_place(file.rules, file.rules_len, next.value);
+        if (place.refusal != 0)
+            return 0;
+        start = place.value + 1;
     }
     return next_state(start, RIGTOMATO_BUDGET_LIMIT).kind == RIGTOMATO_NONE;
 }
@@ -98,16 +111,18 @@ static void file_a(void)
     CHECK(memcmp(file.names, names, sizeof names - 1) == 0);
 
     CHECK(is(preferred(6, most), RIGTOMATO_YES, 0, 8));
-    CHECK(is(preferred(1, most), RIGTOMATO_BEATEN, 6, 7));
+    CHECK(is(preferred(1, most), RIGTOMATO_BEATEN, 6, 4));
     CHECK(is(preferred(0, most), RIGTOMATO_BROKEN, 0, 0));
     CHECK(is(preferred(2, most), RIGTOMATO_BROKEN, 1, 0));
-    CHECK(is(preferred(1, 6), RIGTOMATO_SPENT, 0, 6));
-    CHECK(is(preferred(1, 7), RIGTOMATO_BEATEN, 6, 7));
+    CHECK(is(preferred(1, 3), RIGTOMATO_SPENT, 0, 3));
+    CHECK(is(preferred(1, 4), RIGTOMATO_BEATEN, 6, 4));
     CHECK(is(preferred(8, most), RIGTOMATO_REFUSED, RIGTOMATO_SET_TOO_LARGE, 0));
     CHECK(is(preferred(7, most + 1), RIGTOMATO_REFUSED, RIGTOMATO_BUDGET_TOO_LARGE, 0));
-    CHECK(is(next_state(0, most), RIGTOMATO_STATE, 6, 29));
-    CHECK(is(next_state(0, 28), RIGTOMATO_SPENT, 0, 28));
-    CHECK(is(next_state(7, most), RIGTOMATO_NONE, 0, 3));
+    CHECK(is(next_state(0, most), RIGTOMATO_STATE, 6, 12));
+    CHECK(is(next_state(0, 11), RIGTOMATO_SPENT, 0, 11));
+    CHECK(is(next_state(3, most), RIGTOMATO_STATE, 6, 9));
+    CHECK(is(next_state(4, most), RIGTOMATO_NONE, 0, 16));
+    CHECK(is(next_state(4, 15), RIGTOMATO_SPENT, 0, 15));
     CHECK(is(next_state(8, 0), RIGTOMATO_NONE, 0, 0));
     CHECK(is(next_state(9, 0), RIGTOMATO_REFUSED, RIGTOMATO_SET_TOO_LARGE, 0));
     CHECK(is(rigtomato_stable(file.rules, file.rules_len, 0, 0), RIGTOMATO_REFUSED,
@@ -118,12 +133,48 @@ static void file_a(void)
 static void file_a_declared_otherwise(void)
 {
     read_declared("(min sensor lamp)\n(vary dark)\n(fix)\n");
-    CHECK(states_are(3, (const uint64_t[]){1, 5, 6}));
+    CHECK(states_are(3, (const uint64_t[]){6, 1, 5}));
     read_declared("(min lamp)\n(min sensor)\n(vary dark)\n(fix)\n");
     CHECK(states_are(2, (const uint64_t[]){2, 6}));
     read_declared("(min sensor)\n(min lamp)\n(vary)\n(fix dark)\n");
-    CHECK(states_are(2, (const uint64_t[]){1, 6}));
+    CHECK(states_are(2, (const uint64_t[]){6, 1}));
     CHECK(is(preferred(1, RIGTOMATO_BUDGET_LIMIT), RIGTOMATO_YES, 0, 4));
+}
+
+/* Reads a preference file of so many fixed atoms and no rule. */
+static void read_atoms(int count)
+{
+    char text[1024];
+    size_t length = (size_t)sprintf(text, "(vary)\n(fix");
+    for (int i = 0; i < count; i++)
+        length += (size_t)sprintf(text + length, " a%d", i);
+    length += (size_t)sprintf(text + length, ")\n");
+    CHECK(read_text(text, length).refusal == 0);
+}
+
+/* Each set's place, and the refusals in their sequence. */
+static void places(void)
+{
+    static const uint64_t order[] = {0, 4, 2, 6, 1, 5, 3, 7};
+    read_declared("(min sensor)\n(min lamp)\n(vary dark)\n(fix)\n");
+    for (uint64_t place = 0; place < 8; place++)
+        CHECK(place_is(order[place], 0, place));
+    CHECK(place_is(8, RIGTOMATO_SET_TOO_LARGE, 0));
+    CHECK(place_is(UINT64_MAX, RIGTOMATO_SET_TOO_LARGE, 0));
+    read_atoms(0);
+    CHECK(place_is(0, 0, 0));
+    CHECK(place_is(1, RIGTOMATO_SET_TOO_LARGE, 0));
+    read_atoms(60);
+    CHECK(place_is(1, 0, UINT64_C(1) << 59));
+    CHECK(place_is(UINT64_C(1) << 59, 0, 1));
+    CHECK(place_is((UINT64_C(1) << 60) - 1, 0, (UINT64_C(1) << 60) - 1));
+    CHECK(place_is(UINT64_C(1) << 60, RIGTOMATO_SET_TOO_LARGE, 0));
+    read_atoms(61);
+    CHECK(place_is(0, RIGTOMATO_TOO_MANY_ATOMS, 0));
+    CHECK(place_is(UINT64_MAX, RIGTOMATO_TOO_MANY_ATOMS, 0));
+    CHECK(read_text("(atoms a)\n", 10).refusal == 0);
+    CHECK(place_is(0, RIGTOMATO_RULE_STORE, 0));
+    CHECK(rigtomato_place(NULL, 0, 0).refusal == RIGTOMATO_RULE_STORE);
 }
 
 /* The text comes back from the stores, into an output exact, one byte short and longer. */
@@ -237,6 +288,7 @@ int main(void)
 {
     file_a();
     file_a_declared_otherwise();
+    places();
     written("(min sensor)\n(min lamp)\n(vary dark)\n(fix)\n"
             "(rule (head sensor lamp) (body) (not))\n(rule (head dark) (body lamp) (not))\n");
     small_files();

@@ -174,12 +174,14 @@ def unbeaten(circuit, k):
 
 
 def listing(circuit, k):
+    """What is to be listed: of two states, first the one lacking the first declared atom on which they differ."""
     states = []
     for faults in unbeaten(circuit, k):
         high = {node for node, value in circuit.values(faults).items() if value}
-        number = sum(1 << i for i in faults) + (sum(1 << i for i in high) << circuit.n)
+        nodes = range(1, circuit.n + 1)
+        members = [i in faults for i in nodes] + [i in high for i in nodes]
         names = [f"ab{i}" for i in sorted(faults)] + [f"high{i}" for i in sorted(high)]
-        states.append((number, form("state", names)))
+        states.append((members, form("state", names)))
     lines = [line for _, line in sorted(states)] + [form("total", [str(len(states))])]
     return "".join(line + "\n" for line in lines)
 

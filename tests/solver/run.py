@@ -1,6 +1,6 @@
 #!/usr/bin/env python3
 """Compares, for each preference file, the stable models of its delivered translation, as clingo
-finds them, cut down to the file's atoms, with the listed states.
+finds them, cut down to the file's atoms, with the listed states and their order.
 
 usage: run.py TRANSLATE STATES FILE..
 
@@ -53,9 +53,11 @@ def difference(translate, states, path):
     names = declared(path)
     listed = listed_states(output(states, path))
     models = stable_models(convert(output(translate, path)))
-    cut = [tuple(names[i] for i in sorted(model) if i < len(names)) for model in models]
-    if sorted(cut) != sorted(listed):
-        return len(listed), f"{path}: listed {sorted(listed)}, clingo {sorted(cut)}"
+    # Of two states the first lacks the first declared atom on which they differ.
+    members = sorted([atom in model for atom in range(len(names))] for model in models)
+    cut = [tuple(name for name, holds in zip(names, state) if holds) for state in members]
+    if cut != listed:
+        return len(listed), f"{path}: listed {listed}, clingo {cut}"
     return len(listed), None
 
 

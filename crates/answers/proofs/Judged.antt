@@ -1,6 +1,6 @@
 -- The answers mean what the verdicts mean.
-use Prim.Native.Nat.{ℕ, _^_, _≤_}
-use mathlib.Core.Path.{_≡_, refl, sym, ap, _∙_, subst}
+use Prim.Native.Nat.{ℕ, _^_}
+use mathlib.Core.Path.{_≡_, refl, sym, ap, _∙_}
 use mathlib.Core.Bool.{Bool, true}
 use mathlib.Core.List.{List}
 use lib.Dec.{leb, ltb}
@@ -15,11 +15,12 @@ use Rattle.stores.specs.declared.rule_store.RuleStore.the-variants.{Of}
 use Rattle.stores.proofs.RuleStores.{only-decoded, kind-answered}
 use Rattle.walks.specs.declared.answers.Verdict.the-variants.{Refused as NotJudged}
 use Rattle.walks.specs.declared.answers.NextState.the-variants.{Refused as NotSearched}
+use Rattle.places.specs.Places.{place}
+use Rattle.walks.specs.declared.answers.Place.the-variants.{At, Refused as NotPlaced}
 use Rattle.walks.specs.Walk.{preferredVerdict, stableVerdict, nextVerdict}
-use Rattle.walks.specs.Answers.{guarded, preferredAnswer, stableAnswer, nextAnswer}
+use Rattle.walks.specs.Answers.{guarded, preferredAnswer, stableAnswer, nextAnswer, placeAnswer}
 use Rattle.walks.proofs.Meanings.{preferred-means, stable-means}
 use Rattle.walks.proofs.NextStates.{next-means}
-use Rattle.answers.proofs.ClassWords.{class-words}
 use Rattle.answers.specs.Judged.{Called, Judges}
 
 same-kind : (k : Kind) → isOf k (Of k) ≡ true
@@ -37,7 +38,7 @@ module _ {kind : Kind} {rules : List ℕ} {p : Program} {budget : ℕ} (c : Call
       rw (s, a, i, le-leb budget budgetLimit (c .allowed)) (ap answer e)
 
 pub judges : (rules : List ℕ) (p : Program) (number budget : ℕ) → Judges rules p number budget
-unfolding preferredAnswer stableAnswer nextAnswer
+unfolding preferredAnswer stableAnswer nextAnswer placeAnswer
 judges rules p number budget = record {
   preferred = λ c l. (
     passes c NotJudged (ltb number) (λ q. preferredVerdict (q .words) (q .rules) number budget) (lt-ltb number (2 ^ p .atoms) l),
@@ -49,6 +50,7 @@ judges rules p number budget = record {
   );
   next-state = λ c l. (
     passes c NotSearched (leb number) (λ q. nextVerdict (q .words) (q .rules) number budget) (le-leb number (2 ^ p .atoms) l),
-    next-means (p .words) (p .rules) number (subst (λ (n : ℕ). number ≤ 2 ^ n) (sym (class-words p (c .store .form) (c .is-kind))) l) budget,
+    next-means (p .words) (p .rules) number budget,
   );
+  place = λ c l. passes c NotPlaced (ltb number) (λ q. At (place (q .atoms) number)) (lt-ltb number (2 ^ p .atoms) l);
 }

@@ -27,7 +27,6 @@ use Rattle.faults.proofs.EarliestFault.{said-refused, said-accepted}
 use Rattle.lines.specs.Said.{Said, accepted, refused, said}
 use Rattle.answers.specs.declared.Read.{Read}
 use Rattle.answers.specs.declared.Read.the-variants.{Accepted, Refused as NotRead}
-use Rattle.answers.proofs.ClassWords.{class-words}
 use Rattle.answers.specs.Reading.{answerOf, writtenIf, readAnswer, readRules, readNames}
 use Rattle.answers.specs.declared.Written.{Written}
 use Rattle.answers.specs.declared.Written.the-variants.{Text, Refused as NotWritten}
@@ -36,13 +35,15 @@ use Rattle.answers.specs.Translating.{translationText, storesTranslation
 use Rattle.walks.specs.declared.answers.Verdict.the-variants.{Refused as NotJudged}
 use Rattle.walks.specs.declared.answers.NextState.the-variants.{Refused as NotSearched}
 use Rattle.walks.specs.Walk.{preferredVerdict, stableVerdict, nextVerdict}
-use Rattle.walks.specs.Answers.{guarded, preferredAnswer, stableAnswer, nextAnswer}
+use Rattle.walks.specs.declared.answers.Place.the-variants.{At, Refused as NotPlaced}
+use Rattle.places.specs.Places.{place}
+use Rattle.walks.specs.Answers.{unlimited, guarded, preferredAnswer, stableAnswer, nextAnswer, placeAnswer}
 use Rattle.walks.proofs.Meanings.{preferred-means, stable-means}
 use Rattle.walks.proofs.NextStates.{next-means}
 use Rattle.answers.specs.Printed.{shown}
 use Rattle.answers.specs.Listed.{wholeListing, streamed, statesOf}
 use Rattle.answers.specs.Programs.{printed, translatePrinted, statesPrinted}
-use Rattle.answers.specs.Refusals.{PrintsInto, Streams, PrintRefuses, Tested, NoOther, Passes, NoStore, NoStoreOf, NoNames, TooShort, NoRoom, ReadRefuses, StoresRefused, StoresPass, NumbersRefused, Writes, WriteRefuses, TranslateRefuses, CallRefused, VerdictRefuses}
+use Rattle.answers.specs.Refusals.{PrintsInto, Streams, PrintRefuses, Tested, NoOther, Passes, NoStore, NoStoreOf, NoNames, TooShort, NoRoom, ReadRefuses, StoresRefused, StoresPass, NumberRefused, Writes, WriteRefuses, TranslateRefuses, CallRefused, VerdictRefuses}
 
 -- one test of an answer: where it fails, the refusal x
 module _ {A : Type 0} (refuse : Refusal → A) (inj : (x y : Refusal) → refuse x ≡ refuse y → x ≡ y) {Sentence : Type 0} (b : Bool) (law : Sentence ↔ (T b → ⊥)) (x : Refusal) where
@@ -198,22 +199,19 @@ translate-refuses rules names before = record {
 -- the verdicts and the lister
 
 module _ {A : Type 0} (refuse : Refusal → A) (inj : (x y : Refusal) → refuse x ≡ refuse y → x ≡ y) (kind : Kind) (rules : List ℕ) (Outside : ℕ → Type 0) (inside : ℕ → Bool)
-    (law : (top : ℕ) → Outside top ↔ (T (inside top) → ⊥)) (budget : ℕ) (answer : A) (never : T (isOf kind (ruleStore rules)) → T (inside (2 ^ decode rules .atoms)) → (r : Refusal) → answer ≡ refuse r → ⊥) where
+    (law : (top : ℕ) → Outside top ↔ (T (inside top) → ⊥)) (answer : A) where
+  number-refused : (later : Refusal → Type 0) (r : Refusal) → (T (inside (2 ^ decode rules .atoms)) → answer ≡ refuse r ↔ later r) → unlimited refuse kind rules inside answer ≡ refuse r ↔ NumberRefused kind rules Outside later r
+  number-refused later r rest =
+      refused-by refuse inj (isOf kind (ruleStore rules)) (no-store-of kind rules) RuleStore (Tested TooManyAtoms (walkAtoms < decode rules .atoms) (Tested SetNumber (Outside (2 ^ decode rules .atoms)) later)) r (λ t.
+      refused-by refuse inj (leb (decode rules .atoms) walkAtoms) (past (decode rules .atoms) walkAtoms) TooManyAtoms (Tested SetNumber (Outside (2 ^ decode rules .atoms)) later) r (λ u.
+      refused-by refuse inj (inside (2 ^ decode rules .atoms)) (law (2 ^ decode rules .atoms)) SetNumber later r rest))
+
+module _ {A : Type 0} (refuse : Refusal → A) (inj : (x y : Refusal) → refuse x ≡ refuse y → x ≡ y) (kind : Kind) (rules : List ℕ) (Outside : ℕ → Type 0) (inside : ℕ → Bool)
+    (law : (top : ℕ) → Outside top ↔ (T (inside top) → ⊥)) (budget : ℕ) (answer : A) (never : T (inside (2 ^ decode rules .atoms)) → (r : Refusal) → answer ≡ refuse r → ⊥) where
   call-refused : (r : Refusal) → guarded refuse kind rules inside budget answer ≡ refuse r ↔ CallRefused kind rules Outside budget r
   call-refused r =
-      refused-by refuse inj (isOf kind (ruleStore rules)) (no-store-of kind rules) RuleStore (Tested TooManyAtoms (walkAtoms < decode rules .atoms) (NumbersRefused (decode rules .atoms) Outside budget)) r (λ t.
-      refused-by refuse inj (leb (decode rules .atoms) walkAtoms) (past (decode rules .atoms) walkAtoms) TooManyAtoms (NumbersRefused (decode rules .atoms) Outside budget) r (λ u.
-      refused-by refuse inj (inside (2 ^ decode rules .atoms)) (law (2 ^ decode rules .atoms)) SetNumber (Tested Budget (budgetLimit < budget) NoOther) r (λ v.
-      refused-by refuse inj (leb budget budgetLimit) (past budget budgetLimit) Budget NoOther r (λ w. (λ e. never t v r e, λ h. absurd h)))))
-
--- a class word for each atom
-words-are : (rules : List ℕ) → T (isOf Preference (ruleStore rules)) → length (decode rules .words) ≡ decode rules .atoms
-words-are rules t = step (ruleStore rules) refl t
-  where
-    step : (r : Store) → ruleStore rules ≡ r → T (isOf Preference r) → length (decode rules .words) ≡ decode rules .atoms
-    step (Of Plain) e t = absurd t
-    step (Of Preference) e t = let o = of-kind rules Preference e in class-words (decode rules) (o .0 .form) (o .1)
-    step NotStore e t = absurd t
+      number-refused refuse inj kind rules Outside inside law (cond (leb budget budgetLimit) answer (refuse Budget)) (Tested Budget (budgetLimit < budget) NoOther) r (λ v.
+      refused-by refuse inj (leb budget budgetLimit) (past budget budgetLimit) Budget NoOther r (λ w. (λ e. never v r e, λ h. absurd h)))
 
 outside : (number top : ℕ) → top ≤ number ↔ (T (ltb number top) → ⊥)
 outside number top = (λ h t. omega (arith, ltb→lt number top t), λ h. step (ltb number top) refl h)
@@ -223,16 +221,20 @@ outside number top = (λ h t. omega (arith, ltb→lt number top t), λ h. step (
     step false e f = ltb-false number top e
 
 pub verdict-refuses : (rules : List ℕ) (number budget : ℕ) → VerdictRefuses rules number budget
-unfolding preferredAnswer stableAnswer nextAnswer
+unfolding preferredAnswer stableAnswer nextAnswer placeAnswer
 verdict-refuses rules number budget = record {
   preferred = λ r. call-refused NotJudged (λ x y e. cc) Preference rules (λ top. top ≤ number) (ltb number) (outside number) budget
-      (preferredVerdict (decode rules .words) (decode rules .rules) number budget) (λ t v. preferred-means (decode rules .words) (decode rules .rules) number budget .never-refused) r;
+      (preferredVerdict (decode rules .words) (decode rules .rules) number budget) (λ v. preferred-means (decode rules .words) (decode rules .rules) number budget .never-refused) r;
   stable = λ r. call-refused NotJudged (λ x y e. cc) Plain rules (λ top. top ≤ number) (ltb number) (outside number) budget
       (stableVerdict (decode rules .atoms) (decode rules .rules) number budget)
-      (λ t v. stable-means (decode rules .atoms) (decode rules .rules) number (ltb→lt number (2 ^ decode rules .atoms) v) budget .never-refused) r;
+      (λ v. stable-means (decode rules .atoms) (decode rules .rules) number (ltb→lt number (2 ^ decode rules .atoms) v) budget .never-refused) r;
   next-state = λ r. call-refused NotSearched (λ x y e. cc) Preference rules (λ top. top < number) (leb number) (past number) budget
       (nextVerdict (decode rules .words) (decode rules .rules) number budget)
-      (λ t v. next-means (decode rules .words) (decode rules .rules) number (subst (λ (n : ℕ). number ≤ 2 ^ n) (sym (words-are rules t)) (leb→le number (2 ^ decode rules .atoms) v)) budget .never-refused) r;
+      (λ v. next-means (decode rules .words) (decode rules .rules) number budget .never-refused) r;
+  place = λ r. number-refused NotPlaced (λ x y e. cc) Preference rules (λ top. top ≤ number) (ltb number) (outside number) (At (place (decode rules .atoms) number)) NoOther r (λ v. (
+    λ e. absurd (let z : _≡_ {A = ℕ} 0 1 = cc in omega arith),
+    λ h. absurd h,
+  ));
 }
 
 -- the reader

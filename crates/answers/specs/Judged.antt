@@ -8,7 +8,9 @@ use Rattle.kinds.specs.declared.limits.Kind.the-variants.{Plain, Preference}
 use Rattle.stores.specs.Program.{Program}
 use Rattle.stores.specs.RuleStore.{StoreOf}
 use Rattle.walks.specs.Walk.{preferredVerdict, stableVerdict, nextVerdict}
-use Rattle.walks.specs.Answers.{preferredAnswer, stableAnswer, nextAnswer}
+use Rattle.places.specs.Places.{place}
+use Rattle.walks.specs.declared.answers.Place.the-variants.{At}
+use Rattle.walks.specs.Answers.{preferredAnswer, stableAnswer, nextAnswer, placeAnswer}
 use Rattle.walks.specs.Meanings.{PreferredMeans, StableMeans, NextMeans}
 
 -- a call that is not refused: a store of the kind with at most 60 atoms, and a budget of at most 2^40
@@ -26,3 +28,5 @@ pub record Judges (rules : List ℕ) (p : Program) (number budget : ℕ) : Type 
       → (stableAnswer rules number budget ≡ stableVerdict (p .atoms) (p .rules) number budget) × StableMeans (p .atoms) (p .rules) number budget
   pub next-state : Called Preference rules p budget → number ≤ 2 ^ p .atoms
       → (nextAnswer rules number budget ≡ nextVerdict (p .words) (p .rules) number budget) × NextMeans (p .words) (p .rules) number budget
+  -- a set's place asks for no budget
+  pub place : Called Preference rules p 0 → number < 2 ^ p .atoms → placeAnswer rules number ≡ At (place (p .atoms) number)

@@ -22,7 +22,8 @@ use Rattle.answers.specs.Writing.{storesText, writeAnswer, writeOutput}
 use Rattle.answers.specs.Translating.{translationText, storesTranslation, translateAnswer, translateOutput}
 use Rattle.walks.specs.declared.answers.Verdict.the-variants.{Refused as NotJudged}
 use Rattle.walks.specs.declared.answers.NextState.the-variants.{Refused as NotSearched}
-use Rattle.walks.specs.Answers.{preferredAnswer, stableAnswer, nextAnswer}
+use Rattle.walks.specs.declared.answers.Place.the-variants.{Refused as NotPlaced}
+use Rattle.walks.specs.Answers.{preferredAnswer, stableAnswer, nextAnswer, placeAnswer}
 use Rattle.answers.specs.Printed.{refusedText, shown}
 use Rattle.answers.specs.Listed.{wholeListing}
 use Rattle.answers.specs.Programs.{translatePrinted, statesPrinted}
@@ -95,18 +96,21 @@ pub record TranslateRefuses (rules names before : List ℕ) : Type 0 where
       ↔ Passes (NoStoreOf Preference rules) (StoresPass rules names (storesTranslation rules names) (length before) (size ≡ length (storesTranslation rules names)))
   pub output : Writes (translateAnswer rules names (length before)) (storesTranslation rules names) before (translateOutput rules names before)
 
--- a verdict or the lister: 10, 11, 12 (the set or the start outside), 13
-abbrev pub NumbersRefused : ℕ → (ℕ → Type 0) → ℕ → Refusal → Type 0
-NumbersRefused atoms Outside budget = Tested SetNumber (Outside (2 ^ atoms)) (Tested Budget (budgetLimit < budget) NoOther)
+-- a call with a set or a start: 10, 11, 12 (the set or the start outside), then what comes later
+abbrev pub NumberRefused : Kind → List ℕ → (ℕ → Type 0) → (Refusal → Type 0) → Refusal → Type 0
+NumberRefused kind rules Outside later =
+    Tested RuleStore (NoStoreOf kind rules) (Tested TooManyAtoms (walkAtoms < decode rules .atoms) (Tested SetNumber (Outside (2 ^ decode rules .atoms)) later))
 
+-- a verdict or the lister: then 13
 abbrev pub CallRefused : Kind → List ℕ → (ℕ → Type 0) → ℕ → Refusal → Type 0
-CallRefused kind rules Outside budget =
-    Tested RuleStore (NoStoreOf kind rules) (Tested TooManyAtoms (walkAtoms < decode rules .atoms) (NumbersRefused (decode rules .atoms) Outside budget))
+CallRefused kind rules Outside budget = NumberRefused kind rules Outside (Tested Budget (budgetLimit < budget) NoOther)
 
 pub record VerdictRefuses (rules : List ℕ) (number budget : ℕ) : Type 0 where
   pub preferred : (r : Refusal) → preferredAnswer rules number budget ≡ NotJudged r ↔ CallRefused Preference rules (λ top. top ≤ number) budget r
   pub stable : (r : Refusal) → stableAnswer rules number budget ≡ NotJudged r ↔ CallRefused Plain rules (λ top. top ≤ number) budget r
   pub next-state : (r : Refusal) → nextAnswer rules number budget ≡ NotSearched r ↔ CallRefused Preference rules (λ top. top < number) budget r
+  -- a set's place: 10 (a plain store too), 11, 12
+  pub place : (r : Refusal) → placeAnswer rules number ≡ NotPlaced r ↔ NumberRefused Preference rules (λ top. top ≤ number) NoOther r
 
 -- the two programs: all that is printed where the lent output has room for it, else nothing
 pub record PrintsInto (text before : List ℕ) : Type 0 where

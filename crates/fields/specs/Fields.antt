@@ -1,4 +1,4 @@
--- Document 01's number and values for each case of an answer.
+-- The number and values that the documents give each case of an answer.
 use Rattle.kinds.specs.Refusals.{refusalNumber}
 use Rattle.answers.specs.declared.Written.{Written}
 use Rattle.answers.specs.declared.Written.the-variants.{Text, Refused as NotWritten}
@@ -8,9 +8,12 @@ use Rattle.walks.specs.declared.answers.Verdict.{Verdict}
 use Rattle.walks.specs.declared.answers.Verdict.the-variants.{Yes, Broken, Beaten, Spent, Refused as NotJudged}
 use Rattle.walks.specs.declared.answers.NextState.{NextState}
 use Rattle.walks.specs.declared.answers.NextState.the-variants.{State, Nothing, Spent as NextSpent, Refused as NotSearched}
+use Rattle.walks.specs.declared.answers.Place.{Place}
+use Rattle.walks.specs.declared.answers.Place.the-variants.{At, Refused as NotPlaced}
 use Rattle.fields.specs.declared.ReadFields.{ReadFields}
 use Rattle.fields.specs.declared.WrittenFields.{WrittenFields}
 use Rattle.fields.specs.declared.VerdictFields.{VerdictFields}
+use Rattle.fields.specs.declared.ValueFields.{ValueFields}
 
 -- refusal 0: accepted
 abbrev pub readFields : Read → ReadFields
@@ -36,3 +39,8 @@ nextFields (State set units) = record { kind = 0; value = set; units = units }
 nextFields (Nothing units) = record { kind = 1; value = 0; units = units }
 nextFields (NextSpent units) = record { kind = 3; value = 0; units = units }
 nextFields (NotSearched f) = record { kind = 4; value = refusalNumber f; units = 0 }
+
+-- refusal 0: the place
+abbrev pub placeFields : Place → ValueFields
+placeFields (At place) = record { refusal = 0; value = place }
+placeFields (NotPlaced f) = record { refusal = refusalNumber f; value = 0 }

@@ -3,9 +3,10 @@ use answers::Read;
 use answers::Written;
 use kinds::refusals::Refusal;
 use walks::answers::NextState;
+use walks::answers::Place;
 use walks::answers::Verdict;
 ghost use mathlib.Core.Path.{_≡_};
-ghost use Rattle.fields.specs.Fields.{readFields, writtenFields, verdictFields, nextFields};
+ghost use Rattle.fields.specs.Fields.{readFields, writtenFields, verdictFields, nextFields, placeFields};
 
 // refusal 0: accepted
 #[repr(C)]
@@ -29,6 +30,13 @@ pub struct VerdictFields {
     pub kind: u64,
     pub value: u64,
     pub units: u64,
+}
+
+// refusal 0: the value
+#[repr(C)]
+pub struct ValueFields {
+    pub refusal: u64,
+    pub value: u64,
 }
 
 pub fn read_fields(answer: Read) -> ReadFields
@@ -120,6 +128,21 @@ pub fn next_fields(answer: NextState) -> VerdictFields
             kind: 4,
             value: refusal.number(),
             units: 0,
+        },
+    }
+}
+
+pub fn place_fields(answer: Place) -> ValueFields
+    ensures { λ r. ⌜ r ≡ placeFields answer ⌝ }
+{
+    match answer {
+        Place::At { place } => ValueFields {
+            refusal: 0,
+            value: place,
+        },
+        Place::Refused { refusal } => ValueFields {
+            refusal: refusal.number(),
+            value: 0,
         },
     }
 }

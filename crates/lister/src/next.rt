@@ -1,6 +1,7 @@
-// The next state: the least preferred set from a start on.
+// The next state: the first preferred set from a start, a place, on. Over masks a set is its place.
 use kinds::limits::Kind;
 use kinds::limits::Preference;
+use masks::answers_at::next_at;
 use masks::guard::Guard;
 use masks::guard::check_call;
 use masks::masks::Sizes;
@@ -105,17 +106,19 @@ fn next_of(words: &[u16], start: u64, budget: u64) -> NextState
     let sizes = fill_masks(words, &mut care, &mut want, &mut classes);
     let rules = sizes.rules;
     let k = sizes.classes;
-    next_masks(
+    let atoms = sizes.atoms;
+    let next = next_masks(
         &care[..rules],
         &want[..rules],
         &classes[..k],
         sizes,
         start,
         budget,
-    )
+    );
+    next_at(next, atoms)
 }
 
-// The least preferred set from `start` on, by the rules of a preference store.
+// The first preferred set from the place `start` on, by the rules of a preference store.
 pub fn next_state(words: &[u16], start: u64, budget: u64) -> NextState
     ensures { λ r. ⌜ r ≡ nextAnswer (now (words .entry)) start budget ⌝ }
 {

@@ -13,7 +13,7 @@ use types.Run.{OneOf}
 use denote.Enum.Declared.{tagOf}
 use borrow.Author.Tests.{le-leb, leb-true, leb-false}
 use Rattle.kinds.specs.Sizes.{longestName, longestEntry}
-use Rattle.kinds.specs.Limits.{streamLimit, walkAtoms}
+use Rattle.kinds.specs.Limits.{streamLimit, walkAtoms, budgetLimit}
 use Rattle.kinds.specs.declared.limits.Kind.the-variants.{Preference}
 use Rattle.kinds.specs.declared.refusals.Refusal.{Refusal}
 use Rattle.kinds.specs.declared.refusals.Refusal.the-variants.{Output}
@@ -27,6 +27,11 @@ use Rattle.text.specs.Text.{item}
 use Rattle.text.specs.Items.{storedNames}
 use Rattle.output.specs.Emitted.{Emitted, InRange}
 use Rattle.output.proofs.Emitting.{none, then, renamed, same-length}
+use Rattle.places.specs.Places.{place}
+use Rattle.places.proofs.Places.{turned-twice}
+use Rattle.masks.specs.FilledMasks.{nextMasks, nextAt}
+use Rattle.masks.specs.declared.masks.Sizes.{Sizes}
+use Rattle.masks.proofs.FilledMasks.{next-between}
 use Rattle.walks.specs.declared.answers.NextState.{NextState}
 use Rattle.walks.specs.declared.answers.NextState.the-variants.{State, Nothing, Spent, Refused}
 use Rattle.walks.proofs.answers.NextState.{the-type}
@@ -85,33 +90,36 @@ module _ {n : ℕ} {names starts : List ℕ} (h : ListedNames n names starts) wh
   pub state-range : (at s : ℕ) → at ≤ streamLimit → InRange at (stateLine (storedNames names starts) s)
   state-range at s l = record { below = omega (arith, state-short (storedNames names starts) all-short s (omega (arith, few-starts, length-decode (length starts) names))) }
 
+pub between : (care want classes : List ℕ) (z : Sizes) → Inside (λ p. p) (λ t. nextMasks care want classes z t budgetLimit) (2 ^ z .atoms)
+between care want classes z t p u l e = next-between care want classes z t budgetLimit p u l e
+
 -- the states up to the start are written, `count` of them
-pub record Listing (next : ℕ → NextState) (top : ℕ) (names : List (List ℕ)) (before now : List ℕ) (at start count : ℕ) : Type 0 where
-  pub inside : start ≤ top
+pub record Listing (next : ℕ → NextState) (n : ℕ) (names : List (List ℕ)) (before now : List ℕ) (at start count : ℕ) : Type 0 where
+  pub inside : start ≤ 2 ^ n
   pub counted : count ≤ start
   pub left : ℕ
-  pub enough : top < start + left
+  pub enough : 2 ^ n < start + left
   pub written : List ℕ
   pub so : Emitted before 0 written now at
-  pub all : written ++ listing next left names start count ≡ listing next (suc top) names 0 0
+  pub all : written ++ listing (place n) (λ t. nextAt n (next t)) left names start count ≡ listing (place n) (λ t. nextAt n (next t)) (suc (2 ^ n)) names 0 0
 
-pub begins : (next : ℕ → NextState) (top : ℕ) (names : List (List ℕ)) (out : List ℕ) → Listing next top names out out 0 0 0
-begins next top names out = record {
+pub begins : (next : ℕ → NextState) (n : ℕ) (names : List (List ℕ)) (out : List ℕ) → Listing next n names out out 0 0 0
+begins next n names out = record {
   inside = omega arith;
   counted = omega arith;
-  left = suc top;
+  left = suc (2 ^ n);
   enough = omega arith;
   written = [];
   so = none;
   all = refl;
 }
 
-other-lines : (found : NextState) (more : ℕ → List ℕ) (c : ℕ) → OneOf (1 ∷ 2 ∷ 3 ∷ []) (tagOf the-type found) → onNext found more (totalLine c) spentLine ≡ lastLine found c
-unfolding lastLine
-other-lines (State s u) more c k = absurd (⊎-elim (λ (e : _≡_ {A = ℕ} 0 1). omega arith) (λ q. ⊎-elim (λ (e : _≡_ {A = ℕ} 0 2). omega arith) (λ (e : _≡_ {A = ℕ} 0 3). omega arith) q) k)
-other-lines (Nothing u) more c k = refl
-other-lines (Spent u) more c k = refl
-other-lines (Refused f) more c k = refl
+other-lines : (n : ℕ) (found : NextState) (more : ℕ → List ℕ) (c : ℕ) → OneOf (1 ∷ 2 ∷ 3 ∷ []) (tagOf the-type found) → onNext (nextAt n found) more (totalLine c) spentLine ≡ lastLine found c
+unfolding lastLine nextAt
+other-lines n (State s u) more c k = absurd (⊎-elim (λ (e : _≡_ {A = ℕ} 0 1). omega arith) (λ q. ⊎-elim (λ (e : _≡_ {A = ℕ} 0 2). omega arith) (λ (e : _≡_ {A = ℕ} 0 3). omega arith) q) k)
+other-lines n (Nothing u) more c k = refl
+other-lines n (Spent u) more c k = refl
+other-lines n (Refused f) more c k = refl
 
 module _ {found : NextState} (c : ℕ) where
   pub last-state : {s u : ℕ} → found ≡ State s u → [] ≡ lastLine found c
@@ -137,14 +145,14 @@ last-short (Nothing u) c = total-short c
 last-short (Spent u) c = omega arith
 last-short (Refused f) c = omega arith
 
-module _ {next : ℕ → NextState} {top : ℕ} {names : List (List ℕ)} {before now : List ℕ} {at start count : ℕ} (h : Listing next top names before now at start count) where
+module _ {next : ℕ → NextState} {n : ℕ} {names : List (List ℕ)} {before now : List ℕ} {at start count : ℕ} (h : Listing next n names before now at start count) where
   abbrev rest : ℕ → List ℕ
-  rest left = listing next left names start count
+  rest left = listing (place n) (λ t. nextAt n (next t)) left names start count
 
   abbrev more : ℕ → List ℕ
-  more s = stateLine names s ++ listing next (h .left - 1) names (suc s) (suc count)
+  more s = stateLine names s ++ listing (place n) (λ t. nextAt n (next t)) (h .left - 1) names (suc (place n s)) (suc count)
 
-  unfolded : rest (h .left) ≡ onNext (next start) more (totalLine count) spentLine
+  unfolded : rest (h .left) ≡ onNext (nextAt n (next start)) more (totalLine count) spentLine
   unfolding listing
   unfolded =
       let k = h .inside in
@@ -153,48 +161,51 @@ module _ {next : ℕ → NextState} {top : ℕ} {names : List (List ℕ)} {befor
       ap rest e
 
   -- the listing so far already passes the size
-  pub passed : streamLimit < at → Limited (listing next (suc top) names 0 0) before now at
+  pub passed : streamLimit < at → Limited (listing (place n) (λ t. nextAt n (next t)) (suc (2 ^ n)) names 0 0) before now at
   passed l =
       let e = ap length (sym (h .all)) ∙ length-append (h .written) (rest (h .left)) in
       record { fits = λ k. absurd (omega (arith, e, h .so .place)); past = λ k. l }
 
   module _ {found : NextState} (e : found ≡ next start) where
     -- there is no further state, or the budget is spent
-    pub ended : {now′ : List ℕ} {at′ : ℕ} → OneOf (1 ∷ 2 ∷ 3 ∷ []) (tagOf the-type found) → Emitted now at (lastLine found count) now′ at′ → Limited (listing next (suc top) names 0 0) before now′ at′
+    pub ended : {now′ : List ℕ} {at′ : ℕ} → OneOf (1 ∷ 2 ∷ 3 ∷ []) (tagOf the-type found) → Emitted now at (lastLine found count) now′ at′ → Limited (listing (place n) (λ t. nextAt n (next t)) (suc (2 ^ n)) names 0 0) before now′ at′
     ended k p =
-        let last : rest (h .left) ≡ lastLine found count = unfolded ∙ ap (λ (v : NextState). onNext v more (totalLine count) spentLine) (sym e) ∙ other-lines found more count k in
+        let last : rest (h .left) ≡ lastLine found count = unfolded ∙ ap (λ (v : NextState). onNext (nextAt n v) more (totalLine count) spentLine) (sym e) ∙ other-lines n found more count k in
         let whole = renamed (then (h .so) p) (ap (λ (l : List ℕ). h .written ++ l) (sym last) ∙ h .all) in
         record { fits = λ l. whole; past = λ l. omega (arith, whole .place) }
 
-    module _ (between : Inside next top) {s u : ℕ} (f : found ≡ State s u) where
-      at-state : (start ≤ s) × (s < top)
-      at-state = between start s u (h .inside) (sym e ∙ f)
+    -- the state at place p
+    module _ (between : Inside (λ p. p) next (2 ^ n)) {p u : ℕ} (f : found ≡ State p u) where
+      at-state : (start ≤ p) × (p < 2 ^ n)
+      at-state = between start p u (h .inside) (sym e ∙ f)
 
-      pub state-small : top ≤ 2 ^ walkAtoms → s < 2 ^ walkAtoms
+      pub state-small : 2 ^ n ≤ 2 ^ walkAtoms → p < 2 ^ walkAtoms
       state-small l = omega (arith, at-state .1)
 
-      pub count-small : top ≤ 2 ^ walkAtoms → count < 2 ^ walkAtoms
+      pub count-small : 2 ^ n ≤ 2 ^ walkAtoms → count < 2 ^ walkAtoms
       count-small l = omega (arith, state-small l, at-state .0, h .counted)
 
-      pub falls : top - (s + 1) < top - start
+      pub falls : 2 ^ n - (p + 1) < 2 ^ n - start
       falls = omega (arith, at-state .0, at-state .1)
 
-      pub listed : {now′ : List ℕ} {at′ : ℕ} → Emitted now at (stateLine names s) now′ at′ → Listing next top names before now′ at′ (s + 1) (count + 1)
-      listed p =
+      pub listed : {s : ℕ} → s ≡ place n p → {now′ : List ℕ} {at′ : ℕ} → Emitted now at (stateLine names s) now′ at′ → Listing next n names before now′ at′ (p + 1) (count + 1)
+      unfolding nextAt
+      listed {s} turned {now′} {at′} w =
           let a = at-state .0 in
           let b = at-state .1 in
           let k = h .enough in
-          let step : rest (h .left) ≡ more s = unfolded ∙ ap (λ (v : NextState). onNext v more (totalLine count) spentLine) (sym e ∙ f) in
+          let back : place n s ≡ p = ap (place n) turned ∙ turned-twice n p b in
+          let step : rest (h .left) ≡ more s = unfolded ∙ ap (λ (v : NextState). onNext (nextAt n v) more (totalLine count) spentLine) (sym e ∙ f) ∙ ap more (sym turned) in
           record {
             inside = omega arith;
             counted = omega (arith, h .counted);
             left = h .left - 1;
             enough = omega arith;
             written = h .written ++ stateLine names s;
-            so = then (h .so) p;
+            so = then (h .so) w;
             all =
-                ap₂ (λ (x y : ℕ). (h .written ++ stateLine names s) ++ listing next (h .left - 1) names x y) (add-one s) (add-one count)
-                ∙ append-assoc (h .written) (stateLine names s) (listing next (h .left - 1) names (suc s) (suc count))
+                ap₂ (λ (x y : ℕ). (h .written ++ stateLine names s) ++ listing (place n) (λ t. nextAt n (next t)) (h .left - 1) names x y) (add-one p ∙ ap suc (sym back)) (add-one count)
+                ∙ append-assoc (h .written) (stateLine names s) (listing (place n) (λ t. nextAt n (next t)) (h .left - 1) names (suc (place n s)) (suc count))
                 ∙ ap (λ (l : List ℕ). h .written ++ l) (sym step)
                 ∙ h .all;
           }

@@ -1,7 +1,7 @@
 -- What the lister prints on two stores that are known to be of the form.
 use Prim.Native.Nat.{ℕ, suc, _^_, _≤_, _<_}
 use native.Mathlib.Omega.{arith}
-use mathlib.Core.Path.{_≡_, sym, ap, _∙_, subst}
+use mathlib.Core.Path.{_≡_, sym, ap, _∙_, subst, fun-ext}
 use mathlib.Core.List.{List, _++_}
 use lib.Dec.{T}
 use lib.ListN.{length, getD, take, drop}
@@ -19,42 +19,29 @@ use Rattle.name_store.specs.NameIndex.{Placed}
 use Rattle.text.specs.Items.{storedNames, StoredNames}
 use Rattle.text.proofs.TextParts.{store-header}
 use Rattle.text.proofs.FilledTable.{front-length, front-stored, table-inside, handed-length, handed-placed}
+use Rattle.places.specs.Places.{place}
 use Rattle.walks.specs.Walk.{nextVerdict}
 use Rattle.walks.specs.declared.answers.NextState.{NextState}
-use Rattle.masks.specs.FilledMasks.{MasksOf, nextMasks}
+use Rattle.masks.specs.FilledMasks.{MasksOf}
 use Rattle.masks.specs.declared.masks.Sizes.{Sizes}
 use Rattle.masks.proofs.FilledMasks.{masks-fit, next-filled}
 use Rattle.answers.specs.Printed.{refusedText}
 use Rattle.answers.specs.Listed.{listing, wholeListing, streamed, statesOf}
-use Rattle.answers.specs.NextInside.{Inside}
 use Rattle.listing.specs.ListedMasks.{ListedNames, ListedStores, ListedMasks, masksListing}
-use Rattle.answers.proofs.ClassWords.{class-words}
-use Rattle.answers.proofs.PreferredPrinted.{listing-same, next-inside}
 
 -- the masks of a store, as the code hands them on
 module _ {rules names starts care want classes : List ℕ} {z : Sizes} (h : ListedStores rules names starts) (d : MasksOf (decode rules) care want classes z) where
   abbrev program : Program
   program = decode rules
 
-  abbrev next : ℕ → NextState
-  next t = nextMasks (take (z .rules) care) (take (z .rules) want) (take (z .classes) classes) z t budgetLimit
-
-  counted : length (program .words) ≡ program .atoms
-  counted = class-words program (h .store .form) (h .kind)
-
-  inside : Inside next (2 ^ z .atoms)
-  inside t s u l e =
-      let k = next-inside program counted t s u (subst (λ (n : ℕ). t ≤ 2 ^ n) (d .atoms-are) l) (sym (next-filled d t budgetLimit) ∙ e) in
-      (k .0, subst (λ (n : ℕ). s < 2 ^ n) (sym (d .atoms-are)) (k .1))
-
   pub masks-listed : ListedMasks (take (z .rules) care) (take (z .rules) want) (take (z .classes) classes) z names starts
-  masks-listed = record { fit = masks-fit d; inside = inside; named = subst (λ (n : ℕ). ListedNames n names starts) (sym (d .atoms-are)) (h .named) }
+  masks-listed = record { fit = masks-fit d; named = subst (λ (n : ℕ). ListedNames n names starts) (sym (d .atoms-are)) (h .named) }
 
   pub same-listing : masksListing (take (z .rules) care) (take (z .rules) want) (take (z .classes) classes) z (storedNames names starts) ≡ wholeListing program (storedNames names starts)
   unfolding wholeListing
   same-listing =
-      listing-same next (λ t. nextVerdict (program .words) (program .rules) t budgetLimit) (2 ^ z .atoms) inside (λ t l. next-filled d t budgetLimit) (storedNames names starts) (suc (2 ^ z .atoms)) 0 0 (omega arith)
-      ∙ ap (λ (n : ℕ). listing (λ t. nextVerdict (program .words) (program .rules) t budgetLimit) (suc (2 ^ n)) (storedNames names starts) 0 0) (d .atoms-are)
+      ap (λ (next : ℕ → NextState). listing (place (z .atoms)) next (suc (2 ^ z .atoms)) (storedNames names starts) 0 0) (fun-ext (λ t. next-filled d t budgetLimit))
+      ∙ ap (λ (n : ℕ). listing (place n) (λ t. nextVerdict (program .words) (program .rules) t budgetLimit) (suc (2 ^ n)) (storedNames names starts) 0 0) (d .atoms-are)
 
   pub same-streamed : streamed (masksListing (take (z .rules) care) (take (z .rules) want) (take (z .classes) classes) z (storedNames names starts)) ≡ streamed (wholeListing program (storedNames names starts))
   same-streamed = ap streamed same-listing

@@ -13,11 +13,11 @@ use Rattle.name_store.specs.NameIndex.{Placed}
 use Rattle.output.specs.Emitted.{Emitted}
 use Rattle.text.specs.Items.{storedNames}
 use Rattle.walks.specs.declared.answers.NextState.{NextState}
-use Rattle.masks.specs.FilledMasks.{MasksFit, nextMasks}
+use Rattle.places.specs.Places.{place}
+use Rattle.masks.specs.FilledMasks.{MasksFit, nextMasks, nextAt}
 use Rattle.masks.specs.declared.masks.Sizes.{Sizes}
 use Rattle.answers.specs.Printed.{totalLine, spentLine}
 use Rattle.answers.specs.Listed.{onNext, listing}
-use Rattle.answers.specs.NextInside.{Inside}
 
 -- the names of a preference program of n atoms, at most 60, and the table of their places
 pub record ListedNames (n : ℕ) (names starts : List ℕ) : Type 0 where
@@ -32,14 +32,13 @@ pub record ListedStores (rules names starts : List ℕ) : Type 0 where
   pub kind : decode rules .kind ≡ Preference
   pub named : ListedNames (decode rules .atoms) names starts
 
--- the masks of a preference program with its names
+-- the masks of a preference program with its names; over them a set is its place
 pub record ListedMasks (care want classes : List ℕ) (z : Sizes) (names starts : List ℕ) : Type 0 where
   pub fit : MasksFit care want z
-  pub inside : Inside (λ t. nextMasks care want classes z t budgetLimit) (2 ^ z .atoms)
   pub named : ListedNames (z .atoms) names starts
 
 abbrev pub masksListing : List ℕ → List ℕ → List ℕ → Sizes → List (List ℕ) → List ℕ
-masksListing care want classes z names = listing (λ t. nextMasks care want classes z t budgetLimit) (suc (2 ^ z .atoms)) names 0 0
+masksListing care want classes z names = listing (place (z .atoms)) (λ t. nextAt (z .atoms) (nextMasks care want classes z t budgetLimit)) (suc (2 ^ z .atoms)) names 0 0
 
 -- the last line: the number of states or `(spent)`
 unfoldable pub lastLine : NextState → ℕ → List ℕ

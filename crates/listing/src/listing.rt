@@ -7,6 +7,7 @@ use lister::next::next_masks;
 use masks::masks::Sizes;
 use masks::masks::fill_masks;
 use output::bytes::emit;
+use places::turning::turned;
 use printing::printing::emit_state;
 use printing::printing::emit_total;
 use printing::printing::show;
@@ -49,16 +50,18 @@ fn emit_listing(
     requires { ⌜ ListedMasks (now care) (now want) (now classes) sizes (now names) (now starts) ⌝ }
     ensures { λ r. ⌜ Limited (masksListing (now (care .entry)) (now (want .entry)) (now (classes .entry)) sizes (storedNames (now (names .entry)) (now (starts .entry)))) (now (out .entry)) (now (out .exit)) r ⌝ }
 {
+    let atoms = sizes.atoms;
     let mut next: usize = 0;
     let mut start: u64 = 0;
     let mut count: u64 = 0;
     while next <= Kind::STREAM {
         let found = next_masks(care, want, classes, sizes, start, Walk::BUDGET);
-        let NextState::State { set, units } = found else {
+        let NextState::State { set: place, units } = found else {
             return emit_last(found, count, out, next);
         };
+        let set = turned(place, atoms);
         next = emit_state(set, names, starts, out, next);
-        start = set + 1;
+        start = place + 1;
         count += 1;
     }
     next

@@ -6,29 +6,33 @@ use mathlib.Core.List.{List, _++_, map}
 use native.Mathlib.Omega.{arith}
 use lib.Count.{ones, ones-le}
 use lib.ListN.{length, getD, take, drop, length-append, length-drop, length-map}
+use lib.Dec.{eqb}
 use borrow.Author.Tests.{ne-eqb, eq-eqb}
 use Rattle.kinds.specs.Limits.{ruleLimit, classLimit, walkAtoms, fixed}
 use Rattle.kinds.specs.declared.limits.Kind.{Kind}
 use Rattle.kinds.specs.declared.limits.Kind.the-variants.{Plain, Preference}
-use Rattle.rules.specs.Lists.{flat, over}
+use Rattle.rules.specs.Lists.{All, flat, over}
 use Rattle.rules.specs.Sets.{has}
-use Rattle.rules.specs.Rules.{Rule, reduct, model?, firstBroken}
+use Rattle.rules.specs.Rules.{Rule, reduct, model?, firstBroken, rename}
+use Rattle.rules.specs.Renumbering.{Within}
 use Rattle.rules.specs.Preferred.{ofClass}
 use Rattle.rules.proofs.Lists.{part-sized, part-rest}
 use Rattle.stores.specs.Program.{Program, ClassesForm}
 use Rattle.stores.specs.RuleStore.{ruleWords, encode, StoreOf, wordCount, rulesFrom, decode}
 use Rattle.stores.specs.StoredRules.{StoredRules}
 use Rattle.stores.proofs.RuleStores.{words-count}
-use Rattle.stores.proofs.StoredRules.{stored-rules, stored-more}
+use Rattle.stores.proofs.StoredRules.{stored-rules}
+use Rattle.places.specs.Places.{mirror, place}
+use Rattle.places.proofs.Places.{place-atoms}
 use Rattle.walks.specs.Walk.{search, capped, stableWalk, stableNeeds, stableVerdict}
 use Rattle.walks.specs.declared.answers.Verdict.{Verdict}
 use Rattle.walks.specs.declared.answers.Verdict.the-variants.{Broken}
-use Rattle.masks.specs.Masks.{maskOf, careOf, wantOf, classMasks, firstM, modelM, stableWalkM, gatherCare, gatherWant}
+use Rattle.masks.specs.Masks.{placeMask, careAt, wantAt, classMasks, firstM, modelM, verdictAt, stableWalkM, gatherCare, gatherWant}
 use Rattle.masks.specs.FilledMasks.{MasksOf}
-use Rattle.masks.proofs.RuleMasks.{first-mask, model-mask, same-nots}
-use Rattle.masks.proofs.VerdictMasks.{stable-walk-mask, gather-walk}
+use Rattle.masks.proofs.RuleMasks.{SameNots, same-nots}
+use Rattle.masks.proofs.VerdictMasks.{first-at, model-at, stable-walk-at, capped-at, gather-walk}
 use Rattle.masks.proofs.RulesFill.{front-of}
-use Rattle.masks.proofs.FilledMasks.{class-mask-lt, first-classes}
+use Rattle.masks.proofs.FilledMasks.{class-mask-lt, first-classes, rules-within}
 
 -- the words of a store, by its program
 
@@ -120,24 +124,24 @@ module _ (ws : List ℕ) (n k r : ℕ) (h : PreferenceHeader ws n k r) where
   pub class-words-few : length classPart ≤ 60
   class-words-few = let e = ap length words-are ∙ words-length in omega (arith, preference-atoms)
 
-  pub preference-stored : StoredRules walkAtoms r rulePart
+  pub preference-stored : StoredRules n r rulePart
   preference-stored =
-      subst (λ (x : ℕ). StoredRules walkAtoms x rulePart) (sym r-is)
-      (subst (StoredRules walkAtoms (length (decode ws .rules))) (sym (part-rest (4 + n) ws))
-      (subst (λ (x : ℕ). StoredRules walkAtoms (length (decode ws .rules)) (drop (4 + x) ws)) (counted ∙ sym n-is)
-      (stored-more (h .few) (length (decode ws .rules)) (drop (4 + wordCount (decode ws .kind) (decode ws .atoms)) ws) (stored-rules (h .store)))))
+      subst (λ (x : ℕ). StoredRules n x rulePart) (sym r-is)
+      (subst (StoredRules n (length (decode ws .rules))) (sym (part-rest (4 + n) ws))
+      (subst (λ (x : ℕ). StoredRules n (length (decode ws .rules)) (drop (4 + x) ws)) (counted ∙ sym n-is)
+      (subst (λ (x : ℕ). StoredRules x (length (decode ws .rules)) (drop (4 + wordCount (decode ws .kind) (decode ws .atoms)) ws)) (sym n-is) (stored-rules (h .store)))))
 
   rules-are : rulesFrom r rulePart ≡ decode ws .rules
   unfolding decode
   rules-are = ap (rulesFrom r) (part-rest (4 + n) ws) ∙ ap₂ (λ (x y : ℕ). rulesFrom x (drop (4 + y) ws)) (h .rules-read) (n-is ∙ sym counted)
 
-  module _ (f : ℕ) (fixed-read : f ≡ maskOf (ofClass classPart fixed)) where
-    fixed-mask : f ≡ maskOf (ofClass (decode ws .words) fixed)
-    fixed-mask = fixed-read ∙ ap (λ (x : List ℕ). maskOf (ofClass x fixed)) words-are
+  module _ (f : ℕ) (fixed-read : f ≡ placeMask (length classPart) (ofClass classPart fixed)) where
+    fixed-mask : f ≡ placeMask (length (decode ws .words)) (ofClass (decode ws .words) fixed)
+    fixed-mask = fixed-read ∙ ap (λ (x : List ℕ). placeMask (length x) (ofClass x fixed)) words-are
 
     pub free-fits : ones f ≤ n
     free-fits =
-        let l : maskOf (ofClass (decode ws .words) fixed) < 2 ^ length (decode ws .words) = class-mask-lt (decode ws .words) fixed in
+        let l : placeMask (length (decode ws .words)) (ofClass (decode ws .words) fixed) < 2 ^ length (decode ws .words) = class-mask-lt (decode ws .words) fixed in
         let z : 2 ^ length (decode ws .words) ≡ 2 ^ n = ap (λ (x : ℕ). 2 ^ x) words-length in
         let e = fixed-mask in
         ones-le n f (omega arith)
@@ -148,7 +152,7 @@ module _ (ws : List ℕ) (n k r : ℕ) (h : PreferenceHeader ws n k r) where
         ∙ front-of (map g (decode ws .rules)) d r (length-map (decode ws .rules) g ∙ sym r-is)
 
     pub masks-filled : (ks cs wants c₀ w₀ : List ℕ) → ks ≡ classMasks classPart 1 classLimit
-        → (cs ≡ over (map (careOf 0) (rulesFrom r rulePart)) c₀) × (wants ≡ over (map (wantOf 0) (rulesFrom r rulePart)) w₀)
+        → (cs ≡ over (map (careAt n 0) (rulesFrom r rulePart)) c₀) × (wants ≡ over (map (wantAt n 0) (rulesFrom r rulePart)) w₀)
         → MasksOf (decode ws) cs wants ks (record { atoms = n; classes = k; rules = r; fixed = f; free = n - ones f })
     masks-filled ks cs wants c₀ w₀ e q = record {
       form = h .store .form;
@@ -159,42 +163,43 @@ module _ (ws : List ℕ) (n k r : ℕ) (h : PreferenceHeader ws n k r) where
       rules-are = r-is;
       fixed-is = fixed-mask;
       free-is = let l = free-fits in omega arith;
-      care-front = rules-front (careOf 0) c₀ cs (q .0);
-      want-front = rules-front (wantOf 0) w₀ wants (q .1);
+      care-front = rules-front (careAt n 0) c₀ cs (q .0) ∙ ap (λ (x : ℕ). map (careAt x 0) (decode ws .rules)) n-is;
+      want-front = rules-front (wantAt n 0) w₀ wants (q .1) ∙ ap (λ (x : ℕ). map (wantAt x 0) (decode ws .rules)) n-is;
       class-front = ap (take k) (e ∙ ap (λ (x : List ℕ). classMasks x 1 classLimit) words-are) ∙ first-classes (decode ws .words) k (let a = k-is in let l = forms .0 in omega arith) ∙ ap (classMasks (decode ws .words) 1) k-is;
     }
 
 -- a checked plain store
 
-pub record PlainHeader (ws : List ℕ) (r : ℕ) : Type 0 where
+pub record PlainHeader (ws : List ℕ) (n r : ℕ) : Type 0 where
   pub store : StoreOf ws (decode ws)
   pub few : decode ws .atoms ≤ walkAtoms
   pub is-plain : decode ws .kind ≡ Plain
+  pub atoms-read : n ≡ getD ws 1 0
   pub rules-read : r ≡ getD ws 3 0
 
--- the masks of its rules, of the reduct by m, stand at the front
-pub record PlainReady (ws : List ℕ) (r m : ℕ) (cs wants : List ℕ) : Type 0 where
-  pub count : r ≡ length (decode ws .rules)
-  pub care-front : take r cs ≡ map (careOf m) (decode ws .rules)
-  pub want-front : take r wants ≡ map (wantOf m) (decode ws .rules)
-
-module _ (ws : List ℕ) (r : ℕ) (h : PlainHeader ws r) where
+module _ (ws : List ℕ) (n r : ℕ) (h : PlainHeader ws n r) where
   uncounted : wordCount (decode ws .kind) (decode ws .atoms) ≡ 0
   uncounted = ap (λ (x : Kind). wordCount x (decode ws .atoms)) (h .is-plain)
 
-  plain-count : r ≡ length (decode ws .rules)
+  pub plain-atoms : n ≡ decode ws .atoms
+  plain-atoms = h .atoms-read ∙ atoms-word ws (decode ws) (h .store)
+
+  pub plain-few : n ≤ 60
+  plain-few = subst (λ (x : ℕ). x ≤ 60) (sym plain-atoms) (h .few)
+
+  pub plain-count : r ≡ length (decode ws .rules)
   plain-count = h .rules-read ∙ rules-word ws (decode ws) (h .store)
 
   -- the words of the rules, as the code takes them
   abbrev plainPart : List ℕ
   plainPart = take (length ws - 4) (drop 4 ws)
 
-  pub plain-stored : StoredRules walkAtoms r plainPart
+  pub plain-stored : StoredRules n r plainPart
   plain-stored =
-      subst (λ (x : ℕ). StoredRules walkAtoms x plainPart) (sym plain-count)
-      (subst (StoredRules walkAtoms (length (decode ws .rules))) (sym (part-rest 4 ws))
-      (subst (λ (x : ℕ). StoredRules walkAtoms (length (decode ws .rules)) (drop (4 + x) ws)) uncounted
-      (stored-more (h .few) (length (decode ws .rules)) (drop (4 + wordCount (decode ws .kind) (decode ws .atoms)) ws) (stored-rules (h .store)))))
+      subst (λ (x : ℕ). StoredRules n x plainPart) (sym plain-count)
+      (subst (StoredRules n (length (decode ws .rules))) (sym (part-rest 4 ws))
+      (subst (λ (x : ℕ). StoredRules n (length (decode ws .rules)) (drop (4 + x) ws)) uncounted
+      (subst (λ (x : ℕ). StoredRules x (length (decode ws .rules)) (drop (4 + wordCount (decode ws .kind) (decode ws .atoms)) ws)) (sym plain-atoms) (stored-rules (h .store)))))
 
   pub plain-rules : r ≤ 4200
   plain-rules =
@@ -203,43 +208,48 @@ module _ (ws : List ℕ) (r : ℕ) (h : PlainHeader ws r) where
       let g : ruleLimit (decode ws .kind) ≡ 4200 = ap ruleLimit (h .is-plain) in
       omega arith
 
-  plain-rules-are : rulesFrom r plainPart ≡ decode ws .rules
+  pub plain-rules-are : rulesFrom r plainPart ≡ decode ws .rules
   unfolding decode
   plain-rules-are = ap (rulesFrom r) (part-rest 4 ws) ∙ ap₂ (λ (x y : ℕ). rulesFrom x (drop (4 + y) ws)) (h .rules-read) (sym uncounted)
 
-  plain-front : (g : Rule ℕ → ℕ) (d l : List ℕ) → l ≡ over (map g (rulesFrom r plainPart)) d → take r l ≡ map g (decode ws .rules)
-  plain-front g d l e =
-      ap (take r) (e ∙ ap (λ (x : List (Rule ℕ)). over (map g x) d) plain-rules-are)
-      ∙ front-of (map g (decode ws .rules)) d r (length-map (decode ws .rules) g ∙ sym plain-count)
+  pub plain-within : All (Within (λ a. a < n)) (decode ws .rules)
+  plain-within = subst (λ (x : ℕ). All (Within (λ a. a < x)) (decode ws .rules)) (sym plain-atoms) (rules-within (h .store .form))
 
-  pub plain-ready : (m : ℕ) (cs wants c₀ w₀ : List ℕ)
-      → (cs ≡ over (map (careOf m) (rulesFrom r plainPart)) c₀) × (wants ≡ over (map (wantOf m) (rulesFrom r plainPart)) w₀) → PlainReady ws r m cs wants
-  plain-ready m cs wants c₀ w₀ q = record { count = plain-count; care-front = plain-front (careOf m) c₀ cs (q .0); want-front = plain-front (wantOf m) w₀ wants (q .1) }
+-- the stable verdict on m by the masks of all rules, of the reduct by m's place
+module _ (n : ℕ) (rs : List (Rule ℕ)) (below : All (Within (λ a. a < n)) rs) (m : ℕ) where
+  abbrev q : ℕ
+  q = place n m
 
-module _ {ws : List ℕ} {r m : ℕ} {cs wants : List ℕ} (d : PlainReady ws r m cs wants) where
-  pub plain-care-length : r ≡ length (take r cs)
-  plain-care-length = sym (ap length (d .care-front) ∙ length-map (decode ws .rules) (careOf m) ∙ sym (d .count))
+  abbrev care : List ℕ
+  care = map (careAt n q) rs
 
-  pub plain-want-length : r ≡ length (take r wants)
-  plain-want-length = sym (ap length (d .want-front) ∙ length-map (decode ws .rules) (wantOf m) ∙ sym (d .count))
+  abbrev want : List ℕ
+  want = map (wantAt n q) rs
 
-  first-is : firstM m (take r cs) (take r wants) ≡ firstBroken (decode ws .rules) (has m)
-  first-is = ap₂ (firstM m) (d .care-front) (d .want-front) ∙ first-mask m m (decode ws .rules) (same-nots m (decode ws .rules))
+  all-same : All (SameNots q q) (map (rename (mirror n)) rs)
+  all-same = same-nots q (map (rename (mirror n)) rs)
 
-  model-is : modelM (take r cs) (take r wants) m ≡ model? (decode ws .rules) (has m)
-  model-is = ap₂ (λ (x y : List ℕ). modelM x y m) (d .care-front) (d .want-front) ∙ model-mask m m (decode ws .rules) (same-nots m (decode ws .rules))
+  first-is : firstM q care want ≡ firstBroken rs (has m)
+  first-is = first-at n rs below q m q (place-atoms n m) all-same
 
-  pub stable-broken-ready : (b i : ℕ) → i ≡ firstM m (take r cs) (take r wants) → (i ≡ r → ⊥) → Broken i ≡ stableVerdict (decode ws .atoms) (decode ws .rules) m b
-  unfolding stableVerdict stableNeeds capped modelM
-  stable-broken-ready b i e ne =
-      let z : model? (decode ws .rules) (has m) ≡ false = sym model-is ∙ ne-eqb (firstM m (take r cs) (take r wants)) (length (take r cs)) (λ q. ne (e ∙ q ∙ sym plain-care-length)) in
+  model-is : eqb (firstM q care want) (length care) ≡ model? rs (has m)
+  unfolding modelM
+  model-is = model-at n rs below q m q (place-atoms n m) all-same
+
+  count : length care ≡ length rs
+  count = length-map rs (careAt n q)
+
+  pub stable-broken : (b i : ℕ) → i ≡ firstM q care want → (i ≡ length rs → ⊥) → Broken i ≡ stableVerdict n rs m b
+  unfolding stableVerdict stableNeeds capped
+  stable-broken b i e ne =
+      let z : model? rs (has m) ≡ false = sym model-is ∙ ne-eqb (firstM q care want) (length care) (λ x. ne (e ∙ x ∙ count)) in
       rw (e ∙ first-is, z)
 
-  pub stable-ready : (b i : ℕ) (v : Verdict) (gc gw : List ℕ) → m < 2 ^ decode ws .atoms → i ≡ firstM m (take r cs) (take r wants) → i ≡ r
-      → gc ≡ gatherCare (take r cs) (take r wants) → gw ≡ gatherWant (take r cs) (take r wants) → v ≡ capped b (stableWalkM gc gw m) → v ≡ stableVerdict (decode ws .atoms) (decode ws .rules) m b
-  unfolding stableVerdict stableNeeds modelM
-  stable-ready b i v gc gw inside e q x y h =
-      let z : model? (decode ws .rules) (has m) ≡ true = sym model-is ∙ eq-eqb (firstM m (take r cs) (take r wants)) (length (take r cs)) (sym e ∙ q ∙ plain-care-length) in
-      h ∙ ap (capped b) (ap₂ (λ (c w : List ℕ). stableWalkM c w m) x y ∙ gather-walk (take r cs) (take r wants) m (sym plain-want-length ∙ plain-care-length)
-      ∙ ap₂ (λ (c w : List ℕ). stableWalkM c w m) (d .care-front) (d .want-front) ∙ stable-walk-mask (decode ws .atoms) (decode ws .rules) m inside)
-      ∙ ap (λ (p : Bool). capped b (cond p (search (λ s. model? (reduct (decode ws .rules) (has m)) (has s)) (stableWalk (decode ws .atoms) m) 0) (Broken (firstBroken (decode ws .rules) (has m))))) (sym z)
+  pub stable-walked : (b : ℕ) (v : Verdict) → m < 2 ^ n → firstM q care want ≡ length rs → v ≡ capped b (stableWalkM (gatherCare care want) (gatherWant care want) q) → verdictAt n v ≡ stableVerdict n rs m b
+  unfolding stableVerdict stableNeeds
+  stable-walked b v inside e h =
+      let z : model? rs (has m) ≡ true = sym model-is ∙ eq-eqb (firstM q care want) (length care) (e ∙ sym count) in
+      ap (verdictAt n) (h ∙ ap (capped b) (gather-walk care want q (length-map rs (wantAt n q) ∙ sym count)))
+      ∙ sym (capped-at n b (stableWalkM care want q))
+      ∙ ap (capped b) (sym (stable-walk-at n rs below m inside))
+      ∙ ap (λ (p : Bool). capped b (cond p (search (λ s. model? (reduct rs (has m)) (has s)) (stableWalk n m) 0) (Broken (firstBroken rs (has m))))) (sym z)

@@ -16,7 +16,8 @@ use Rattle.rules.proofs.Booleans.{both-true}
 use Rattle.stores.specs.Program.{roleOf}
 use Rattle.stores.specs.declared.roles.Role.{Role}
 use Rattle.stores.specs.declared.roles.Role.the-variants.{Minimised, Varying, Fixed, Unknown}
-use Rattle.masks.specs.Masks.{maskOf, classMasks, noted}
+use Rattle.places.specs.Places.{mirror}
+use Rattle.masks.specs.Masks.{maskOf, placeMask, classMasks, noted}
 use Rattle.masks.proofs.MaskLoops.{or-assoc}
 
 -- what the role tells of the word
@@ -110,20 +111,20 @@ filter-last p (a ∷ l) x = step (p a) (filter-last p l x)
     step true e = ap (λ (t : List ℕ). a ∷ t) e
     step false e = e
 
-mask-last-atom : (l : List ℕ) (x : ℕ) (b : Bool) → maskOf (l ++ keep b x []) ≡ cond b (bitOr (maskOf l) (2 ^ x)) (maskOf l)
+mask-last-atom : (n : ℕ) (l : List ℕ) (x : ℕ) (b : Bool) → placeMask n (l ++ keep b x []) ≡ cond b (bitOr (placeMask n l) (2 ^ mirror n x)) (placeMask n l)
 unfolding maskOf
-mask-last-atom [] x true = or-zero-r (2 ^ x) ∙ sym (or-zero-l (2 ^ x))
-mask-last-atom [] x false = refl
-mask-last-atom (a ∷ l) x true = ap (bitOr (2 ^ a)) (mask-last-atom l x true) ∙ sym (or-assoc (2 ^ a) (maskOf l) (2 ^ x))
-mask-last-atom (a ∷ l) x false = ap (bitOr (2 ^ a)) (mask-last-atom l x false)
+mask-last-atom n [] x true = or-zero-r (2 ^ mirror n x) ∙ sym (or-zero-l (2 ^ mirror n x))
+mask-last-atom n [] x false = refl
+mask-last-atom n (a ∷ l) x true = ap (bitOr (2 ^ mirror n a)) (mask-last-atom n l x true) ∙ sym (or-assoc (2 ^ mirror n a) (placeMask n l) (2 ^ mirror n x))
+mask-last-atom n (a ∷ l) x false = ap (bitOr (2 ^ mirror n a)) (mask-last-atom n l x false)
 
-module _ (ws : List ℕ) (i : ℕ) where
-  mask-below : (c : ℕ) → maskOf (below ws (suc i) c) ≡ cond (eqb (getD ws i 0) c) (bitOr (maskOf (below ws i c)) (2 ^ i)) (maskOf (below ws i c))
+module _ (n : ℕ) (ws : List ℕ) (i : ℕ) where
+  mask-below : (c : ℕ) → placeMask n (below ws (suc i) c) ≡ cond (eqb (getD ws i 0) c) (bitOr (placeMask n (below ws i c)) (2 ^ mirror n i)) (placeMask n (below ws i c))
   mask-below c =
       let e : 0 + i ≡ i = omega arith in
-      ap (λ (l : List ℕ). maskOf (filter (λ a. eqb (getD ws a 0) c) l)) (from-last 0 i ∙ ap (λ (x : ℕ). from 0 i ++ (x ∷ [])) e)
-      ∙ ap maskOf (filter-last (λ a. eqb (getD ws a 0) c) (from 0 i) i)
-      ∙ mask-last-atom (below ws i c) i (eqb (getD ws i 0) c)
+      ap (λ (l : List ℕ). placeMask n (filter (λ a. eqb (getD ws a 0) c) l)) (from-last 0 i ∙ ap (λ (x : ℕ). from 0 i ++ (x ∷ [])) e)
+      ∙ ap (placeMask n) (filter-last (λ a. eqb (getD ws a 0) c) (from 0 i) i)
+      ∙ mask-last-atom n (below ws i c) i (eqb (getD ws i 0) c)
 
 -- one class of many gets an atom
 
@@ -169,8 +170,8 @@ module _ (f g : ℕ → ℕ) (w bit : ℕ) (law : (c : ℕ) → g c ≡ cond (eq
 module _ (words : List ℕ) where
   pub record Noting (ks : List ℕ) (fixedMask i : ℕ) : Type 0 where
     pub inside : i ≤ length words
-    pub classes : ks ≡ map (λ c. maskOf (below words i c)) (from 1 classLimit)
-    pub fixed-is : fixedMask ≡ maskOf (below words i fixed)
+    pub classes : ks ≡ map (λ c. placeMask (length words) (below words i c)) (from 1 classLimit)
+    pub fixed-is : fixedMask ≡ placeMask (length words) (below words i fixed)
 
   pub notes-begin : (ks : List ℕ) → ks ≡ replicate classLimit 0 → Noting ks 0 0
   unfolding maskOf
@@ -178,24 +179,24 @@ module _ (words : List ℕ) where
 
   module _ (ks : List ℕ) (x i : ℕ) (h : Noting ks x i) where
     pub notes-length : length ks ≡ classLimit
-    notes-length = ap length (h .classes) ∙ length-map (from 1 classLimit) (λ c. maskOf (below words i c))
+    notes-length = ap length (h .classes) ∙ length-map (from 1 classLimit) (λ c. placeMask (length words) (below words i c))
 
-    pub notes-go-on : (ks′ : List ℕ) (y b : ℕ) → i < length words → b ≡ 2 ^ i
+    pub notes-go-on : (ks′ : List ℕ) (y b : ℕ) → i < length words → b ≡ 2 ^ mirror (length words) i
         → ks′ ≡ noted (getD words i 0) b ks → y ≡ cond (eqb (getD words i 0) fixed) b 0 → Noting ks′ (bitOr x y) (i + 1)
     notes-go-on ks′ y b l e p q =
         let s : suc i ≡ i + 1 = omega arith in
         subst (λ (j : ℕ). Noting ks′ (bitOr x y) j) s (record {
           inside = omega arith;
           classes = p ∙ ap₂ (noted (getD words i 0)) e (h .classes)
-              ∙ noted-classes (λ c. maskOf (below words i c)) (λ c. maskOf (below words (suc i) c)) (getD words i 0) (2 ^ i) (mask-below words i);
-          fixed-is = ap₂ bitOr (h .fixed-is) (q ∙ ap (λ (z : ℕ). cond (eqb (getD words i 0) fixed) z 0) e) ∙ join (eqb (getD words i 0) fixed) ∙ sym (mask-below words i fixed);
+              ∙ noted-classes (λ c. placeMask (length words) (below words i c)) (λ c. placeMask (length words) (below words (suc i) c)) (getD words i 0) (2 ^ mirror (length words) i) (mask-below (length words) words i);
+          fixed-is = ap₂ bitOr (h .fixed-is) (q ∙ ap (λ (z : ℕ). cond (eqb (getD words i 0) fixed) z 0) e) ∙ join (eqb (getD words i 0) fixed) ∙ sym (mask-below (length words) words i fixed);
         })
       where
-        join : (p : Bool) → bitOr (maskOf (below words i fixed)) (cond p (2 ^ i) 0) ≡ cond p (bitOr (maskOf (below words i fixed)) (2 ^ i)) (maskOf (below words i fixed))
+        join : (p : Bool) → bitOr (placeMask (length words) (below words i fixed)) (cond p (2 ^ mirror (length words) i) 0) ≡ cond p (bitOr (placeMask (length words) (below words i fixed)) (2 ^ mirror (length words) i)) (placeMask (length words) (below words i fixed))
         join true = refl
-        join false = or-zero-r (maskOf (below words i fixed))
+        join false = or-zero-r (placeMask (length words) (below words i fixed))
 
-    pub notes-end : length words ≤ i → (ks ≡ classMasks words 1 classLimit) × (x ≡ maskOf (ofClass words fixed))
+    pub notes-end : length words ≤ i → (ks ≡ classMasks words 1 classLimit) × (x ≡ placeMask (length words) (ofClass words fixed))
     notes-end l =
         let e : i ≡ length words = omega (arith, h .inside) in
-        (h .classes ∙ ap (λ (j : ℕ). map (λ c. maskOf (below words j c)) (from 1 classLimit)) e, h .fixed-is ∙ ap (λ (j : ℕ). maskOf (below words j fixed)) e)
+        (h .classes ∙ ap (λ (j : ℕ). map (λ c. placeMask (length words) (below words j c)) (from 1 classLimit)) e, h .fixed-is ∙ ap (λ (j : ℕ). placeMask (length words) (below words j fixed)) e)

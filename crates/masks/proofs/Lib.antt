@@ -13,3 +13,4 @@ pub mod VerdictMasks
 pub mod CheckedStore
 pub mod FilledMasks
 pub mod Guarding
+pub mod AnswersAt

@@ -12,11 +12,11 @@ use lib.Bits.{bitAnd, bitOr, or-zero-l, or-zero-r}
 use lib.ListN.{length, getD, take, drop, set, length-set, drop-of-length-le}
 use lib.Seq.{drop-cons, drop-drop, getD-drop, drop-set-lt, take-suc-set, append-snoc}
 use borrow.Author.Tests.{ne-eqb, eq-eqb}
-use Rattle.kinds.specs.Limits.{walkAtoms}
 use Rattle.rules.specs.Lists.{All, keep}
 use Rattle.rules.proofs.Lists.{all-at}
 use Rattle.rules.specs.Rules.{countIf}
-use Rattle.masks.specs.Masks.{maskOf, firstM, agreeM, withinM, sparesM, gatherCare, gatherWant}
+use Rattle.places.specs.Places.{mirror}
+use Rattle.masks.specs.Masks.{maskOf, placeMask, firstM, agreeM, withinM, sparesM, gatherCare, gatherWant}
 use Rattle.masks.proofs.Bits.{bit, bit-or, ext}
 
 -- 1 << n in a u64
@@ -36,23 +36,23 @@ or-assoc a b c = ext _ _ (λ i.
     max-assoc : (x y z : ℕ) → max (max x y) z ≡ max x (max y z)
     max-assoc x y z = omega arith
 
-module _ (xs : List ℕ) where
-  pub atom-below : All (λ a. a < walkAtoms) xs → (i x : ℕ) → i < length xs → x ≡ getD xs i 0 → x < walkAtoms
-  atom-below h i x l e = subst (λ (y : ℕ). y < walkAtoms) (sym e) (all-at (λ a. a < walkAtoms) 0 xs h i l)
+module _ (n : ℕ) (xs : List ℕ) where
+  pub atom-below : All (λ a. a < n) xs → (i x : ℕ) → i < length xs → x ≡ getD xs i 0 → x < n
+  atom-below h i x l e = subst (λ (y : ℕ). y < n) (sym e) (all-at (λ a. a < n) 0 xs h i l)
 
-  pub mask-first : maskOf xs ≡ bitOr 0 (maskOf xs)
-  mask-first = sym (or-zero-l (maskOf xs))
+  pub mask-first : placeMask n xs ≡ bitOr 0 (placeMask n xs)
+  mask-first = sym (or-zero-l (placeMask n xs))
 
-  pub mask-more : (m i b : ℕ) → i < length xs → b ≡ 2 ^ getD xs i 0 → maskOf xs ≡ bitOr m (maskOf (drop i xs)) → maskOf xs ≡ bitOr (bitOr m b) (maskOf (drop (i + 1) xs))
+  pub mask-more : (m i b : ℕ) → i < length xs → b ≡ 2 ^ mirror n (getD xs i 0) → placeMask n xs ≡ bitOr m (placeMask n (drop i xs)) → placeMask n xs ≡ bitOr (bitOr m b) (placeMask n (drop (i + 1) xs))
   unfolding maskOf
   mask-more m i b h q e =
-      e ∙ ap (λ (l : List ℕ). bitOr m (maskOf l)) (drop-cons xs i 0 h)
-      ∙ sym (or-assoc m (2 ^ getD xs i 0) (maskOf (drop (suc i) xs)))
-      ∙ ap₂ (λ (z k : ℕ). bitOr (bitOr m z) (maskOf (drop k xs))) (sym q) (sym (add-one i))
+      e ∙ ap (λ (l : List ℕ). bitOr m (placeMask n l)) (drop-cons xs i 0 h)
+      ∙ sym (or-assoc m (2 ^ mirror n (getD xs i 0)) (placeMask n (drop (suc i) xs)))
+      ∙ ap₂ (λ (z k : ℕ). bitOr (bitOr m z) (placeMask n (drop k xs))) (sym q) (sym (add-one i))
 
-  pub mask-last : (m i : ℕ) → length xs ≤ i → maskOf xs ≡ bitOr m (maskOf (drop i xs)) → m ≡ maskOf xs
+  pub mask-last : (m i : ℕ) → length xs ≤ i → placeMask n xs ≡ bitOr m (placeMask n (drop i xs)) → m ≡ placeMask n xs
   unfolding maskOf
-  mask-last m i h e = sym (e ∙ ap (λ (l : List ℕ). bitOr m (maskOf l)) (drop-of-length-le xs h) ∙ or-zero-r m)
+  mask-last m i h e = sym (e ∙ ap (λ (l : List ℕ). bitOr m (placeMask n l)) (drop-of-length-le xs h) ∙ or-zero-r m)
 
 -- the first broken rule, one rule further
 

@@ -9,14 +9,13 @@ use native.Mathlib.Omega.{arith}
 use lib.Bits.{bitOr}
 use lib.ListN.{length, getD, take, drop, set, length-set, length-map, length-drop}
 use lib.Seq.{drop-cons, drop-drop, set-at, length-take-le, append-snoc, take-suc, take-all, take-at}
-use Rattle.kinds.specs.Limits.{walkAtoms}
 use Rattle.rules.specs.Lists.{All, over}
 use Rattle.rules.specs.Rules.{Rule}
 use Rattle.rules.proofs.Lists.{part-sized, part-rest}
 use Rattle.stores.specs.RuleStore.{heads, bodies, nots, places, ruleAt, rulesFrom}
 use Rattle.stores.specs.StoredRules.{StoredRule, StoredRules}
 use Rattle.stores.proofs.RuleStores.{rules-count}
-use Rattle.masks.specs.Masks.{maskOf, keptBy, breakable, careOf, wantOf}
+use Rattle.masks.specs.Masks.{placeMask, keptBy, breakable, careOf, wantOf, careAt, wantAt}
 
 -- one rule, its three lists as the code takes them
 
@@ -42,44 +41,44 @@ module _ (ws : List ℕ) where
   unfolding ruleAt
   nots-are = part-sized (3 + heads ws + bodies ws) (nots ws) (drop (3 + heads ws + bodies ws) ws)
 
-  module _ (h : StoredRule walkAtoms ws) where
-    pub heads-below : All (λ a. a < walkAtoms) headPart
-    heads-below = subst (All (λ a. a < walkAtoms)) (sym head-is) (h .heads)
+  module _ (n : ℕ) (h : StoredRule n ws) where
+    pub heads-below : All (λ a. a < n) headPart
+    heads-below = subst (All (λ a. a < n)) (sym head-is) (h .heads)
 
-    pub bodies-below : All (λ a. a < walkAtoms) bodyPart
-    bodies-below = subst (All (λ a. a < walkAtoms)) (sym body-is) (h .bodies)
+    pub bodies-below : All (λ a. a < n) bodyPart
+    bodies-below = subst (All (λ a. a < n)) (sym body-is) (h .bodies)
 
-    pub nots-below : All (λ a. a < walkAtoms) notPart
-    nots-below = subst (All (λ a. a < walkAtoms)) (sym nots-are) (h .nots)
+    pub nots-below : All (λ a. a < n) notPart
+    nots-below = subst (All (λ a. a < n)) (sym nots-are) (h .nots)
 
   -- its masks, and the two tests
-  module _ (m hm bm nm : ℕ) (eh : hm ≡ maskOf headPart) (eb : bm ≡ maskOf bodyPart) (en : nm ≡ maskOf notPart) (p q : Bool) (ep : p ≡ keptBy m nm) (eq : q ≡ breakable hm bm) where
-    care-is : cond (p && q) (bitOr hm bm) 0 ≡ careOf m (ruleAt ws)
+  module _ (n m hm bm nm : ℕ) (eh : hm ≡ placeMask n headPart) (eb : bm ≡ placeMask n bodyPart) (en : nm ≡ placeMask n notPart) (p q : Bool) (ep : p ≡ keptBy m nm) (eq : q ≡ breakable hm bm) where
+    care-is : cond (p && q) (bitOr hm bm) 0 ≡ careAt n m (ruleAt ws)
     unfolding careOf
     care-is =
         (λ i. cond (ep i && eq i) (bitOr hm bm) 0)
-        ∙ λ i. cond (keptBy m ((en ∙ ap maskOf nots-are) i) && breakable ((eh ∙ ap maskOf head-is) i) ((eb ∙ ap maskOf body-is) i)) (bitOr ((eh ∙ ap maskOf head-is) i) ((eb ∙ ap maskOf body-is) i)) 0
+        ∙ λ i. cond (keptBy m ((en ∙ ap (placeMask n) nots-are) i) && breakable ((eh ∙ ap (placeMask n) head-is) i) ((eb ∙ ap (placeMask n) body-is) i)) (bitOr ((eh ∙ ap (placeMask n) head-is) i) ((eb ∙ ap (placeMask n) body-is) i)) 0
 
-    want-is : cond (p && q) bm 1 ≡ wantOf m (ruleAt ws)
+    want-is : cond (p && q) bm 1 ≡ wantAt n m (ruleAt ws)
     unfolding wantOf
     want-is =
         (λ i. cond (ep i && eq i) bm 1)
-        ∙ λ i. cond (keptBy m ((en ∙ ap maskOf nots-are) i) && breakable ((eh ∙ ap maskOf head-is) i) ((eb ∙ ap maskOf body-is) i)) ((eb ∙ ap maskOf body-is) i) 1
+        ∙ λ i. cond (keptBy m ((en ∙ ap (placeMask n) nots-are) i) && breakable ((eh ∙ ap (placeMask n) head-is) i) ((eb ∙ ap (placeMask n) body-is) i)) ((eb ∙ ap (placeMask n) body-is) i) 1
 
-    never : (p && q) ≡ false → (0 ≡ careOf m (ruleAt ws)) × (1 ≡ wantOf m (ruleAt ws))
+    never : (p && q) ≡ false → (0 ≡ careAt n m (ruleAt ws)) × (1 ≡ wantAt n m (ruleAt ws))
     never e = (ap (λ (b : Bool). cond b (bitOr hm bm) 0) (sym e) ∙ care-is, ap (λ (b : Bool). cond b bm 1) (sym e) ∙ want-is)
 
-    pub read-unbreakable : q ≡ false → (0 ≡ careOf m (ruleAt ws)) × (1 ≡ wantOf m (ruleAt ws))
+    pub read-unbreakable : q ≡ false → (0 ≡ careAt n m (ruleAt ws)) × (1 ≡ wantAt n m (ruleAt ws))
     read-unbreakable e = never (ap (λ (b : Bool). p && b) e ∙ and-false p)
       where
         and-false : (b : Bool) → (b && false) ≡ false
         and-false true = refl
         and-false false = refl
 
-    pub read-dropped : p ≡ false → (0 ≡ careOf m (ruleAt ws)) × (1 ≡ wantOf m (ruleAt ws))
+    pub read-dropped : p ≡ false → (0 ≡ careAt n m (ruleAt ws)) × (1 ≡ wantAt n m (ruleAt ws))
     read-dropped e = never (ap (λ (b : Bool). b && q) e)
 
-    pub read-asked : p ≡ true → q ≡ true → (bitOr hm bm ≡ careOf m (ruleAt ws)) × (bm ≡ wantOf m (ruleAt ws))
+    pub read-asked : p ≡ true → q ≡ true → (bitOr hm bm ≡ careAt n m (ruleAt ws)) × (bm ≡ wantAt n m (ruleAt ws))
     read-asked e f =
         let t : (p && q) ≡ true = ap₂ (λ (x y : Bool). x && y) e f in
         (ap (λ (b : Bool). cond b (bitOr hm bm) 0) (sym t) ∙ care-is, ap (λ (b : Bool). cond b bm 1) (sym t) ∙ want-is)
@@ -104,23 +103,23 @@ part-more d s j v hd hs e =
     ∙ ap (λ (l : List ℕ). l ++ drop (suc j) d) (sym (take-suc s j 0 hs))
     ∙ ap (λ (k : ℕ). take k s ++ drop k d) (sym (add-one j))
 
-module _ (ws : List ℕ) (rules m : ℕ) (c₀ w₀ : List ℕ) where
+module _ (ws : List ℕ) (rules n m : ℕ) (c₀ w₀ : List ℕ) where
   abbrev All-rules : List (Rule ℕ)
   All-rules = rulesFrom rules ws
 
   pub record Filling (cs wants : List ℕ) (at j : ℕ) : Type 0 where
     pub inside : j ≤ rules
-    pub stored : StoredRules walkAtoms (rules - j) (drop at ws)
+    pub stored : StoredRules n (rules - j) (drop at ws)
     pub ends : drop j (rulesFrom rules ws) ≡ rulesFrom (rules - j) (drop at ws)
-    pub care-part : cs ≡ part c₀ (map (careOf m) (rulesFrom rules ws)) j
-    pub want-part : wants ≡ part w₀ (map (wantOf m) (rulesFrom rules ws)) j
+    pub care-part : cs ≡ part c₀ (map (careAt n m) (rulesFrom rules ws)) j
+    pub want-part : wants ≡ part w₀ (map (wantAt n m) (rulesFrom rules ws)) j
     pub same-care : length cs ≡ length c₀
     pub same-want : length wants ≡ length w₀
 
-  pub fill-begins : StoredRules walkAtoms rules ws → Filling c₀ w₀ 0 0
+  pub fill-begins : StoredRules n rules ws → Filling c₀ w₀ 0 0
   fill-begins h = record {
     inside = omega arith;
-    stored = subst (λ (k : ℕ). StoredRules walkAtoms k ws) (sym (sub-zero rules)) h;
+    stored = subst (λ (k : ℕ). StoredRules n k ws) (sym (sub-zero rules)) h;
     ends = ap (λ (k : ℕ). rulesFrom k ws) (sym (sub-zero rules));
     care-part = refl;
     want-part = refl;
@@ -136,11 +135,11 @@ module _ (ws : List ℕ) (rules m : ℕ) (c₀ w₀ : List ℕ) where
     less : rules - j ≡ suc (rules - (j + 1))
     less = omega arith
 
-    stored-here : StoredRule walkAtoms (drop at ws) × StoredRules walkAtoms (rules - (j + 1)) (drop (3 + places (drop at ws)) (drop at ws))
-    stored-here = subst (λ (k : ℕ). StoredRules walkAtoms k (drop at ws)) less (f .stored)
+    stored-here : StoredRule n (drop at ws) × StoredRules n (rules - (j + 1)) (drop (3 + places (drop at ws)) (drop at ws))
+    stored-here = subst (λ (k : ℕ). StoredRules n k (drop at ws)) less (f .stored)
 
-    pub fill-rule : StoredRule walkAtoms front
-    fill-rule = subst (StoredRule walkAtoms) (sym (part-rest at ws)) (stored-here .0)
+    pub fill-rule : StoredRule n front
+    fill-rule = subst (StoredRule n) (sym (part-rest at ws)) (stored-here .0)
 
     pub fill-place : at + (3 + places front) ≤ length ws
     fill-place = omega (arith, stored-here .0 .inside, length-drop at ws, ap places (part-rest at ws))
@@ -167,16 +166,16 @@ module _ (ws : List ℕ) (rules m : ℕ) (c₀ w₀ : List ℕ) where
     in-map : (g : Rule ℕ → ℕ) → j < length (map g All-rules)
     in-map g = omega (arith, length-map All-rules g, in-rules)
 
-    rest-stored : StoredRules walkAtoms (rules - (j + 1)) (drop (at + (3 + places front)) ws)
-    rest-stored = subst (StoredRules walkAtoms (rules - (j + 1))) (drop-drop (3 + places (drop at ws)) at ws ∙ ap (λ (x : List ℕ). drop (at + (3 + places x)) ws) (sym (part-rest at ws))) (stored-here .1)
+    rest-stored : StoredRules n (rules - (j + 1)) (drop (at + (3 + places front)) ws)
+    rest-stored = subst (StoredRules n (rules - (j + 1))) (drop-drop (3 + places (drop at ws)) at ws ∙ ap (λ (x : List ℕ). drop (at + (3 + places x)) ws) (sym (part-rest at ws))) (stored-here .1)
 
-    pub fill-more : (rules ≤ length c₀) × (rules ≤ length w₀) → (c w size : ℕ) → size ≡ 3 + places front → (c ≡ careOf m (ruleAt front)) × (w ≡ wantOf m (ruleAt front)) → Filling (set cs j c) (set wants j w) (at + size) (j + 1)
+    pub fill-more : (rules ≤ length c₀) × (rules ≤ length w₀) → (c w size : ℕ) → size ≡ 3 + places front → (c ≡ careAt n m (ruleAt front)) × (w ≡ wantAt n m (ruleAt front)) → Filling (set cs j c) (set wants j w) (at + size) (j + 1)
     fill-more long c w size e r = subst (λ (x : ℕ). Filling (set cs j c) (set wants j w) (at + x) (j + 1)) (sym e) (record {
       inside = omega arith;
       stored = rest-stored;
       ends = after;
-      care-part = ap (λ (d : List ℕ). set d j c) (f .care-part) ∙ part-more c₀ (map (careOf m) All-rules) j c (omega arith) (in-map (careOf m)) (r .0 ∙ entry (careOf m));
-      want-part = ap (λ (d : List ℕ). set d j w) (f .want-part) ∙ part-more w₀ (map (wantOf m) All-rules) j w (omega arith) (in-map (wantOf m)) (r .1 ∙ entry (wantOf m));
+      care-part = ap (λ (d : List ℕ). set d j c) (f .care-part) ∙ part-more c₀ (map (careAt n m) All-rules) j c (omega arith) (in-map (careAt n m)) (r .0 ∙ entry (careAt n m));
+      want-part = ap (λ (d : List ℕ). set d j w) (f .want-part) ∙ part-more w₀ (map (wantAt n m) All-rules) j w (omega arith) (in-map (wantAt n m)) (r .1 ∙ entry (wantAt n m));
       same-care = length-set cs j c ∙ f .same-care;
       same-want = length-set wants j w ∙ f .same-want;
     })
@@ -190,11 +189,11 @@ module _ (ws : List ℕ) (rules m : ℕ) (c₀ w₀ : List ℕ) where
       ap₂ (λ (x : List ℕ) (k : ℕ). x ++ drop k d) (take-all rules (map g All-rules) (omega arith)) (sym e)
 
   pub fill-ends : (cs wants : List ℕ) (at j : ℕ) → Filling cs wants at j → rules ≤ j
-      → (cs ≡ over (map (careOf m) (rulesFrom rules ws)) c₀) × (wants ≡ over (map (wantOf m) (rulesFrom rules ws)) w₀)
+      → (cs ≡ over (map (careAt n m) (rulesFrom rules ws)) c₀) × (wants ≡ over (map (wantAt n m) (rulesFrom rules ws)) w₀)
   fill-ends cs wants at j f l =
       let e : j ≡ rules = omega (arith, f .inside) in (
-        f .care-part ∙ ap (part c₀ (map (careOf m) All-rules)) e ∙ whole c₀ (careOf m),
-        f .want-part ∙ ap (part w₀ (map (wantOf m) All-rules)) e ∙ whole w₀ (wantOf m),
+        f .care-part ∙ ap (part c₀ (map (careAt n m) All-rules)) e ∙ whole c₀ (careAt n m),
+        f .want-part ∙ ap (part w₀ (map (wantAt n m) All-rules)) e ∙ whole w₀ (wantAt n m),
       )
 
 -- the front of what was filled

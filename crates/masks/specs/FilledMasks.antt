@@ -11,10 +11,12 @@ use Rattle.rules.specs.Preferred.{ofClass}
 use Rattle.stores.specs.Program.{Program, ProgramForm}
 use Rattle.walks.specs.Walk.{firstState, cappedNext}
 use Rattle.walks.specs.declared.answers.NextState.{NextState}
-use Rattle.masks.specs.Masks.{maskOf, careOf, wantOf, classMasks, preferredM}
+use Rattle.walks.specs.declared.answers.NextState.the-variants.{State, Nothing, Spent, Refused}
+use Rattle.places.specs.Places.{setAt}
+use Rattle.masks.specs.Masks.{placeMask, careAt, wantAt, classMasks, preferredM}
 use Rattle.masks.specs.declared.masks.Sizes.{Sizes}
 
--- the masks of p stand at the front: two for each rule, one for each class; the sizes say how many
+-- the masks of p, as they are met by places, stand at the front: two for each rule, one for each class; the sizes say how many
 pub record MasksOf (p : Program) (care want classes : List ℕ) (z : Sizes) : Type 0 where
   pub form : ProgramForm p
   pub is-preference : p .kind ≡ Preference
@@ -22,10 +24,10 @@ pub record MasksOf (p : Program) (care want classes : List ℕ) (z : Sizes) : Ty
   pub atoms-are : z .atoms ≡ p .atoms
   pub classes-are : z .classes ≡ p .classes
   pub rules-are : z .rules ≡ length (p .rules)
-  pub fixed-is : z .fixed ≡ maskOf (ofClass (p .words) fixed)
+  pub fixed-is : z .fixed ≡ placeMask (length (p .words)) (ofClass (p .words) fixed)
   pub free-is : z .free + ones (z .fixed) ≡ z .atoms
-  pub care-front : take (z .rules) care ≡ map (careOf 0) (p .rules)
-  pub want-front : take (z .rules) want ≡ map (wantOf 0) (p .rules)
+  pub care-front : take (z .rules) care ≡ map (careAt (p .atoms) 0) (p .rules)
+  pub want-front : take (z .rules) want ≡ map (wantAt (p .atoms) 0) (p .rules)
   pub class-front : take (z .classes) classes ≡ classMasks (p .words) 1 (p .classes)
 
 -- what the walks ask of the masks of the rules
@@ -35,6 +37,13 @@ pub record MasksFit (care want : List ℕ) (z : Sizes) : Type 0 where
   pub free-is : z .free + ones (z .fixed) ≡ z .atoms
   pub fixed-fits : z .fixed < 2 ^ z .atoms
 
--- the next state over masks
+-- the next state over masks and places
 unfoldable pub nextMasks : List ℕ → List ℕ → List ℕ → Sizes → ℕ → ℕ → NextState
 nextMasks cs ws ks z start budget = cappedNext budget (firstState (preferredM cs ws ks (z .fixed) (z .atoms)) (from start (2 ^ z .atoms - start)) 0)
+
+-- an answer over places as one over sets of n atoms
+unfoldable pub nextAt : ℕ → NextState → NextState
+nextAt n (State p u) = State (setAt n p) u
+nextAt n (Nothing u) = Nothing u
+nextAt n (Spent u) = Spent u
+nextAt n (Refused f) = Refused f

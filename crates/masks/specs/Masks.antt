@@ -1,4 +1,4 @@
--- The verdicts over masks: a list of atoms is the number of its set, and a rule is two masks.
+-- The verdicts over masks and places: a list of atoms is one mask, and a rule is two.
 use Prim.Native.Nat.{ℕ, _-_, _^_}
 use mathlib.Core.Bool.{Bool, false, not, cond, _&&_}
 use mathlib.Core.List.{List, [], _∷_, map}
@@ -7,11 +7,12 @@ use lib.Bits.{bitAnd, bitOr, bitXor}
 use lib.ListN.{length, getD, set}
 use Rattle.kinds.specs.Limits.{classLimit}
 use Rattle.rules.specs.Lists.{keep, filter, from}
-use Rattle.rules.specs.Rules.{Rule, countIf}
+use Rattle.rules.specs.Rules.{Rule, rename, countIf}
 use Rattle.rules.specs.Preferred.{ofClass}
+use Rattle.places.specs.Places.{mirror, setAt}
 use Rattle.walks.specs.Walk.{search}
 use Rattle.walks.specs.declared.answers.Verdict.{Verdict}
-use Rattle.walks.specs.declared.answers.Verdict.the-variants.{Broken}
+use Rattle.walks.specs.declared.answers.Verdict.the-variants.{Yes, Broken, Beaten, Spent, Refused}
 
 unfoldable pub maskOf : List ℕ → ℕ
 maskOf [] = 0
@@ -35,6 +36,16 @@ careOf m r = cond (asked m r) (bitOr (maskOf (r .head)) (maskOf (r .body))) 0
 unfoldable pub wantOf : ℕ → Rule ℕ → ℕ
 wantOf m r = cond (asked m r) (maskOf (r .body)) 1
 
+-- The walks go over places (document 02, W-206), so the masks have atom i of n at bit n-1-i.
+abbrev pub placeMask : ℕ → List ℕ → ℕ
+placeMask n xs = maskOf (map (mirror n) xs)
+
+abbrev pub careAt : ℕ → ℕ → Rule ℕ → ℕ
+careAt n m r = careOf m (rename (mirror n) r)
+
+abbrev pub wantAt : ℕ → ℕ → Rule ℕ → ℕ
+wantAt n m r = wantOf m (rename (mirror n) r)
+
 -- the number of the first rule broken at s, or the number of rules
 unfoldable pub firstM : ℕ → List ℕ → List ℕ → ℕ
 firstM s [] ws = 0
@@ -46,7 +57,7 @@ modelM cs ws s = eqb (firstM s cs ws) (length cs)
 
 -- the masks of the classes from class i on, k of them
 abbrev pub classMasks : List ℕ → ℕ → ℕ → List ℕ
-classMasks ws i k = map (λ c. maskOf (ofClass ws c)) (from i k)
+classMasks ws i k = map (λ c. placeMask (length ws) (ofClass ws c)) (from i k)
 
 -- the class masks with the atom of mask `bit` put into the class that its class word names
 unfoldable pub noted : ℕ → ℕ → List ℕ → List ℕ
@@ -77,6 +88,14 @@ preferredWalkM cs ws ks f n m = search (beatsM cs ws ks m) (filter (λ s. agreeM
 
 unfoldable pub preferredM : List ℕ → List ℕ → List ℕ → ℕ → ℕ → ℕ → Verdict
 preferredM cs ws ks f n m = cond (modelM cs ws m) (preferredWalkM cs ws ks f n m) (Broken (firstM m cs ws))
+
+-- an answer over places as one over sets of n atoms
+unfoldable pub verdictAt : ℕ → Verdict → Verdict
+verdictAt n (Yes u) = Yes u
+verdictAt n (Broken i) = Broken i
+verdictAt n (Beaten p u) = Beaten (setAt n p) u
+verdictAt n (Spent u) = Spent u
+verdictAt n (Refused f) = Refused f
 
 -- the walk over m's proper subsets
 abbrev pub subsetM : ℕ → ℕ → Bool

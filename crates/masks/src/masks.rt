@@ -1,4 +1,4 @@
-// The masks of a checked store: two for each rule, one for each class, one for the fixed atoms.
+// The masks of a checked store, as places meet them: two for each rule, one for each class, one for the fixed atoms.
 use stores::roles::Role;
 use stores::roles::role_of;
 use stores::rule_words::rule_size;
@@ -11,7 +11,7 @@ ghost use lib.ListN.{length, take, replicate};
 ghost use Rattle.kinds.specs.Limits.{classLimit, walkAtoms, fixed as fixedWord, ruleLimit};
 ghost use Rattle.rules.specs.Preferred.{ofClass};
 ghost use Rattle.stores.specs.RuleStore.{rulesFrom, StoreOf, decode, ruleAt};
-ghost use Rattle.masks.specs.Masks.{maskOf, careOf, wantOf, noted, classMasks, firstM, gatherCare, gatherWant, keptBy, breakable};
+ghost use Rattle.masks.specs.Masks.{placeMask, careAt, wantAt, noted, classMasks, firstM, gatherCare, gatherWant, keptBy, breakable};
 ghost use Rattle.kinds.specs.declared.limits.Kind.the-variants.{Preference as KindPreference};
 ghost use Rattle.rules.specs.Lists.{All, over};
 ghost use Rattle.stores.specs.StoredRules.{StoredRule, StoredRules};
@@ -46,7 +46,7 @@ pub fn least(a: u64, b: u64) -> u64
     b
 }
 
-// The mask of one atom.
+// One bit.
 pub fn bit_of(atom: usize) -> u64
     requires { ⌜ atom < walkAtoms ⌝ }
     ensures { λ r. ⌜ r ≡ 2 ^ atom ⌝ }
@@ -54,14 +54,16 @@ pub fn bit_of(atom: usize) -> u64
     1u64 << atom
 }
 
-fn mask_of(atoms: &[u16]) -> u64
-    requires { ⌜ All (λ a. a < walkAtoms) (now atoms) ⌝ }
-    ensures { λ r. ⌜ r ≡ maskOf (now (atoms .entry)) ⌝ }
+// The mask of some of n atoms.
+fn mask_of(atoms: &[u16], n: usize) -> u64
+    requires { ⌜ n ≤ walkAtoms ⌝ }
+    requires { ⌜ All (λ a. a < n) (now atoms) ⌝ }
+    ensures { λ r. ⌜ r ≡ placeMask n (now (atoms .entry)) ⌝ }
 {
     let mut m: u64 = 0;
     let mut i = 0;
     while i < atoms.len() {
-        m |= bit_of(wide(atoms[i]));
+        m |= bit_of(n - 1 - wide(atoms[i]));
         i += 1;
     }
     m
@@ -81,17 +83,18 @@ fn is_breakable(head: u64, body: u64) -> bool
     head & body == 0
 }
 
-// The rule at the front, of the reduct by `of`.
-fn read_rule(words: &[u16], of: u64) -> RuleMasks
-    requires { ⌜ StoredRule walkAtoms (now words) ⌝ }
-    ensures { λ r. ⌜ (r .care ≡ careOf of (ruleAt (now (words .entry)))) × (r .want ≡ wantOf of (ruleAt (now (words .entry)))) ⌝ }
+// The rule at the front, of the reduct by `of`, a place among n atoms.
+fn read_rule(words: &[u16], of: u64, n: usize) -> RuleMasks
+    requires { ⌜ n ≤ walkAtoms ⌝ }
+    requires { ⌜ StoredRule n (now words) ⌝ }
+    ensures { λ r. ⌜ (r .care ≡ careAt n of (ruleAt (now (words .entry)))) × (r .want ≡ wantAt n of (ruleAt (now (words .entry)))) ⌝ }
 {
     let body = 3 + words[0] as usize;
     let not = body + words[1] as usize;
     let end = not + words[2] as usize;
-    let heads = mask_of(&words[3..body]);
-    let bodies = mask_of(&words[body..not]);
-    let nots = mask_of(&words[not..end]);
+    let heads = mask_of(&words[3..body], n);
+    let bodies = mask_of(&words[body..not], n);
+    let nots = mask_of(&words[not..end], n);
     if !is_kept(of, nots) {
         return RuleMasks { care: 0, want: 1 };
     }
@@ -104,18 +107,26 @@ fn read_rule(words: &[u16], of: u64) -> RuleMasks
     }
 }
 
-// Fills the two masks of each rule, of the reduct by `of`; the first rule is at the front.
-pub fn fill_rules(words: &[u16], rules: usize, of: u64, care: &mut [u64], want: &mut [u64])
-    requires { ⌜ StoredRules walkAtoms rules (now words) ⌝ }
+// Fills the two masks of each rule, of the reduct by `of`, a place among n atoms; the first rule is at the front.
+pub fn fill_rules(
+    words: &[u16],
+    rules: usize,
+    of: u64,
+    n: usize,
+    care: &mut [u64],
+    want: &mut [u64],
+)
+    requires { ⌜ n ≤ walkAtoms ⌝ }
+    requires { ⌜ StoredRules n rules (now words) ⌝ }
     requires { ⌜ (rules ≤ length (now care)) × (rules ≤ length (now want)) ⌝ }
-    ensures { λ _. ⌜ now (care .exit) ≡ over (map (careOf of) (rulesFrom rules (now (words .entry)))) (now (care .entry)) ⌝ }
-    ensures { λ _. ⌜ now (want .exit) ≡ over (map (wantOf of) (rulesFrom rules (now (words .entry)))) (now (want .entry)) ⌝ }
+    ensures { λ _. ⌜ now (care .exit) ≡ over (map (careAt n of) (rulesFrom rules (now (words .entry)))) (now (care .entry)) ⌝ }
+    ensures { λ _. ⌜ now (want .exit) ≡ over (map (wantAt n of) (rulesFrom rules (now (words .entry)))) (now (want .entry)) ⌝ }
 {
     let mut from = 0;
     let mut j = 0;
     while j < rules {
         let size = rule_size(&words[from..]);
-        let rule = read_rule(&words[from..], of);
+        let rule = read_rule(&words[from..], of, n);
         care[j] = rule.care;
         want[j] = rule.want;
         from += size;
@@ -184,12 +195,12 @@ fn fill_classes(words: &[u16], classes: &mut [u64]) -> u64
     requires { ⌜ length (now words) ≤ walkAtoms ⌝ }
     requires { ⌜ now classes ≡ replicate classLimit 0 ⌝ }
     ensures { λ r. ⌜ now (classes .exit) ≡ classMasks (now (words .entry)) 1 classLimit ⌝ }
-    ensures { λ r. ⌜ r ≡ maskOf (ofClass (now (words .entry)) fixedWord) ⌝ }
+    ensures { λ r. ⌜ r ≡ placeMask (length (now (words .entry))) (ofClass (now (words .entry)) fixedWord) ⌝ }
 {
     let mut fixed: u64 = 0;
     let mut i = 0;
     while i < words.len() {
-        fixed |= note_role(words[i], bit_of(i), classes);
+        fixed |= note_role(words[i], bit_of(words.len() - 1 - i), classes);
         i += 1;
     }
     fixed
@@ -208,7 +219,7 @@ pub fn fill_masks(words: &[u16], care: &mut [u64], want: &mut [u64], classes: &m
     let rules = wide(words[3]);
     let first = 4 + n;
     let fixed = fill_classes(&words[4..first], classes);
-    fill_rules(&words[first..], rules, 0, care, want);
+    fill_rules(&words[first..], rules, 0, n, care, want);
     let atoms = n as u32;
     Sizes {
         atoms: atoms,

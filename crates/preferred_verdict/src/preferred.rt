@@ -1,12 +1,14 @@
-// The preferred verdict: the walk over all sets that agree on the fixed atoms.
+// The preferred verdict: the walk over all sets that agree on the fixed atoms. Over masks a set is its place.
 use kinds::limits::Kind;
 use kinds::limits::Preference;
+use masks::answers_at::verdict_at;
 use masks::guard::Guard;
 use masks::guard::check_call;
 use masks::masks::Sizes;
 use masks::masks::fill_masks;
 use masks::masks::first_broken;
 use masks::masks::least;
+use places::turning::turned;
 use walks::answers::Verdict;
 ghost use mathlib.Core.Path.{_≡_};
 ghost use Prim.Native.Nat.{_+_, _<_, _≤_, _^_};
@@ -137,14 +139,17 @@ fn preferred_of(words: &[u16], set: u64, budget: u64) -> Verdict
     let sizes = fill_masks(words, &mut care, &mut want, &mut classes);
     let rules = sizes.rules;
     let k = sizes.classes;
-    preferred_masks(
+    let atoms = sizes.atoms;
+    let place = turned(set, atoms);
+    let verdict = preferred_masks(
         &care[..rules],
         &want[..rules],
         &classes[..k],
         sizes,
-        set,
+        place,
         budget,
-    )
+    );
+    verdict_at(verdict, atoms)
 }
 
 // Whether `set` is preferred, by the rules of a preference store.

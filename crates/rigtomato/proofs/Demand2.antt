@@ -9,7 +9,9 @@ use Rattle.stores.specs.Program.{Program}
 use Rattle.faults.specs.EarliestFault.{Accepts}
 use Rattle.faults.proofs.EarliestFault.{said-accepted}
 use Rattle.reader.proofs.RoundTrip.{accepted-form}
-use Rattle.walks.proofs.Order.{each-set-once}
+use Rattle.places.proofs.Places.{in-places}
+use Rattle.walks.proofs.Order.{ordered}
+use Rattle.walks.proofs.RisingOrder.{orders-agree}
 use Rattle.walks.proofs.Listing.{lists-preferred}
 use Rattle.answers.proofs.Judged.{judges}
 use Rattle.answers.proofs.Refusals.{print-refuses}
@@ -26,4 +28,10 @@ lists text p names short a k few =
     }
 
 pub demand-2 : Demand2
-demand-2 = record { order = each-set-once; verdicts = judges; lists = lists }
+demand-2 = record {
+  order = ordered;
+  places = in-places;
+  orders = orders-agree;
+  verdicts = judges;
+  lists = lists;
+}

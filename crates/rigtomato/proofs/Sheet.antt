@@ -11,6 +11,7 @@ use Rattle.lines.specs.Said.{start, readLines, said}
 use Rattle.pairing.specs.Atoms.{declared}
 use Rattle.pairing.specs.Steps.{step1, step2, step3, step4, step5, step6, step7, step8, step9, step10, translation}
 use Rattle.pairing.specs.Translated.{translatedRules}
+use Rattle.places.specs.Places.{place}
 use Rattle.walks.specs.Walk.{walkOrder, preferredWalk, candidates, search, capped, preferredNeeds, preferredVerdict, firstState, cappedNext, nextVerdict, preferredSets}
 use Rattle.kinds.specs.Words.{digits}
 use Rattle.answers.specs.Printed.{stateLine, totalLine}
@@ -19,7 +20,7 @@ use Rattle.answers.specs.Programs.{printed, statesPrinted}
 use Rattle.rigtomato.specs.Sheet.{rulesA, fileA, oneClass, lampFirst, darkFixed, nothing, emptyRule, oneRule, Sheet}
 
 pub sheet : Sheet
-unfolding rulesA fileA oneClass lampFirst darkFixed nothing emptyRule oneRule nameClass house? classNumber? allowed sameBytes listLine openText lines linesFrom lineLength items itemsFrom run span splitNames splitList declaredForm ruleForm formOf twice nameNumber declare addRule start readLines said declared step1 step2 step3 step4 step5 step6 step7 step8 step9 step10 translation translatedRules walkOrder preferredWalk preferredSets candidates search capped preferredNeeds preferredVerdict firstState cappedNext nextVerdict digits stateLine totalLine listing wholeListing printed statesOf statesPrinted
+unfolding rulesA fileA oneClass lampFirst darkFixed nothing emptyRule oneRule nameClass house? classNumber? allowed sameBytes listLine openText lines linesFrom lineLength items itemsFrom run span splitNames splitList declaredForm ruleForm formOf twice nameNumber declare addRule start readLines said declared step1 step2 step3 step4 step5 step6 step7 step8 step9 step10 translation translatedRules place walkOrder preferredWalk preferredSets candidates search capped preferredNeeds preferredVerdict firstState cappedNext nextVerdict digits stateLine totalLine listing wholeListing printed statesOf statesPrinted
 sheet = record {
   a-6 = refl;
   a-1 = refl;
@@ -28,6 +29,9 @@ sheet = record {
   a-1-spent = refl;
   a-1-enough = refl;
   a-listed = refl;
+  a-from-0 = refl;
+  a-from-4 = refl;
+  a-6-place = refl;
   one-class = refl;
   lamp-first = refl;
   dark-fixed = refl;

@@ -1,4 +1,4 @@
--- Demand 2 (document 01, "Verdicts"): unless the budget runs out, the verdicts are those of the theory, and every preferred state is listed once, in order.
+-- Demand 2 (document 01, "Verdicts"; document 02, W-206): unless the budget runs out, the verdicts are those of the theory, and every preferred state is listed once, in order.
 use Prim.Native.Nat.{ℕ, _≤_}
 use mathlib.Core.Path.{_≡_}
 use mathlib.Core.Logic.{_⊎_}
@@ -9,8 +9,10 @@ use Rattle.kinds.specs.declared.limits.Kind.the-variants.{Preference}
 use Rattle.stores.specs.Program.{Program}
 use Rattle.faults.specs.EarliestFault.{Accepts}
 use Rattle.walks.specs.Walk.{walkOrder, preferredSets}
-use Rattle.walks.specs.Meanings.{EachSetOnce}
+use Rattle.places.specs.Places.{InPlaces}
+use Rattle.walks.specs.Meanings.{Ordered}
 use Rattle.walks.specs.Listings.{ListsPreferred}
+use Rattle.walks.specs.RisingOrder.{OrdersAgree}
 use Rattle.answers.specs.Judged.{Judges}
 use Rattle.answers.specs.Listed.{wholeListing}
 use Rattle.answers.specs.PrintedStates.{PrintsAll, PrintsSome}
@@ -25,7 +27,10 @@ pub record Lists (text : List ℕ) (p : Program) (names : List (List ℕ)) : Typ
   pub states : ListsPreferred (p .words) (p .rules) (preferredSets (p .words) (p .rules))
 
 pub record Demand2 : Type 0 where
-  -- the order of the walks has each set once
-  pub order : (n : ℕ) → EachSetOnce n (walkOrder n)
+  -- the order of the walks has each set once, earlier ones first; a set's place says where
+  pub order : (n : ℕ) → Ordered n (walkOrder n)
+  pub places : (n : ℕ) → InPlaces n
+  -- where neither is spent, document 01's order gives the same verdicts and states
+  pub orders : OrdersAgree
   pub verdicts : (rules : List ℕ) (p : Program) (number budget : ℕ) → Judges rules p number budget
   pub lists : (text : List ℕ) (p : Program) (names : List (List ℕ)) → length text ≤ streamLimit → Accepts text p names → p .kind ≡ Preference → p .atoms ≤ walkAtoms → Lists text p names

@@ -1,4 +1,4 @@
--- The marked cases of document 01's "Sheets of known states", from the bytes of the files; the counts of translations are those of document 02, W-214.
+-- The marked cases of document 01's "Sheets of known states", from the bytes of the files; units and the order of states are those of document 02, W-206, the counts of translations those of W-214.
 use Prim.Native.Nat.{ℕ}
 use mathlib.Core.Path.{_≡_}
 use mathlib.Core.List.{List, [], _∷_, _++_}
@@ -10,7 +10,10 @@ use Rattle.rules.specs.Rules.{occurrences}
 use Rattle.lines.specs.Said.{Said, accepted, refused, said}
 use Rattle.walks.specs.declared.answers.Verdict.{Verdict}
 use Rattle.walks.specs.declared.answers.Verdict.the-variants.{Yes, Broken, Beaten, Spent, Refused}
-use Rattle.walks.specs.Walk.{preferredVerdict, preferredSets}
+use Rattle.walks.specs.declared.answers.NextState.{NextState}
+use Rattle.walks.specs.declared.answers.NextState.the-variants.{State, Nothing, Refused as NotSearched}
+use Rattle.places.specs.Places.{place}
+use Rattle.walks.specs.Walk.{preferredVerdict, nextVerdict, preferredSets}
 use Rattle.pairing.specs.Translated.{translated}
 use Rattle.answers.specs.Programs.{statesPrinted}
 
@@ -51,6 +54,11 @@ abbrev pub verdict : Said → ℕ → ℕ → Verdict
 verdict (accepted p names) set budget = preferredVerdict (p .words) (p .rules) set budget
 verdict (refused f line) set budget = Refused f
 
+-- the next state from a place on
+abbrev pub next : Said → ℕ → NextState
+next (accepted p names) start = nextVerdict (p .words) (p .rules) start budgetLimit
+next (refused f line) start = NotSearched f
+
 -- the preferred states of a text's lines
 abbrev pub states : Said → List ℕ
 states (accepted p names) = preferredSets (p .words) (p .rules)
@@ -62,17 +70,21 @@ counts (accepted p names) = translated p .atoms ∷ length (translated p .rules)
 counts (refused f line) = []
 
 pub record Sheet : Type 0 where
-  -- A: set 6 preferred, 8 units; set 1 beaten by 6, 7 units; set 0 breaks rule 0; set 2 breaks rule 1; set 1 with budget 6 spent, with 7 not
+  -- A: set 6 preferred, 8 units; set 1 beaten by 6, 4 units; set 0 breaks rule 0; set 2 breaks rule 1; set 1 with budget 3 spent, with 4 not
   pub a-6 : verdict (said fileA) 6 budgetLimit ≡ Yes 8
-  pub a-1 : verdict (said fileA) 1 budgetLimit ≡ Beaten 6 7
+  pub a-1 : verdict (said fileA) 1 budgetLimit ≡ Beaten 6 4
   pub a-0 : verdict (said fileA) 0 budgetLimit ≡ Broken 0
   pub a-2 : verdict (said fileA) 2 budgetLimit ≡ Broken 1
-  pub a-1-spent : verdict (said fileA) 1 6 ≡ Spent 6
-  pub a-1-enough : verdict (said fileA) 1 7 ≡ Beaten 6 7
+  pub a-1-spent : verdict (said fileA) 1 3 ≡ Spent 3
+  pub a-1-enough : verdict (said fileA) 1 4 ≡ Beaten 6 4
   pub a-listed : statesPrinted fileA ≡ bytes "(state lamp dark)\n(total 1)\n"
-  pub one-class : states (said oneClass) ≡ 1 ∷ 5 ∷ 6 ∷ []
+  -- A: from place 0 set 6, 12 units; from place 4 none, 16 units; set 6 stands at place 3
+  pub a-from-0 : next (said fileA) 0 ≡ State 6 12
+  pub a-from-4 : next (said fileA) 4 ≡ Nothing 16
+  pub a-6-place : place 3 6 ≡ 3
+  pub one-class : states (said oneClass) ≡ 6 ∷ 1 ∷ 5 ∷ []
   pub lamp-first : states (said lampFirst) ≡ 2 ∷ 6 ∷ []
-  pub dark-fixed : states (said darkFixed) ≡ 1 ∷ 6 ∷ []
+  pub dark-fixed : states (said darkFixed) ≡ 6 ∷ 1 ∷ []
   pub dark-fixed-1 : verdict (said darkFixed) 1 budgetLimit ≡ Yes 4
   pub one-empty-state : states (said nothing) ≡ 0 ∷ []
   pub nothing-counts : counts (said nothing) ≡ 2 ∷ 4 ∷ 7 ∷ []

@@ -1,8 +1,10 @@
 // The entry points under their C names; a slice crosses as a pointer and a length.
 use fields::ReadFields;
+use fields::ValueFields;
 use fields::VerdictFields;
 use fields::WrittenFields;
 use fields::next_fields;
+use fields::place_fields;
 use fields::read_fields;
 use fields::verdict_fields;
 use fields::written_fields;
@@ -11,8 +13,8 @@ ghost use lib.ListN.{length};
 ghost use Rattle.answers.specs.Writing.{writeAnswer, writeOutput};
 ghost use Rattle.answers.specs.Reading.{readAnswer, readRules, readNames};
 ghost use Rattle.answers.specs.Translating.{translateAnswer, translateOutput};
-ghost use Rattle.walks.specs.Answers.{preferredAnswer, stableAnswer, nextAnswer};
-ghost use Rattle.fields.specs.Fields.{readFields, writtenFields, verdictFields, nextFields};
+ghost use Rattle.walks.specs.Answers.{preferredAnswer, stableAnswer, nextAnswer, placeAnswer};
+ghost use Rattle.fields.specs.Fields.{readFields, writtenFields, verdictFields, nextFields, placeFields};
 
 #[no_mangle]
 pub extern "C" fn rigtomato_read(text: &[u8], rules: &mut [u16], names: &mut [u8]) -> ReadFields
@@ -64,4 +66,12 @@ pub extern "C" fn rigtomato_next_state(rules: &[u16], start: u64, budget: u64) -
 {
     let answer = crate::next_state(rules, start, budget);
     next_fields(answer)
+}
+
+#[no_mangle]
+pub extern "C" fn rigtomato_place(rules: &[u16], set: u64) -> ValueFields
+    ensures { λ r. ⌜ r ≡ placeFields (placeAnswer (now (rules .entry)) set) ⌝ }
+{
+    let answer = crate::place(rules, set);
+    place_fields(answer)
 }

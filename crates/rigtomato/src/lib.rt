@@ -1,4 +1,4 @@
-// The public entry points (document 01). None asks anything of its caller.
+// The public entry points (documents 01 and 02). None asks anything of its caller.
 pub mod capi;
 
 ghost use mathlib.Core.Path.{_≡_};
@@ -6,7 +6,7 @@ ghost use lib.ListN.{length};
 ghost use Rattle.answers.specs.Writing.{writeAnswer, writeOutput};
 ghost use Rattle.answers.specs.Reading.{readAnswer, readRules, readNames};
 ghost use Rattle.answers.specs.Translating.{translateAnswer, translateOutput};
-ghost use Rattle.walks.specs.Answers.{preferredAnswer, stableAnswer, nextAnswer};
+ghost use Rattle.walks.specs.Answers.{preferredAnswer, stableAnswer, nextAnswer, placeAnswer};
 
 // A text of either kind into its two stores.
 pub fn read(text: &[u8], rules: &mut [u16], names: &mut [u8]) -> answers::Read
@@ -47,9 +47,16 @@ pub fn stable(rules: &[u16], set: u64, budget: u64) -> walks::answers::Verdict
     stable_verdict::stable::stable(rules, set, budget)
 }
 
-// The least preferred set from a number on.
+// The first preferred set from a place on.
 pub fn next_state(rules: &[u16], start: u64, budget: u64) -> walks::answers::NextState
     ensures { λ r. ⌜ r ≡ nextAnswer (now (rules .entry)) start budget ⌝ }
 {
     lister::next::next_state(rules, start, budget)
+}
+
+// The place of a set of a preference store's atoms.
+pub fn place(rules: &[u16], set: u64) -> walks::answers::Place
+    ensures { λ r. ⌜ r ≡ placeAnswer (now (rules .entry)) set ⌝ }
+{
+    lister::place::place(rules, set)
 }

@@ -1,6 +1,6 @@
 -- The reduct against all rules: what a mark means, the same first broken rule, the same rules to try.
 use Prim.Native.Nat.{ℕ, zero, suc, _-_, _^_, _≤_, _<_}
-use mathlib.Core.Path.{_≡_, refl, sym, ap, ap₂, _∙_}
+use mathlib.Core.Path.{_≡_, refl, sym, ap, ap₂, _∙_, subst}
 use mathlib.Core.Logic.{_↔_}
 use mathlib.Core.Bool.{Bool, true, false, not, cond, _&&_}
 use mathlib.Core.List.{List, [], _∷_, _++_, map}
@@ -13,20 +13,26 @@ use Rattle.kinds.specs.Limits.{ruleLimit}
 use Rattle.kinds.specs.declared.limits.Kind.the-variants.{Plain}
 use Rattle.rules.specs.Lists.{All, keep, over}
 use Rattle.rules.specs.Sets.{has, Out}
-use Rattle.rules.specs.Rules.{Rule, rule, reduct, countIf}
+use Rattle.rules.specs.Rules.{Rule, rule, reduct, rename, countIf}
+use Rattle.rules.specs.Renumbering.{Within}
 use Rattle.rules.proofs.Booleans.{bool-ext, is-false}
 use Rattle.rules.proofs.Rules.{all-out}
+use Rattle.rules.proofs.Renumbering.{some-moved, reduct-moved}
+use Rattle.places.specs.Places.{mirror, place}
+use Rattle.places.proofs.Places.{place-lt, place-atoms}
 use Rattle.stores.specs.RuleStore.{rulesFrom, decode}
 use Rattle.stores.proofs.RuleStores.{rules-count}
 use Rattle.walks.specs.Walk.{capped, stableVerdict}
 use Rattle.walks.specs.declared.answers.Verdict.{Verdict}
 use Rattle.walks.specs.declared.answers.Verdict.the-variants.{Broken}
-use Rattle.masks.specs.Masks.{maskOf, keptBy, breakable, asked, careOf, wantOf, firstM, stableWalkM, gatherCare, gatherWant}
+use Rattle.masks.specs.Masks.{maskOf, keptBy, breakable, asked, careOf, wantOf, careAt, wantAt, firstM, verdictAt, stableWalkM, gatherCare, gatherWant}
 use Rattle.masks.proofs.MaskBits.{some-mask, disjoint}
 use Rattle.masks.proofs.RuleMasks.{never}
 use Rattle.masks.proofs.RulesFill.{front-of}
-use Rattle.masks.proofs.CheckedStore.{PlainHeader, PlainReady, plain-ready, stable-broken-ready, stable-ready}
+use Rattle.masks.proofs.VerdictMasks.{care-mirrored, want-mirrored}
+use Rattle.masks.proofs.CheckedStore.{PlainHeader, plain-atoms, plain-few, plain-rules-are, plain-within, stable-broken, stable-walked}
 use Rattle.stable_verdict.specs.ReductMarks.{MarksMean, keeps?, marksOf, markedAt}
+use Rattle.stable_verdict.proofs.ProperSubsets.{below-60}
 use Rattle.stable_verdict.proofs.ReductFill.{bare, asked-none}
 
 pub mark-law : (m : ℕ) (rs : List (Rule ℕ)) → MarksMean m rs (marksOf m rs)
@@ -165,33 +171,66 @@ first-le s (c ∷ cs) (w ∷ ws) = step (not (eqb (bitAnd s c) w)) (first-le s c
 abbrev rulesIn : List ℕ → ℕ → List (Rule ℕ)
 rulesIn ws r = rulesFrom r (take (length ws - 4) (drop 4 ws))
 
--- the rules of a checked store are marked by m, and the masks of its reduct stand at the front
-pub record ReductReady (ws : List ℕ) (r m : ℕ) (marks : List Bool) (cs wants : List ℕ) (kept : ℕ) : Type 0 where
-  pub header : PlainHeader ws r
+-- the rules of a checked store of n atoms are marked by m, and the masks of its reduct stand at the front
+pub record ReductReady (ws : List ℕ) (n r m : ℕ) (marks : List Bool) (cs wants : List ℕ) (kept : ℕ) : Type 0 where
+  pub header : PlainHeader ws n r
   pub marked : marks ≡ marksOf m (rulesIn ws r)
-  pub care-front : take kept cs ≡ map (careOf 0) (reduct (rulesIn ws r) (has m))
-  pub want-front : take kept wants ≡ map (wantOf 0) (reduct (rulesIn ws r) (has m))
+  pub care-front : take kept cs ≡ map (careAt n 0) (reduct (rulesIn ws r) (has m))
+  pub want-front : take kept wants ≡ map (wantAt n 0) (reduct (rulesIn ws r) (has m))
   pub count : kept ≡ length (reduct (rulesIn ws r) (has m))
 
-module _ (ws : List ℕ) (r m : ℕ) where
+module _ (ws : List ℕ) (n r m : ℕ) where
   abbrev inReduct : List (Rule ℕ)
   inReduct = reduct (rulesIn ws r) (has m)
 
-  reduct-front : (f : Rule ℕ → ℕ) (d l : List ℕ) (n : ℕ) → l ≡ over (map f inReduct) d → n ≡ length inReduct → take n l ≡ map f inReduct
-  reduct-front f d l n e k = ap (take n) e ∙ front-of (map f inReduct) d n (length-map inReduct f ∙ sym k)
+  reduct-front : (f : Rule ℕ → ℕ) (d l : List ℕ) (k : ℕ) → l ≡ over (map f inReduct) d → k ≡ length inReduct → take k l ≡ map f inReduct
+  reduct-front f d l k e c = ap (take k) e ∙ front-of (map f inReduct) d k (length-map inReduct f ∙ sym c)
 
-  pub reduct-ready : {marks : List Bool} {cs wants : List ℕ} {kept : ℕ} (c₀ w₀ : List ℕ) → PlainHeader ws r
-      → (marks ≡ marksOf m (rulesIn ws r)) × ((cs ≡ over (map (careOf 0) inReduct) c₀) × ((wants ≡ over (map (wantOf 0) inReduct) w₀) × (kept ≡ length inReduct)))
-      → ReductReady ws r m marks cs wants kept
+  pub reduct-ready : {marks : List Bool} {cs wants : List ℕ} {kept : ℕ} (c₀ w₀ : List ℕ) → PlainHeader ws n r
+      → (marks ≡ marksOf m (rulesIn ws r)) × ((cs ≡ over (map (careAt n 0) inReduct) c₀) × ((wants ≡ over (map (wantAt n 0) inReduct) w₀) × (kept ≡ length inReduct)))
+      → ReductReady ws n r m marks cs wants kept
   reduct-ready {marks} {cs} {wants} {kept} c₀ w₀ h q = record {
     header = h;
     marked = q .0;
-    care-front = reduct-front (careOf 0) c₀ cs kept (q .1 .0) (q .1 .1 .1);
-    want-front = reduct-front (wantOf 0) w₀ wants kept (q .1 .1 .0) (q .1 .1 .1);
+    care-front = reduct-front (careAt n 0) c₀ cs kept (q .1 .0) (q .1 .1 .1);
+    want-front = reduct-front (wantAt n 0) w₀ wants kept (q .1 .1 .0) (q .1 .1 .1);
     count = q .1 .1 .1;
   }
 
-module _ {ws : List ℕ} {r m : ℕ} {marks : List Bool} {cs wants : List ℕ} {kept : ℕ} (d : ReductReady ws r m marks cs wants kept) where
+-- the reduct by m, met at the place of m, is that of the mirrored rules by the place
+module _ (n m : ℕ) (rs : List (Rule ℕ)) (below : All (Within (λ a. a < n)) rs) where
+  abbrev place-m : ℕ
+  place-m = place n m
+
+  abbrev mirrored : List (Rule ℕ)
+  mirrored = map (rename (mirror n)) rs
+
+  keeps-mirrored : map (keeps? place-m) mirrored ≡ map (keeps? m) rs
+  keeps-mirrored = by rs below
+    where
+      by : (l : List (Rule ℕ)) → All (Within (λ a. a < n)) l → map (keeps? place-m) (map (rename (mirror n)) l) ≡ map (keeps? m) l
+      by [] h = refl
+      by (r ∷ l) h = ap₂ (λ (b : Bool) (t : List Bool). not b ∷ t) (some-moved (mirror n) n m place-m (place-atoms n m) (r .nots) (h .0 .nots)) (by l (h .1))
+
+  reduct-mirrored : reduct mirrored (has place-m) ≡ map (rename (mirror n)) (reduct rs (has m))
+  reduct-mirrored = reduct-moved (mirror n) n m place-m (place-atoms n m) rs below
+
+  care-of-reduct : map (careAt n 0) (reduct rs (has m)) ≡ map (careOf 0) (reduct mirrored (has place-m))
+  care-of-reduct = care-mirrored n 0 (reduct rs (has m)) ∙ ap (map (careOf 0)) (sym reduct-mirrored)
+
+  want-of-reduct : map (wantAt n 0) (reduct rs (has m)) ≡ map (wantOf 0) (reduct mirrored (has place-m))
+  want-of-reduct = want-mirrored n 0 (reduct rs (has m)) ∙ ap (map (wantOf 0)) (sym reduct-mirrored)
+
+  first-at-place : firstM place-m (map (careAt n place-m) rs) (map (wantAt n place-m) rs) ≡ markedAt (firstM place-m (map (careAt n 0) (reduct rs (has m))) (map (wantAt n 0) (reduct rs (has m)))) (map (keeps? m) rs)
+  first-at-place =
+      ap₂ (firstM place-m) (care-mirrored n place-m rs) (want-mirrored n place-m rs) ∙ first-marked place-m mirrored
+      ∙ ap₂ markedAt (ap₂ (firstM place-m) (sym care-of-reduct) (sym want-of-reduct)) keeps-mirrored
+
+  module _ (gathered : List ℕ → List ℕ → List ℕ) (alike : (rs : List (Rule ℕ)) → gathered (care place-m rs) (want place-m rs) ≡ gathered (reductCare place-m rs) (reductWant place-m rs)) where
+    gathered-at-place : gathered (map (careAt n 0) (reduct rs (has m))) (map (wantAt n 0) (reduct rs (has m))) ≡ gathered (map (careAt n place-m) rs) (map (wantAt n place-m) rs)
+    gathered-at-place = ap₂ gathered care-of-reduct want-of-reduct ∙ sym (ap₂ gathered (care-mirrored n place-m rs) (want-mirrored n place-m rs) ∙ alike mirrored)
+
+module _ {ws : List ℕ} {n r m : ℕ} {marks : List Bool} {cs wants : List ℕ} {kept : ℕ} (d : ReductReady ws n r m marks cs wants kept) where
   abbrev rules : List (Rule ℕ)
   rules = rulesIn ws r
 
@@ -199,10 +238,10 @@ module _ {ws : List ℕ} {r m : ℕ} {marks : List Bool} {cs wants : List ℕ} {
   rules-length = rules-count r (take (length ws - 4) (drop 4 ws))
 
   pub kept-care-length : kept ≡ length (take kept cs)
-  kept-care-length = sym (ap length (d .care-front) ∙ length-map (reduct rules (has m)) (careOf 0) ∙ sym (d .count))
+  kept-care-length = sym (ap length (d .care-front) ∙ length-map (reduct rules (has m)) (careAt n 0) ∙ sym (d .count))
 
   pub kept-want-length : kept ≡ length (take kept wants)
-  kept-want-length = sym (ap length (d .want-front) ∙ length-map (reduct rules (has m)) (wantOf 0) ∙ sym (d .count))
+  kept-want-length = sym (ap length (d .want-front) ∙ length-map (reduct rules (has m)) (wantAt n 0) ∙ sym (d .count))
 
   marks-front : take r marks ≡ map (keeps? m) rules
   unfolding marksOf
@@ -214,30 +253,34 @@ module _ {ws : List ℕ} {r m : ℕ} {marks : List Bool} {cs wants : List ℕ} {
   pub marks-fit : r ≤ length marks
   marks-fit = omega (arith, marks-length, length-take r marks)
 
-  -- the masks of all rules, as `fill_rules` would leave them
-  all-ready : PlainReady ws r m (over (map (careOf m) rules) []) (over (map (wantOf m) rules) [])
-  all-ready = plain-ready ws r (d .header) m (over (map (careOf m) rules) []) (over (map (wantOf m) rules) []) [] [] (refl, refl)
+  within : All (Within (λ a. a < n)) rules
+  within = subst (All (Within (λ a. a < n))) (sym (plain-rules-are ws n r (d .header))) (plain-within ws n r (d .header))
 
-  all-front : (f : Rule ℕ → ℕ) → take r (over (map f rules) []) ≡ map f rules
-  all-front f = front-of (map f rules) [] r (length-map rules f ∙ rules-length)
+  -- the verdict of the store's own rules
+  verdict-is : (b : ℕ) → stableVerdict n rules m b ≡ stableVerdict (decode ws .atoms) (decode ws .rules) m b
+  verdict-is b = ap₂ (λ (k : ℕ) (l : List (Rule ℕ)). stableVerdict k l m b) (plain-atoms ws n r (d .header)) (plain-rules-are ws n r (d .header))
 
-  module _ (i : ℕ) (e : i ≡ firstM m (take kept cs) (take kept wants)) where
-    first-is : firstM m (take r (over (map (careOf m) rules) [])) (take r (over (map (wantOf m) rules) [])) ≡ markedAt i (map (keeps? m) rules)
+  module _ (q : ℕ) (at : q ≡ place n m) (i : ℕ) (e : i ≡ firstM q (take kept cs) (take kept wants)) where
+    pub place-small : q < 2 ^ 60
+    place-small = subst (λ (x : ℕ). x < 2 ^ 60) (sym at) (below-60 n (place n m) (plain-few ws n r (d .header)) (place-lt n m))
+
+    first-is : firstM (place n m) (map (careAt n (place n m)) rules) (map (wantAt n (place n m)) rules) ≡ markedAt i (map (keeps? m) rules)
     first-is =
-        ap₂ (firstM m) (all-front (careOf m)) (all-front (wantOf m)) ∙ first-marked m rules
-        ∙ ap (λ (k : ℕ). markedAt k (map (keeps? m) rules)) (ap₂ (firstM m) (sym (d .care-front)) (sym (d .want-front)) ∙ sym e)
+        first-at-place n m rules within
+        ∙ ap (λ (k : ℕ). markedAt k (map (keeps? m) rules)) (ap₂ (firstM (place n m)) (sym (d .care-front)) (sym (d .want-front)) ∙ ap (λ (x : ℕ). firstM x (take kept cs) (take kept wants)) (sym at) ∙ sym e)
 
-    pub broken-ready : (b n : ℕ) → (i ≡ kept → ⊥) → n ≡ markedAt i (take r marks) → Broken n ≡ stableVerdict (decode ws .atoms) (decode ws .rules) m b
-    broken-ready b n ne q =
-        let p : n ≡ markedAt i (map (keeps? m) rules) = q ∙ ap (markedAt i) marks-front in
-        let l : i < length (reduct rules (has m)) = omega (arith, first-le m (take kept cs) (take kept wants), kept-care-length, d .count) in
-        stable-broken-ready all-ready b n (p ∙ sym first-is) (λ z. omega (arith, marked-inside m rules i l, rules-length))
+    pub broken-ready : (b k : ℕ) → (i ≡ kept → ⊥) → k ≡ markedAt i (take r marks) → Broken k ≡ stableVerdict (decode ws .atoms) (decode ws .rules) m b
+    broken-ready b k ne f =
+        let p : k ≡ markedAt i (map (keeps? m) rules) = f ∙ ap (markedAt i) marks-front in
+        let l : i < length (reduct rules (has m)) = omega (arith, first-le q (take kept cs) (take kept wants), kept-care-length, d .count) in
+        stable-broken n rules within m b k (p ∙ sym first-is) (λ z. omega (arith, marked-inside m rules i l)) ∙ verdict-is b
 
-    pub walk-ready : (b : ℕ) (v : Verdict) (gc gw : List ℕ) → m < 2 ^ decode ws .atoms → i ≡ kept
-        → gc ≡ gatherCare (take kept cs) (take kept wants) → gw ≡ gatherWant (take kept cs) (take kept wants) → v ≡ capped b (stableWalkM gc gw m) → v ≡ stableVerdict (decode ws .atoms) (decode ws .rules) m b
-    walk-ready b v gc gw inside z x y w =
-        let whole : r ≡ markedAt i (map (keeps? m) rules) = sym (ap (λ (k : ℕ). markedAt k (map (keeps? m) rules)) (z ∙ d .count) ∙ marked-all m rules ∙ rules-length) in
-        stable-ready all-ready b r v gc gw inside (whole ∙ sym first-is) refl
-        (x ∙ ap₂ gatherCare (d .care-front) (d .want-front) ∙ sym (ap₂ gatherCare (all-front (careOf m)) (all-front (wantOf m)) ∙ care-gathered m rules))
-        (y ∙ ap₂ gatherWant (d .care-front) (d .want-front) ∙ sym (ap₂ gatherWant (all-front (careOf m)) (all-front (wantOf m)) ∙ want-gathered m rules))
-        w
+    pub walk-ready : (b : ℕ) (v u : Verdict) (gc gw : List ℕ) → m < 2 ^ decode ws .atoms → i ≡ kept
+        → gc ≡ gatherCare (take kept cs) (take kept wants) → gw ≡ gatherWant (take kept cs) (take kept wants) → v ≡ capped b (stableWalkM gc gw q) → u ≡ verdictAt n v → u ≡ stableVerdict (decode ws .atoms) (decode ws .rules) m b
+    walk-ready b v u gc gw inside z x y w told =
+        let whole : firstM (place n m) (map (careAt n (place n m)) rules) (map (wantAt n (place n m)) rules) ≡ length rules = first-is ∙ ap (λ (k : ℕ). markedAt k (map (keeps? m) rules)) (z ∙ d .count) ∙ marked-all m rules in
+        let gathered : (g : List ℕ → List ℕ → List ℕ) → ((rs : List (Rule ℕ)) → g (care (place n m) rs) (want (place n m) rs) ≡ g (reductCare (place n m) rs) (reductWant (place n m) rs)) → g (take kept cs) (take kept wants) ≡ g (map (careAt n (place n m)) rules) (map (wantAt n (place n m)) rules)
+        = λ g alike. ap₂ g (d .care-front) (d .want-front) ∙ gathered-at-place n m rules within g alike in
+        told ∙ stable-walked n rules within m b v (subst (λ (k : ℕ). m < 2 ^ k) (sym (plain-atoms ws n r (d .header))) inside) whole
+        (w ∙ ap (λ (p : ℕ). capped b (stableWalkM gc gw p)) at ∙ ap₂ (λ (c k : List ℕ). capped b (stableWalkM c k (place n m))) (x ∙ gathered gatherCare (care-gathered (place n m))) (y ∙ gathered gatherWant (want-gathered (place n m))))
+        ∙ verdict-is b

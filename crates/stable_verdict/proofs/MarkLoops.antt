@@ -62,7 +62,7 @@ module _ (ws : List ℕ) where
   notPart = take (3 + heads ws + bodies ws + nots ws - (3 + heads ws + bodies ws)) (drop (3 + heads ws + bodies ws) ws)
 
   pub lists-below : StoredRule walkAtoms ws → All (λ a. a < walkAtoms) bodyPart × All (λ a. a < walkAtoms) notPart
-  lists-below h = (bodies-below ws h, nots-below ws h)
+  lists-below h = (bodies-below ws walkAtoms h, nots-below ws walkAtoms h)
 
   pub kept-read : (m : ℕ) (b : Bool) → b ≡ some (has m) notPart → not b ≡ keeps? m (ruleAt ws)
   unfolding ruleAt

@@ -11,16 +11,17 @@ use lib.Bits.{bitOr, and-zero-l}
 use lib.ListN.{length, getD, take, drop, set, replicate, length-append, length-map, length-set, length-replicate}
 use lib.Seq.{drop-cons, take-suc, take-all, set-at, append-snoc, getD-set-same, length-take-le}
 use borrow.Rule.Slice.PartMut.{midOf, putMid, set-mid-at}
-use Rattle.kinds.specs.Limits.{walkAtoms, ruleLimit}
+use Rattle.kinds.specs.Limits.{ruleLimit}
 use Rattle.kinds.specs.declared.limits.Kind.the-variants.{Plain}
 use Rattle.rules.specs.Lists.{keep, over}
 use Rattle.rules.specs.Sets.{has}
-use Rattle.rules.specs.Rules.{Rule, rule, reduct}
+use Rattle.rules.specs.Rules.{Rule, rule, reduct, rename}
 use Rattle.rules.proofs.Lists.{part-rest}
 use Rattle.stores.specs.RuleStore.{places, ruleAt, rulesFrom}
 use Rattle.stores.specs.StoredRules.{StoredRules}
 use Rattle.stores.proofs.RuleStores.{rules-count}
-use Rattle.masks.specs.Masks.{maskOf, breakable, asked, careOf, wantOf}
+use Rattle.places.specs.Places.{mirror}
+use Rattle.masks.specs.Masks.{maskOf, breakable, asked, careOf, wantOf, careAt, wantAt}
 use Rattle.masks.proofs.RulesFill.{Filling, fill-begins, fill-more}
 use Rattle.stable_verdict.specs.ReductMarks.{keeps?, marksOf}
 
@@ -98,29 +99,29 @@ module _ (m : ℕ) (r : Rule ℕ) where
         ∙ ap (λ (x : List ℕ). over x d) (sym (ap (map f) (kept-here e) ∙ map-append f (reduct rs (has m)) (bare r ∷ [])))
 
 -- the masks of the reduct of the rules stand over what was there
-pub record Masked (m : ℕ) (rs : List (Rule ℕ)) (c₀ w₀ cs wants : List ℕ) (kept : ℕ) : Type 0 where
-  pub cares : cs ≡ over (map (careOf 0) (reduct rs (has m))) c₀
-  pub want-masks : wants ≡ over (map (wantOf 0) (reduct rs (has m))) w₀
+pub record Masked (n m : ℕ) (rs : List (Rule ℕ)) (c₀ w₀ cs wants : List ℕ) (kept : ℕ) : Type 0 where
+  pub cares : cs ≡ over (map (careAt n 0) (reduct rs (has m))) c₀
+  pub want-masks : wants ≡ over (map (wantAt n 0) (reduct rs (has m))) w₀
   pub count : kept ≡ length (reduct rs (has m))
 
-module _ {m : ℕ} {rs : List (Rule ℕ)} {c₀ w₀ cs wants : List ℕ} {kept : ℕ} (d : Masked m rs c₀ w₀ cs wants kept) (r : Rule ℕ) where
-  masks-kept : keeps? m r ≡ true → (kept < length c₀) × (kept < length w₀) → Masked m (rs ++ (r ∷ [])) c₀ w₀ (set cs kept (careOf 0 r)) (set wants kept (wantOf 0 r)) (kept + 1)
+module _ {n m : ℕ} {rs : List (Rule ℕ)} {c₀ w₀ cs wants : List ℕ} {kept : ℕ} (d : Masked n m rs c₀ w₀ cs wants kept) (r : Rule ℕ) where
+  masks-kept : keeps? m r ≡ true → (kept < length c₀) × (kept < length w₀) → Masked n m (rs ++ (r ∷ [])) c₀ w₀ (set cs kept (careAt n 0 r)) (set wants kept (wantAt n 0 r)) (kept + 1)
   masks-kept e l = record {
-    cares = ap (λ (x : List ℕ). set x kept (careOf 0 r)) (d .cares) ∙ masks-more m r rs (careOf 0) (care-bare r) c₀ kept e (l .0) (d .count);
-    want-masks = ap (λ (x : List ℕ). set x kept (wantOf 0 r)) (d .want-masks) ∙ masks-more m r rs (wantOf 0) (want-bare r) w₀ kept e (l .1) (d .count);
+    cares = ap (λ (x : List ℕ). set x kept (careAt n 0 r)) (d .cares) ∙ masks-more m r rs (careAt n 0) (care-bare (rename (mirror n) r)) c₀ kept e (l .0) (d .count);
+    want-masks = ap (λ (x : List ℕ). set x kept (wantAt n 0 r)) (d .want-masks) ∙ masks-more m r rs (wantAt n 0) (want-bare (rename (mirror n) r)) w₀ kept e (l .1) (d .count);
     count = omega (arith, d .count, ap length (kept-here m r rs e), length-append (reduct rs (has m)) (bare r ∷ []));
   }
 
-  masks-dropped : keeps? m r ≡ false → Masked m (rs ++ (r ∷ [])) c₀ w₀ cs wants kept
+  masks-dropped : keeps? m r ≡ false → Masked n m (rs ++ (r ∷ [])) c₀ w₀ cs wants kept
   masks-dropped e =
       let q = sym (dropped-here m r rs e) in
       record {
-        cares = d .cares ∙ ap (λ (x : List (Rule ℕ)). over (map (careOf 0) x) c₀) q;
-        want-masks = d .want-masks ∙ ap (λ (x : List (Rule ℕ)). over (map (wantOf 0) x) w₀) q;
+        cares = d .cares ∙ ap (λ (x : List (Rule ℕ)). over (map (careAt n 0) x) c₀) q;
+        want-masks = d .want-masks ∙ ap (λ (x : List (Rule ℕ)). over (map (wantAt n 0) x) w₀) q;
         count = d .count ∙ ap length q;
       }
 
-module _ (ws : List ℕ) (rules m : ℕ) (c₀ w₀ : List ℕ) where
+module _ (ws : List ℕ) (rules n m : ℕ) (c₀ w₀ : List ℕ) where
   abbrev passed : ℕ → List (Rule ℕ)
   passed j = take j (rulesFrom rules ws)
 
@@ -129,20 +130,20 @@ module _ (ws : List ℕ) (rules m : ℕ) (c₀ w₀ : List ℕ) where
     -- the words are gone over as in `fill_rules`, which would have left these masks
     pub all-care : List ℕ
     pub all-want : List ℕ
-    pub walk : Filling ws rules m c₀ w₀ all-care all-want at j
+    pub walk : Filling ws rules n 0 c₀ w₀ all-care all-want at j
     pub marked : marks ≡ marksOf m (take j (rulesFrom rules ws))
-    pub masked : Masked m (take j (rulesFrom rules ws)) c₀ w₀ cs wants kept
+    pub masked : Masked n m (take j (rulesFrom rules ws)) c₀ w₀ cs wants kept
     pub few : kept ≤ j
     pub mark-room : (rules ≤ ruleLimit Plain) × (length marks ≡ ruleLimit Plain)
     pub care-room : (rules ≤ length c₀) × (length cs ≡ length c₀)
     pub want-room : (rules ≤ length w₀) × (length wants ≡ length w₀)
 
-  pub reduct-begins : (marks : List Bool) → StoredRules walkAtoms rules ws → rules ≤ ruleLimit Plain → marks ≡ replicate (ruleLimit Plain) false → (rules ≤ length c₀) × (rules ≤ length w₀) → Reducing marks c₀ w₀ 0 0 0
+  pub reduct-begins : (marks : List Bool) → StoredRules n rules ws → rules ≤ ruleLimit Plain → marks ≡ replicate (ruleLimit Plain) false → (rules ≤ length c₀) × (rules ≤ length w₀) → Reducing marks c₀ w₀ 0 0 0
   unfolding marksOf
   reduct-begins marks h l e long = record {
     all-care = c₀;
     all-want = w₀;
-    walk = fill-begins ws rules m c₀ w₀ h;
+    walk = fill-begins ws rules n 0 c₀ w₀ h;
     marked = e;
     masked = record { cares = refl; want-masks = refl; count = refl };
     few = omega arith;
@@ -162,7 +163,7 @@ module _ (ws : List ℕ) (rules m : ℕ) (c₀ w₀ : List ℕ) where
         let h : j < length (rulesFrom rules ws) = omega (arith, rules-count rules ws) in
         let k : rules - j ≡ suc (rules - (j + 1)) = omega arith in
         let s : getD (rulesFrom rules ws) j (ruleAt front) ∷ drop (suc j) (rulesFrom rules ws) ≡ ruleAt (drop at ws) ∷ rulesFrom (rules - (j + 1)) (drop (3 + places (drop at ws)) (drop at ws)) =
-        sym (drop-cons (rulesFrom rules ws) j (ruleAt front) h) ∙ d .walk .ends ∙ ap (λ (n : ℕ). rulesFrom n (drop at ws)) k in
+        sym (drop-cons (rulesFrom rules ws) j (ruleAt front) h) ∙ d .walk .ends ∙ ap (λ (x : ℕ). rulesFrom x (drop at ws)) k in
         let e : getD (rulesFrom rules ws) j (ruleAt front) ≡ ruleAt (drop at ws) = cc s in
         ap passed (add-one j) ∙ take-suc (rulesFrom rules ws) j (ruleAt front) h
         ∙ ap (λ (r : Rule ℕ). passed j ++ (r ∷ [])) (e ∙ ap ruleAt (sym (part-rest at ws)))
@@ -172,37 +173,37 @@ module _ (ws : List ℕ) (rules m : ℕ) (c₀ w₀ : List ℕ) where
       mark-is : getD (set marks j b) j false ≡ keeps? m (ruleAt front)
       mark-is = getD-set-same marks j b false (omega (arith, d .mark-room .0, d .mark-room .1)) ∙ is-mark
 
-      goes-on : {cs′ wants′ : List ℕ} {kept′ : ℕ} → length cs′ ≡ length cs → length wants′ ≡ length wants → kept′ ≤ j + 1 → Masked m (passed j ++ (ruleAt front ∷ [])) c₀ w₀ cs′ wants′ kept′ → Reducing (set marks j b) cs′ wants′ (at + size) kept′ (j + 1)
-      goes-on {cs′} {wants′} {kept′} p q n f = record {
-        all-care = set (d .all-care) j (careOf m (ruleAt front));
-        all-want = set (d .all-want) j (wantOf m (ruleAt front));
-        walk = fill-more ws rules m c₀ w₀ (d .all-care) (d .all-want) at j (d .walk) l (d .care-room .0, d .want-room .0) (careOf m (ruleAt front)) (wantOf m (ruleAt front)) size is-size (refl, refl);
+      goes-on : {cs′ wants′ : List ℕ} {kept′ : ℕ} → length cs′ ≡ length cs → length wants′ ≡ length wants → kept′ ≤ j + 1 → Masked n m (passed j ++ (ruleAt front ∷ [])) c₀ w₀ cs′ wants′ kept′ → Reducing (set marks j b) cs′ wants′ (at + size) kept′ (j + 1)
+      goes-on {cs′} {wants′} {kept′} p q few f = record {
+        all-care = set (d .all-care) j (careAt n 0 (ruleAt front));
+        all-want = set (d .all-want) j (wantAt n 0 (ruleAt front));
+        walk = fill-more ws rules n 0 c₀ w₀ (d .all-care) (d .all-want) at j (d .walk) l (d .care-room .0, d .want-room .0) (careAt n 0 (ruleAt front)) (wantAt n 0 (ruleAt front)) size is-size (refl, refl);
         marked =
             ap₂ (λ (l : List Bool) (t : Bool). set l j t) (d .marked) is-mark
             ∙ marks-more m (ruleAt front) (passed j) j (length-take-le j (rulesFrom rules ws) (omega (arith, rules-count rules ws))) (omega (arith, d .mark-room .0))
             ∙ ap (marksOf m) (sym next-rule);
-        masked = subst (λ (rs : List (Rule ℕ)). Masked m rs c₀ w₀ cs′ wants′ kept′) (sym next-rule) f;
-        few = n;
+        masked = subst (λ (rs : List (Rule ℕ)). Masked n m rs c₀ w₀ cs′ wants′ kept′) (sym next-rule) f;
+        few = few;
         mark-room = (d .mark-room .0, length-set marks j b ∙ d .mark-room .1);
         care-room = (d .care-room .0, p ∙ d .care-room .1);
         want-room = (d .want-room .0, q ∙ d .want-room .1);
       }
 
-      pub reduct-keeps : getD (set marks j b) j false ≡ true → {cs′ wants′ : List ℕ} {kept′ : ℕ} → cs′ ≡ set cs kept (careOf 0 (ruleAt front)) → wants′ ≡ set wants kept (wantOf 0 (ruleAt front)) → kept′ ≡ kept + 1
+      pub reduct-keeps : getD (set marks j b) j false ≡ true → {cs′ wants′ : List ℕ} {kept′ : ℕ} → cs′ ≡ set cs kept (careAt n 0 (ruleAt front)) → wants′ ≡ set wants kept (wantAt n 0 (ruleAt front)) → kept′ ≡ kept + 1
           → Reducing (set marks j b) cs′ wants′ (at + size) kept′ (j + 1)
-      reduct-keeps t p q n =
+      reduct-keeps t p q e =
           let room : (kept < length c₀) × (kept < length w₀) = (omega (arith, d .few, d .care-room .0), omega (arith, d .few, d .want-room .0)) in
-          rw (p, q, n)
-          (goes-on (length-set cs kept (careOf 0 (ruleAt front))) (length-set wants kept (wantOf 0 (ruleAt front))) (omega (arith, d .few))
+          rw (p, q, e)
+          (goes-on (length-set cs kept (careAt n 0 (ruleAt front))) (length-set wants kept (wantAt n 0 (ruleAt front))) (omega (arith, d .few))
           (masks-kept (d .masked) (ruleAt front) (sym mark-is ∙ t) room))
 
       pub reduct-drops : getD (set marks j b) j false ≡ false → {cs′ wants′ : List ℕ} {kept′ : ℕ} → cs′ ≡ cs → wants′ ≡ wants → kept′ ≡ kept → Reducing (set marks j b) cs′ wants′ (at + size) kept′ (j + 1)
-      reduct-drops t p q n = rw (p, q, n) (goes-on refl refl (omega (arith, d .few)) (masks-dropped (d .masked) (ruleAt front) (sym mark-is ∙ t)))
+      reduct-drops t p q e = rw (p, q, e) (goes-on refl refl (omega (arith, d .few)) (masks-dropped (d .masked) (ruleAt front) (sym mark-is ∙ t)))
 
   pub reduct-ends : (marks : List Bool) (cs wants : List ℕ) (at kept j : ℕ) → Reducing marks cs wants at kept j → rules ≤ j
-      → (marks ≡ marksOf m (rulesFrom rules ws)) × ((cs ≡ over (map (careOf 0) (reduct (rulesFrom rules ws) (has m))) c₀)
-      × ((wants ≡ over (map (wantOf 0) (reduct (rulesFrom rules ws) (has m))) w₀) × (kept ≡ length (reduct (rulesFrom rules ws) (has m)))))
+      → (marks ≡ marksOf m (rulesFrom rules ws)) × ((cs ≡ over (map (careAt n 0) (reduct (rulesFrom rules ws) (has m))) c₀)
+      × ((wants ≡ over (map (wantAt n 0) (reduct (rulesFrom rules ws) (has m))) w₀) × (kept ≡ length (reduct (rulesFrom rules ws) (has m)))))
   reduct-ends marks cs wants at kept j d l =
       let e : passed j ≡ rulesFrom rules ws = take-all j (rulesFrom rules ws) (omega (arith, rules-count rules ws)) in
-      let f = subst (λ (rs : List (Rule ℕ)). Masked m rs c₀ w₀ cs wants kept) e (d .masked) in
+      let f = subst (λ (rs : List (Rule ℕ)). Masked n m rs c₀ w₀ cs wants kept) e (d .masked) in
       (d .marked ∙ ap (marksOf m) e, (f .cares, (f .want-masks, f .count)))

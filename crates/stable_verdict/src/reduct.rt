@@ -15,7 +15,7 @@ ghost use Rattle.rules.specs.Sets.{has};
 ghost use Rattle.rules.specs.Rules.{reduct};
 ghost use Rattle.stores.specs.RuleStore.{ruleAt, rulesFrom};
 ghost use Rattle.stores.specs.StoredRules.{StoredRule, StoredRules};
-ghost use Rattle.masks.specs.Masks.{careOf, wantOf};
+ghost use Rattle.masks.specs.Masks.{careAt, wantAt};
 ghost use Rattle.stable_verdict.specs.ReductMarks.{keeps?, marksOf, markedAt};
 
 fn some_in(set: u64, atoms: &[u16]) -> bool
@@ -44,31 +44,34 @@ fn is_kept(words: &[u16], of: u64) -> bool
 }
 
 // Puts the masks of the rule at the front, its `not` list left out, at place `at`.
-fn put_rule(words: &[u16], at: usize, care: &mut [u64], want: &mut [u64])
-    requires { ⌜ StoredRule walkAtoms (now words) ⌝ }
+fn put_rule(words: &[u16], n: usize, at: usize, care: &mut [u64], want: &mut [u64])
+    requires { ⌜ n ≤ walkAtoms ⌝ }
+    requires { ⌜ StoredRule n (now words) ⌝ }
     requires { ⌜ (at < length (now care)) × (at < length (now want)) ⌝ }
-    ensures { λ _. ⌜ now (care .exit) ≡ set (now (care .entry)) at (careOf 0 (ruleAt (now (words .entry)))) ⌝ }
-    ensures { λ _. ⌜ now (want .exit) ≡ set (now (want .entry)) at (wantOf 0 (ruleAt (now (words .entry)))) ⌝ }
+    ensures { λ _. ⌜ now (care .exit) ≡ set (now (care .entry)) at (careAt n 0 (ruleAt (now (words .entry)))) ⌝ }
+    ensures { λ _. ⌜ now (want .exit) ≡ set (now (want .entry)) at (wantAt n 0 (ruleAt (now (words .entry)))) ⌝ }
 {
-    fill_rules(words, 1, 0, &mut care[at..], &mut want[at..]);
+    fill_rules(words, 1, 0, n, &mut care[at..], &mut want[at..]);
 }
 
-// Marks the rules that the reduct by `of` keeps and fills the masks of its rules; answers how many they are.
+// Marks the rules, of n atoms, that the reduct by `of` keeps and fills the masks of its rules; answers how many they are.
 pub fn fill_reduct(
     words: &[u16],
     rules: usize,
     of: u64,
+    n: usize,
     marks: &mut [bool],
     care: &mut [u64],
     want: &mut [u64],
 ) -> usize
-    requires { ⌜ StoredRules walkAtoms rules (now words) ⌝ }
+    requires { ⌜ n ≤ walkAtoms ⌝ }
+    requires { ⌜ StoredRules n rules (now words) ⌝ }
     requires { ⌜ rules ≤ ruleLimit KindPlain ⌝ }
     requires { ⌜ now marks ≡ replicate (ruleLimit KindPlain) false ⌝ }
     requires { ⌜ (rules ≤ length (now care)) × (rules ≤ length (now want)) ⌝ }
     ensures { λ _. ⌜ now (marks .exit) ≡ marksOf of (rulesFrom rules (now (words .entry))) ⌝ }
-    ensures { λ _. ⌜ now (care .exit) ≡ over (map (careOf 0) (reduct (rulesFrom rules (now (words .entry))) (has of))) (now (care .entry)) ⌝ }
-    ensures { λ _. ⌜ now (want .exit) ≡ over (map (wantOf 0) (reduct (rulesFrom rules (now (words .entry))) (has of))) (now (want .entry)) ⌝ }
+    ensures { λ _. ⌜ now (care .exit) ≡ over (map (careAt n 0) (reduct (rulesFrom rules (now (words .entry))) (has of))) (now (care .entry)) ⌝ }
+    ensures { λ _. ⌜ now (want .exit) ≡ over (map (wantAt n 0) (reduct (rulesFrom rules (now (words .entry))) (has of))) (now (want .entry)) ⌝ }
     ensures { λ r. ⌜ r ≡ length (reduct (rulesFrom rules (now (words .entry))) (has of)) ⌝ }
 {
     let mut from = 0;
@@ -78,7 +81,7 @@ pub fn fill_reduct(
         let size = rule_size(&words[from..]);
         marks[j] = is_kept(&words[from..], of);
         if marks[j] {
-            put_rule(&words[from..], kept, care, want);
+            put_rule(&words[from..], n, kept, care, want);
             kept += 1;
         }
         from += size;

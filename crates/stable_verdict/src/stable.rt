@@ -1,9 +1,10 @@
-// The stable verdict: the walk over the proper subsets.
+// The stable verdict: the walk over the proper subsets. Over masks a set is its place.
 use crate::reduct::fill_reduct;
 use crate::reduct::marked_at;
 use kinds::limits::Kind;
 use kinds::limits::Plain;
 use kinds::limits::Walk;
+use masks::answers_at::verdict_at;
 use masks::guard::Guard;
 use masks::guard::check_call;
 use masks::masks::bit_of;
@@ -11,6 +12,7 @@ use masks::masks::first_broken;
 use masks::masks::gather;
 use masks::masks::least;
 use masks::masks::wide;
+use places::turning::turned;
 use walks::answers::Verdict;
 ghost use mathlib.Core.Path.{_≡_};
 ghost use Prim.Native.Nat.{_<_, _≤_, _^_};
@@ -112,19 +114,23 @@ fn stable_of(words: &[u16], set: u64, budget: u64) -> Verdict
     requires { ⌜ set < 2 ^ decode (now words) .atoms ⌝ }
     ensures { λ r. ⌜ r ≡ stableVerdict (decode (now (words .entry)) .atoms) (decode (now (words .entry)) .rules) set budget ⌝ }
 {
+    let n = wide(words[1]);
     let rules = wide(words[3]);
     let mut marks = [false; Plain::RULES];
     let mut care = [0u64; Plain::RULES];
     let mut want = [0u64; Plain::RULES];
-    let kept = fill_reduct(&words[4..], rules, set, &mut marks, &mut care, &mut want);
-    let broken = first_broken(&care[..kept], &want[..kept], set);
+    let kept = fill_reduct(&words[4..], rules, set, n, &mut marks, &mut care, &mut want);
+    let atoms = n as u32;
+    let place = turned(set, atoms);
+    let broken = first_broken(&care[..kept], &want[..kept], place);
     if broken != kept {
         return Verdict::Broken {
             rule: marked_at(&marks[..rules], broken) as u64,
         };
     }
     let tried = gather(&mut care, &mut want, kept);
-    stable_walk(&care[..tried], &want[..tried], set, budget)
+    let verdict = stable_walk(&care[..tried], &want[..tried], place, budget);
+    verdict_at(verdict, atoms)
 }
 
 // Whether `set` is stable, by the rules of a plain store.

@@ -1,5 +1,5 @@
 -- A rule store has its rules one after the other, behind the header and the class words.
-use Prim.Native.Nat.{ℕ, zero, suc, _+_, _≤_, _<_}
+use Prim.Native.Nat.{ℕ, _+_, _≤_, _<_}
 use mathlib.Core.Path.{_≡_, sym, ap, _∙_, subst}
 use mathlib.Core.List.{List, [], _∷_, _++_}
 use native.Mathlib.Omega.{arith}
@@ -12,8 +12,8 @@ use Rattle.rules.specs.Lists.{All, sum, flat}
 use Rattle.rules.specs.Rules.{Rule, occurrences}
 use Rattle.rules.proofs.Lists.{all-imp}
 use Rattle.stores.specs.Program.{Program, RuleForm}
-use Rattle.stores.specs.RuleStore.{ruleWords, encode, StoreOf, wordCount, places, ruleAt}
-use Rattle.stores.specs.StoredRules.{StoredRules}
+use Rattle.stores.specs.RuleStore.{ruleWords, encode, StoreOf, wordCount, ruleAt}
+use Rattle.stores.specs.StoredRules.{StoredRule, StoredRules}
 use Rattle.stores.proofs.RuleTests.{rule-front, past-front}
 use Rattle.stores.proofs.RuleStores.{words-count}
 use Rattle.stores.proofs.RulePlace.{limit-small}
@@ -50,10 +50,5 @@ module _ {n k : ℕ} (l : n ≤ k) where
   more-atoms : (xs : List ℕ) → All (λ a. a < n) xs → All (λ a. a < k) xs
   more-atoms = all-imp (λ a. a < n) (λ a. a < k) (λ a h. omega arith)
 
-  pub stored-more : (r : ℕ) (ws : List ℕ) → StoredRules n r ws → StoredRules k r ws
-  stored-more zero ws h = tt
-  stored-more (suc r) ws h =
-      let q = h .0 in (
-        record { inside = q .inside; few = q .few; heads = more-atoms (ruleAt ws .head) (q .heads); bodies = more-atoms (ruleAt ws .body) (q .bodies); nots = more-atoms (ruleAt ws .nots) (q .nots) },
-        stored-more r (drop (3 + places ws) ws) (h .1),
-      )
+  pub stored-more : {ws : List ℕ} → StoredRule n ws → StoredRule k ws
+  stored-more {ws} q = record { inside = q .inside; few = q .few; heads = more-atoms (ruleAt ws .head) (q .heads); bodies = more-atoms (ruleAt ws .body) (q .bodies); nots = more-atoms (ruleAt ws .nots) (q .nots) }

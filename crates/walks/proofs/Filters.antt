@@ -2,7 +2,7 @@
 use Prim.Native.Nat.{ℕ, zero, suc, _+_, _-_, _≤_, _<_}
 use mathlib.Core.Path.{_≡_, refl, ap, ap₂, _∙_}
 use mathlib.Core.Bool.{Bool, true, false}
-use mathlib.Core.List.{List, [], _∷_, _++_}
+use mathlib.Core.List.{List, [], _∷_, _++_, map}
 use native.Mathlib.Omega.{arith}
 use lib.Dec.{T}
 use Rattle.rules.specs.Lists.{All, filter, keep, from}
@@ -21,6 +21,14 @@ filter-app p (x ∷ xs) ys = step (p x) (filter-app p xs ys)
   where
     step : (b : Bool) → filter p (xs ++ ys) ≡ filter p xs ++ filter p ys → keep b x (filter p (xs ++ ys)) ≡ keep b x (filter p xs) ++ filter p ys
     step true e = ap (λ (l : List ℕ). x ∷ l) e
+    step false e = e
+
+pub filter-map : (p : ℕ → Bool) (f : ℕ → ℕ) (l : List ℕ) → filter p (map f l) ≡ map f (filter (λ x. p (f x)) l)
+filter-map p f [] = refl
+filter-map p f (x ∷ l) = step (p (f x)) (filter-map p f l)
+  where
+    step : (b : Bool) → filter p (map f l) ≡ map f (filter (λ x. p (f x)) l) → keep b (f x) (filter p (map f l)) ≡ map f (keep b x (filter (λ x. p (f x)) l))
+    step true e = ap (λ (l : List ℕ). f x ∷ l) e
     step false e = e
 
 pub filter-same : (p q : ℕ → Bool) (l : List ℕ) → All (λ s. p s ≡ q s) l → filter p l ≡ filter q l

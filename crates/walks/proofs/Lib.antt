@@ -5,3 +5,4 @@ pub mod Order
 pub mod Meanings
 pub mod NextStates
 pub mod Listing
+pub mod RisingOrder

@@ -10,22 +10,25 @@ use lib.Dec.{T}
 use lib.ListN.{length}
 use Rattle.kinds.specs.declared.refusals.Refusal.{Refusal}
 use Rattle.rules.specs.Lists.{All}
-use Rattle.rules.specs.Sets.{has}
+use Rattle.rules.specs.Sets.{has, ProperSubset}
 use Rattle.rules.specs.Rules.{Rule, Model, FirstBroken, reduct, model?, firstBroken}
 use Rattle.rules.specs.Stable.{Stable}
-use Rattle.rules.specs.Preferred.{Beats, Preferred, beats?}
+use Rattle.kinds.specs.Limits.{fixed}
+use Rattle.rules.specs.Preferred.{Beats, Preferred, ofClass, agree?, beats?}
 use Rattle.rules.proofs.Booleans.{decide}
 use Rattle.rules.proofs.Rules.{model-law, first-broken-le, no-broken-model, model-no-broken, first-broken, first-broken-one}
-use Rattle.rules.proofs.Preferred.{beats-law}
-use Rattle.walks.specs.Walk.{search, capped, preferredWalk, stableWalk, preferredNeeds, stableNeeds, preferredVerdict, stableVerdict}
+use Rattle.rules.proofs.Stable.{proper-lt}
+use Rattle.rules.proofs.Preferred.{agree-law, beats-law}
+use Rattle.places.specs.Places.{Earlier}
+use Rattle.walks.specs.Walk.{walkOrder, agreeing, proper?, properSubsets, search, capped, preferredWalk, stableWalk, preferredBy, stableBy, preferredNeeds, stableNeeds, preferredVerdict, stableVerdict}
 use Rattle.walks.specs.Meanings.{FirstAt, CandidateUnits, PreferredMeans, StableMeans}
 use Rattle.walks.specs.declared.answers.Verdict.{Verdict}
 use Rattle.walks.specs.declared.answers.Verdict.the-variants.{Yes, Broken, Beaten, Spent, Refused}
 use Rattle.walks.proofs.Searches.{Walked, Answered, unitsOf, walked-answered, yes-broken, broken-beaten, search-walked, search-yes, search-beaten, capped-same, capped-spent, never-refused}
-use Rattle.walks.proofs.Order.{all-preferred-walk, all-stable-walk}
+use Rattle.walks.proofs.Order.{AllSets, all-walk-order, earliest-kept, all-agreeing, proper-law, all-proper}
 
 -- no model exactly when there is a first broken rule, which is the one counted
-broken-law : (rs : List (Rule ℕ)) (m i : ℕ) → ((Model rs (has m) → ⊥) × (i ≡ firstBroken rs (has m))) ↔ FirstBroken rs (has m) i
+pub broken-law : (rs : List (Rule ℕ)) (m i : ℕ) → ((Model rs (has m) → ⊥) × (i ≡ firstBroken rs (has m))) ↔ FirstBroken rs (has m) i
 broken-law rs m i = (there, back)
   where
     inside : (Model rs (has m) → ⊥) → Dec (firstBroken rs (has m) < length rs) → firstBroken rs (has m) < length rs
@@ -41,11 +44,11 @@ broken-law rs m i = (there, back)
         (λ k. (let l = h .inside in omega (arith, model-no-broken rs (has m) k)), sym e)
 
 -- v is the answer, whatever the budget, for a set m whose walk is l: yes where m is good, else its first broken rule or the first set that is P
-record Judged (rs : List (Rule ℕ)) (m : ℕ) (P : ℕ → Type 0) (l : List ℕ) (Good : Type 0) (v : Verdict) : Type 0 where
-  answered : Answered v
-  is-yes : (u : ℕ) → v ≡ Yes u ↔ (Good × (u ≡ length l))
-  is-broken : (i : ℕ) → v ≡ Broken i ↔ FirstBroken rs (has m) i
-  is-beaten : (s u : ℕ) → v ≡ Beaten s u ↔ (Model rs (has m) × FirstAt P l s u)
+pub record Judged (rs : List (Rule ℕ)) (m : ℕ) (P : ℕ → Type 0) (l : List ℕ) (Good : Type 0) (v : Verdict) : Type 0 where
+  pub answered : Answered v
+  pub is-yes : (u : ℕ) → v ≡ Yes u ↔ (Good × (u ≡ length l))
+  pub is-broken : (i : ℕ) → v ≡ Broken i ↔ FirstBroken rs (has m) i
+  pub is-beaten : (s u : ℕ) → v ≡ Beaten s u ↔ (Model rs (has m) × FirstAt P l s u)
 
 -- the walk where the set is a model, else the rule that is broken
 module _ (rs : List (Rule ℕ)) (m : ℕ) (better : ℕ → Bool) (P : ℕ → Type 0) (law : (s : ℕ) → T (better s) ↔ P s) (l : List ℕ) (Good : Type 0) (good : (Model rs (has m) × All (λ s. P s → ⊥) l) ↔ Good) where
@@ -104,20 +107,23 @@ module _ {rs : List (Rule ℕ)} {m : ℕ} {P : ℕ → Type 0} {l : List ℕ} {G
   units-broken : (Model rs (has m) → ⊥) → unitsOf v ≡ 0
   units-broken h = ap unitsOf (j .is-broken (firstBroken rs (has m)) .1 (broken-law rs m (firstBroken rs (has m)) .0 (h, refl)))
 
+  pub says-yes : ((u : ℕ) × (v ≡ Yes u)) ↔ Good
+  says-yes = (λ h. j .is-yes (h .0) .0 (h .1) .0, λ g. (length l, j .is-yes (length l) .1 (g, refl)))
+
   module _ (b : ℕ) where
-    verdict-yes : (u : ℕ) → capped b v ≡ Yes u ↔ (Good × (u ≡ length l) × (u ≤ b))
+    pub verdict-yes : (u : ℕ) → capped b v ≡ Yes u ↔ (Good × (u ≡ length l) × (u ≤ b))
     verdict-yes u = let c = capped-same b v (j .answered) (Yes u) tt in let r = j .is-yes u in (
       λ e. let h = c .0 e in let k = r .0 (h .0) in (k .0, k .1, h .1),
       λ h. c .1 (r .1 (h .0, h .1), h .2),
     )
 
-    verdict-broken : (i : ℕ) → capped b v ≡ Broken i ↔ FirstBroken rs (has m) i
+    pub verdict-broken : (i : ℕ) → capped b v ≡ Broken i ↔ FirstBroken rs (has m) i
     verdict-broken i = let c = capped-same b v (j .answered) (Broken i) tt in (
       λ e. j .is-broken i .0 (c .0 e .0),
       λ h. c .1 (j .is-broken i .1 h, omega arith),
     )
 
-    verdict-beaten : (s u : ℕ) → capped b v ≡ Beaten s u ↔ (Model rs (has m) × FirstAt P l s u × (u ≤ b))
+    pub verdict-beaten : (s u : ℕ) → capped b v ≡ Beaten s u ↔ (Model rs (has m) × FirstAt P l s u × (u ≤ b))
     verdict-beaten s u = let c = capped-same b v (j .answered) (Beaten s u) tt in let r = j .is-beaten s u in (
       λ e. let h = c .0 e in let k = r .0 (h .0) in (k .0, k .1, h .1),
       λ h. c .1 (r .1 (h .0, h .1), h .2),
@@ -133,29 +139,34 @@ module _ {rs : List (Rule ℕ)} {m : ℕ} {P : ℕ → Type 0} {l : List ℕ} {G
         some-model l (inl t) = model-law rs (has m) .0 t
         some-model l (inr t) = absurd (omega (arith, units-broken (λ k. t (model-law rs (has m) .1 k))))
 
-    verdict-unrefused : (f : Refusal) → capped b v ≡ Refused f → ⊥
+    pub verdict-unrefused : (f : Refusal) → capped b v ≡ Refused f → ⊥
     verdict-unrefused f = never-refused b v (j .answered) f
 
 module _ (ws : List ℕ) (rs : List (Rule ℕ)) (m : ℕ) where
   abbrev Beating : ℕ → Type 0
   Beating s = Beats ws rs s m
 
-  -- nothing in the walk beats m: then nothing does, for what beats m agrees with it on the fixed atoms
-  unbeaten : (Model rs (has m) × All (λ s. Beating s → ⊥) (preferredWalk ws m)) ↔ Preferred ws rs m
-  unbeaten = (
-    λ h. record { model = h .0; unbeaten = λ s l b. all-preferred-walk ws m (λ s. Beating s → ⊥) .0 (h .1) s l (b .agrees) b },
-    λ p. (p .model, all-preferred-walk ws m (λ s. Beating s → ⊥) .1 (λ s l a. p .unbeaten s l)),
-  )
+  -- among all sets, in any order
+  module _ (sets : List ℕ) (all : AllSets (length ws) sets) where
+    -- nothing in the walk beats m: then nothing does, for what beats m agrees with it on the fixed atoms
+    unbeaten : (Model rs (has m) × All (λ s. Beating s → ⊥) (agreeing ws m sets)) ↔ Preferred ws rs m
+    unbeaten = (
+      λ h. record { model = h .0; unbeaten = λ s l b. all-agreeing ws m sets all (λ s. Beating s → ⊥) .0 (h .1) s l (b .agrees) b },
+      λ p. (p .model, all-agreeing ws m sets all (λ s. Beating s → ⊥) .1 (λ s l a. p .unbeaten s l)),
+    )
 
-  preferred-judged : Judged rs m (λ s. Beats ws rs s m) (preferredWalk ws m) (Preferred ws rs m) (preferredNeeds ws rs m)
-  unfolding preferredNeeds
-  preferred-judged = judged rs m (λ s. beats? ws rs s m) Beating (λ s. beats-law ws rs s m) (preferredWalk ws m) (Preferred ws rs m) unbeaten
+    pub preferred-among : Judged rs m (λ s. Beats ws rs s m) (agreeing ws m sets) (Preferred ws rs m) (preferredBy ws rs m (agreeing ws m sets))
+    preferred-among = judged rs m (λ s. beats? ws rs s m) Beating (λ s. beats-law ws rs s m) (agreeing ws m sets) (Preferred ws rs m) unbeaten
+
+  pub preferred-judged : Judged rs m (λ s. Beats ws rs s m) (preferredWalk ws m) (Preferred ws rs m) (preferredNeeds ws rs m)
+  unfolding preferredNeeds preferredWalk
+  preferred-judged = preferred-among (walkOrder (length ws)) (all-walk-order (length ws))
 
   pub preferred-answered : Answered (preferredNeeds ws rs m)
   preferred-answered = preferred-judged .answered
 
   pub yes-law : ((u : ℕ) × (preferredNeeds ws rs m ≡ Yes u)) ↔ Preferred ws rs m
-  yes-law = (λ h. preferred-judged .is-yes (h .0) .0 (h .1) .0, λ p. (length (preferredWalk ws m), preferred-judged .is-yes (length (preferredWalk ws m)) .1 (p, refl)))
+  yes-law = says-yes preferred-judged
 
   -- what a candidate costs
   pub candidate-law : (c : ℕ) → CandidateUnits ws rs m c ↔ (c ≡ suc (unitsOf (preferredNeeds ws rs m)))
@@ -171,12 +182,17 @@ module _ (ws : List ℕ) (rs : List (Rule ℕ)) (m : ℕ) where
           let none : Model rs (has m) → ⊥ = λ k. t (model-law rs (has m) .1 k) in
           inl (none, omega (arith, units-broken preferred-judged none))
 
+  earliest : (s u : ℕ) → FirstAt Beating (preferredWalk ws m) s u → (t : ℕ) → t < 2 ^ length ws → Earlier (length ws) t s → Beating t → ⊥
+  unfolding preferredWalk
+  earliest s u f t l e h = earliest-kept Beating (length ws) (λ s. agree? (ofClass ws fixed) s m) s (f .0) (f .2) t l (agree-law ws t m fixed .1 (h .agrees)) e h
+
   pub preferred-means : (budget : ℕ) → PreferredMeans ws rs m budget
   unfolding preferredVerdict
   preferred-means budget = record {
     yes = verdict-yes preferred-judged budget;
     broken = verdict-broken preferred-judged budget;
     beaten = verdict-beaten preferred-judged budget;
+    earliest = λ s u e. earliest s u (verdict-beaten preferred-judged budget s u .0 e .1);
     spent = verdict-spent preferred-judged budget;
     never-refused = verdict-unrefused preferred-judged budget;
   }
@@ -186,15 +202,23 @@ module _ (n : ℕ) (rs : List (Rule ℕ)) (m : ℕ) (inside : m < 2 ^ n) where
   abbrev Smaller : ℕ → Type 0
   Smaller s = Model (reduct rs (has m)) (has s)
 
-  minimal : (Model rs (has m) × All (λ s. Smaller s → ⊥) (stableWalk n m)) ↔ Stable rs m
-  minimal = (
-    λ h. record { model = h .0; minimal = λ s p. all-stable-walk n m inside (λ s. Smaller s → ⊥) .0 (h .1) s p },
-    λ p. (p .model, all-stable-walk n m inside (λ s. Smaller s → ⊥) .1 (λ s q. p .minimal s q)),
-  )
+  module _ (sets : List ℕ) (all : AllSets n sets) where
+    minimal : (Model rs (has m) × All (λ s. Smaller s → ⊥) (properSubsets m sets)) ↔ Stable rs m
+    minimal = (
+      λ h. record { model = h .0; minimal = λ s p. all-proper n m inside sets all (λ s. Smaller s → ⊥) .0 (h .1) s p },
+      λ p. (p .model, all-proper n m inside sets all (λ s. Smaller s → ⊥) .1 (λ s q. p .minimal s q)),
+    )
 
-  stable-judged : Judged rs m (λ s. Model (reduct rs (has m)) (has s)) (stableWalk n m) (Stable rs m) (stableNeeds n rs m)
-  unfolding stableNeeds
-  stable-judged = judged rs m (λ s. model? (reduct rs (has m)) (has s)) Smaller (λ s. model-law (reduct rs (has m)) (has s)) (stableWalk n m) (Stable rs m) minimal
+    pub stable-among : Judged rs m (λ s. Model (reduct rs (has m)) (has s)) (properSubsets m sets) (Stable rs m) (stableBy rs m (properSubsets m sets))
+    stable-among = judged rs m (λ s. model? (reduct rs (has m)) (has s)) Smaller (λ s. model-law (reduct rs (has m)) (has s)) (properSubsets m sets) (Stable rs m) minimal
+
+  pub stable-judged : Judged rs m (λ s. Model (reduct rs (has m)) (has s)) (stableWalk n m) (Stable rs m) (stableNeeds n rs m)
+  unfolding stableNeeds stableWalk
+  stable-judged = stable-among (walkOrder n) (all-walk-order n)
+
+  earliest-smaller : (s u : ℕ) → FirstAt Smaller (stableWalk n m) s u → (t : ℕ) → ProperSubset t m → Earlier n t s → Smaller t → ⊥
+  unfolding stableWalk
+  earliest-smaller s u f t p = earliest-kept Smaller n (λ s. proper? s m) s (f .0) (f .2) t (omega (arith, proper-lt t m p)) (proper-law t m .1 p)
 
   pub stable-means : (budget : ℕ) → StableMeans n rs m budget
   unfolding stableVerdict
@@ -202,6 +226,7 @@ module _ (n : ℕ) (rs : List (Rule ℕ)) (m : ℕ) (inside : m < 2 ^ n) where
     yes = verdict-yes stable-judged budget;
     broken = verdict-broken stable-judged budget;
     beaten = verdict-beaten stable-judged budget;
+    earliest = λ s u e. earliest-smaller s u (verdict-beaten stable-judged budget s u .0 e .1);
     spent = verdict-spent stable-judged budget;
     never-refused = verdict-unrefused stable-judged budget;
   }

@@ -3,23 +3,26 @@ use Prim.Native.Nat.{ℕ, zero, suc, _+_, _-_, _^_, _≤_, _<_}
 use mathlib.Core.Path.{_≡_, refl, sym, ap, _∙_, subst}
 use mathlib.Core.Logic.{_↔_, inl, inr}
 use mathlib.Core.Bool.{Bool, cond}
-use mathlib.Core.List.{List, [], _∷_}
+use mathlib.Core.List.{List, [], _∷_, map}
 use native.Mathlib.Omega.{arith}
-use lib.ListN.{length, getD, take}
+use lib.ListN.{length, take, drop, length-map}
 use borrow.Author.Tests.{le-leb, lt-leb}
 use Rattle.kinds.specs.declared.refusals.Refusal.{Refusal}
 use Rattle.rules.specs.Lists.{All, from, sum}
 use Rattle.rules.specs.Rules.{Rule}
 use Rattle.rules.specs.Preferred.{Preferred}
-use Rattle.rules.proofs.Lists.{from-all, length-from}
-use Rattle.walks.specs.Walk.{candidates, preferredNeeds, after, firstState, cappedNext, nextVerdict}
-use Rattle.walks.specs.Meanings.{First, Least, CandidateUnits, TotalUnits, FoundState, NoState, NextUnits, NextMeans}
+use Rattle.rules.specs.Renumbering.{Bijection}
+use Rattle.rules.proofs.Lists.{from-all, map-all, map-from-at, length-from}
+use Rattle.places.specs.Places.{place, setAt}
+use Rattle.places.proofs.Places.{by-place, in-places}
+use Rattle.walks.specs.Walk.{walkOrder, candidates, preferredNeeds, after, firstState, cappedNext, nextVerdict}
+use Rattle.walks.specs.Meanings.{First, EarliestFrom, CandidateUnits, TotalUnits, FoundState, NoState, NextUnits, NextMeans}
 use Rattle.walks.specs.declared.answers.Verdict.{Verdict}
 use Rattle.walks.specs.declared.answers.Verdict.the-variants.{Yes, Broken, Beaten, Spent, Refused}
 use Rattle.walks.specs.declared.answers.NextState.{NextState}
 use Rattle.walks.specs.declared.answers.NextState.the-variants.{State, Nothing, Spent as NextSpent, Refused as NextRefused}
 use Rattle.walks.proofs.Searches.{Answered, unitsOf, under-budget, over-budget, nothing-else}
-use Rattle.walks.proofs.Order.{candidates-from}
+use Rattle.walks.proofs.Order.{setsBy, sets-from}
 use Rattle.walks.proofs.Meanings.{preferred-answered, yes-law, candidate-law}
 
 abbrev pub nextUnits : NextState → ℕ
@@ -60,10 +63,10 @@ module _ (b : ℕ) (v : NextState) (a : NextAnswered v) where
   pub next-same : (r : NextState) → NextAnswered r → cappedNext b v ≡ r ↔ ((v ≡ r) × (nextUnits r ≤ b))
   next-same = under-budget nextUnits NextAnswered NextSpent cappedNext next-within next-over (λ u h. h) spent-inj b v a
 
-  capped-spent : (u : ℕ) → cappedNext b v ≡ NextSpent u ↔ ((u ≡ b) × (b < nextUnits v))
+  pub capped-spent : (u : ℕ) → cappedNext b v ≡ NextSpent u ↔ ((u ≡ b) × (b < nextUnits v))
   capped-spent = over-budget nextUnits NextAnswered NextSpent cappedNext next-within next-over (λ u h. h) spent-inj b v a
 
-  never-refused : (f : Refusal) → cappedNext b v ≡ NextRefused f → ⊥
+  pub never-refused : (f : Refusal) → cappedNext b v ≡ NextRefused f → ⊥
   never-refused f = nothing-else nextUnits NextAnswered NextSpent cappedNext next-within next-over (λ u h. h) spent-inj b v a (NextRefused f) (λ h. h) (λ e. let z : _≡_ {A = ℕ} 0 1 = cc in omega arith)
 
 -- candidates one after another, each with a verdict of its own
@@ -110,7 +113,7 @@ module _ (verdict : ℕ → Verdict) (P : ℕ → Type 0) (answered : (s : ℕ) 
       step (is-yes w e) h = subst (λ (v : Verdict). NextAnswered (after v x u (λ v. firstState verdict l v))) (sym e) tt
       step (is-other o) h = subst NextAnswered (sym (passed (verdict x) x u (λ v. firstState verdict l v) o)) h
 
-  first-nothing : (l : List ℕ) (u v : ℕ) → firstState verdict l u ≡ Nothing v ↔ (All (λ s. P s → ⊥) l × (v ≡ u + sum cost l))
+  pub first-nothing : (l : List ℕ) (u v : ℕ) → firstState verdict l u ≡ Nothing v ↔ (All (λ s. P s → ⊥) l × (v ≡ u + sum cost l))
   unfolding firstState
   first-nothing [] u v = (λ e. (tt, let q : u ≡ v = cc in omega arith), λ h. ap Nothing (let q = h .1 in omega arith))
   first-nothing (x ∷ l) u v = step (cases (verdict x) (answered x)) (first-nothing l (u + cost x) v)
@@ -127,7 +130,7 @@ module _ (verdict : ℕ → Verdict) (P : ℕ → Type 0) (answered : (s : ℕ) 
             λ h. p ∙ r .1 (h .0 .1, let k = h .1 in omega arith),
           )
 
-  first-state : (l : List ℕ) (u s v : ℕ) → firstState verdict l u ≡ State s v ↔ ((k : ℕ) × First P l s k × (v ≡ u + sum cost (take (suc k) l)))
+  pub first-state : (l : List ℕ) (u s v : ℕ) → firstState verdict l u ≡ State s v ↔ ((k : ℕ) × First P l s k × (v ≡ u + sum cost (take (suc k) l)))
   unfolding firstState
   first-state [] u s v = (λ e. state-nothing (sym e), λ h. absurd (let i = h .1 .inside in omega arith))
   first-state (x ∷ l) u s v = step (cases (verdict x) (answered x)) (first-state l (u + cost x) s v)
@@ -172,25 +175,52 @@ total-law Units cost law (s ∷ l) u = (
   λ e. (cost s, sum cost l, law s (cost s) .1 refl, total-law Units cost law l (sum cost l) .1 refl, e),
 )
 
--- the first among numbers that follow each other is the least
+-- the first in an order is the one of the least place
 
-from-at : (a c k : ℕ) → k < c → getD (from a c) k 0 ≡ a + k
-from-at a zero k h = absurd (omega arith)
-from-at a (suc c) zero h = omega arith
-from-at a (suc c) (suc k) h = from-at (suc a) c k (omega arith) ∙ omega arith
+take-map : (f : ℕ → ℕ) (k : ℕ) (l : List ℕ) → take k (map f l) ≡ map f (take k l)
+take-map f zero l = refl
+take-map f (suc k) [] = refl
+take-map f (suc k) (x ∷ l) = ap (λ (t : List ℕ). f x ∷ t) (take-map f k l)
 
 take-from : (a c k : ℕ) → k ≤ c → take k (from a c) ≡ from a k
 take-from a c zero h = refl
 take-from a zero (suc k) h = absurd (omega arith)
 take-from a (suc c) (suc k) h = ap (λ (l : List ℕ). a ∷ l) (take-from (suc a) c k (omega arith))
 
-module _ (P : ℕ → Type 0) (a c s : ℕ) where
-  first-least : (k : ℕ) → First P (from a c) s k → (s ≡ a + k) × (s < a + c) × Least P a s
-  first-least k f =
-      let i : k < c = omega (arith, f .inside, length-from a c) in
-      let e : s ≡ a + k = sym (f .place) ∙ from-at a c k i in
-      let before = subst (All (λ x. P x → ⊥)) (take-from a c k (omega arith)) (f .earlier) in
-      (e, omega arith, record { above = omega arith; here = f .here; least = λ t l u p. from-all (λ x. P x → ⊥) a k before t l (omega arith) p })
+-- s has the least place, from a on, of the sets of n atoms that are P
+pub record Foremost (P : ℕ → Type 0) (n : ℕ) (place : ℕ → ℕ) (a s : ℕ) : Type 0 where
+  pub inside : s < 2 ^ n
+  pub after : a ≤ place s
+  pub here : P s
+  pub foremost : (t : ℕ) → t < 2 ^ n → a ≤ place t → place t < place s → P t → ⊥
+
+module _ (P : ℕ → Type 0) (n : ℕ) (at place : ℕ → ℕ) (b : Bijection (2 ^ n) at place) (a : ℕ) where
+  abbrev later : List ℕ
+  later = map at (from a (2 ^ n - a))
+
+  abbrev None : ℕ → Type 0
+  None x = P x → ⊥
+
+  -- what holds of the entries holds of the sets whose places they are
+  at-places : (c : ℕ) → All None (map at (from a c)) → (t : ℕ) → t < 2 ^ n → a ≤ place t → place t < a + c → None t
+  at-places c h t l g u = subst None (b .back-there t l) (from-all (λ p. None (at p)) a c (map-all None at (from a c) h) (place t) g u)
+
+  pub first-found : (s k : ℕ) → First P (drop a (setsBy n at place b)) s k → Foremost P n place a s
+  first-found s k f₀ =
+      let f : First P later s k = subst (λ (l : List ℕ). First P l s k) (sets-from n at place b a) f₀ in
+      let i : k < 2 ^ n - a = omega (arith, f .inside, length-map (from a (2 ^ n - a)) at, length-from a (2 ^ n - a)) in
+      let e : s ≡ at (a + k) = sym (f .place) ∙ map-from-at at 0 a (2 ^ n - a) k i in
+      let p : place s ≡ a + k = ap place e ∙ b .there-back (a + k) (omega arith) in
+      let before = subst (All None) (take-map at k (from a (2 ^ n - a)) ∙ ap (map at) (take-from a (2 ^ n - a) k (omega arith))) (f .earlier) in
+      record {
+        inside = subst (λ (x : ℕ). x < 2 ^ n) (sym e) (b .there (a + k) (omega arith));
+        after = omega arith;
+        here = f .here;
+        foremost = λ t l g u. at-places k before t l g (omega arith);
+      }
+
+  pub none-found : All None (drop a (setsBy n at place b)) → (t : ℕ) → t < 2 ^ n → a ≤ place t → None t
+  none-found h t l g = at-places (2 ^ n - a) (subst (All None) (sets-from n at place b a) h) t l g (omega (arith, b .back t l))
 
 module _ (ws : List ℕ) (rs : List (Rule ℕ)) (start : ℕ) where
   -- the next state with the units needed, whatever the budget
@@ -233,29 +263,33 @@ module _ (ws : List ℕ) (rs : List (Rule ℕ)) (start : ℕ) where
   units-counted n (inl h) = ap nextUnits (needs-state (h .0) n .1 (h .1))
   units-counted n (inr h) = ap nextUnits (needs-nothing n .1 h)
 
-  module _ (inside : start ≤ 2 ^ length ws) where
-    found-least : (s u : ℕ) → FoundState ws rs start s u → (s < 2 ^ length ws) × Least (Preferred ws rs) start s
-    found-least s u h =
-        let f = first-least (Preferred ws rs) start (2 ^ length ws - start) s (h .0) (subst (λ (l : List ℕ). First (Preferred ws rs) l s (h .0)) (candidates-from ws start) (h .1)) in
-        let l = f .1 in
-        (omega arith, f .2)
+  -- the candidates, as the sets of the order from the start on
+  abbrev places : Bijection (2 ^ length ws) (setAt (length ws)) (place (length ws))
+  places = by-place (length ws)
 
-    none-found : (u : ℕ) → NoState ws rs start u → (s : ℕ) → start ≤ s → s < 2 ^ length ws → Preferred ws rs s → ⊥
-    none-found u h s l k = from-all (λ x. Preferred ws rs x → ⊥) start (2 ^ length ws - start) (subst (All (λ x. Preferred ws rs x → ⊥)) (candidates-from ws start) (h .0)) s l (omega arith)
+  found-earliest : (s u : ℕ) → FoundState ws rs start s u → EarliestFrom (Preferred ws rs) (length ws) start s
+  unfolding candidates walkOrder
+  found-earliest s u h =
+      let f = first-found (Preferred ws rs) (length ws) (setAt (length ws)) (place (length ws)) places start s (h .0) (h .1) in
+      record { inside = f .inside; after = f .after; here = f .here; earliest = λ t l g e. f .foremost t l g (in-places (length ws) .order t s .1 e) }
 
-    pub next-means : (budget : ℕ) → NextMeans ws rs start budget
-    unfolding nextVerdict
-    next-means budget =
-        let same = next-same budget nextNeeds needs-answered in
-        let over = capped-spent budget nextNeeds needs-answered in
-        record {
-          state = λ s u. (λ e. let h = same (State s u) tt .0 e in (needs-state s u .0 (h .0), h .1), λ h. same (State s u) tt .1 (needs-state s u .1 (h .0), h .1));
-          least = λ s u e. found-least s u (needs-state s u .0 (same (State s u) tt .0 e .0));
-          nothing = λ u. (λ e. let h = same (Nothing u) tt .0 e in (needs-nothing u .0 (h .0), h .1), λ h. same (Nothing u) tt .1 (needs-nothing u .1 (h .0), h .1));
-          none-above = λ u e. none-found u (needs-nothing u .0 (same (Nothing u) tt .0 e .0));
-          spent = λ u. (
-            λ e. let h = over u .0 e in (h .0, (nextUnits nextNeeds, units-needed, h .1)),
-            λ h. over u .1 (h .0, let k = units-counted (h .1 .0) (h .1 .1) in let l = h .1 .2 in omega arith),
-          );
-          never-refused = never-refused budget nextNeeds needs-answered;
-        }
+  none-after : (u : ℕ) → NoState ws rs start u → (s : ℕ) → s < 2 ^ length ws → start ≤ place (length ws) s → Preferred ws rs s → ⊥
+  unfolding candidates walkOrder
+  none-after u h = none-found (Preferred ws rs) (length ws) (setAt (length ws)) (place (length ws)) places start (h .0)
+
+  pub next-means : (budget : ℕ) → NextMeans ws rs start budget
+  unfolding nextVerdict
+  next-means budget =
+      let same = next-same budget nextNeeds needs-answered in
+      let over = capped-spent budget nextNeeds needs-answered in
+      record {
+        state = λ s u. (λ e. let h = same (State s u) tt .0 e in (needs-state s u .0 (h .0), h .1), λ h. same (State s u) tt .1 (needs-state s u .1 (h .0), h .1));
+        earliest = λ s u e. found-earliest s u (needs-state s u .0 (same (State s u) tt .0 e .0));
+        nothing = λ u. (λ e. let h = same (Nothing u) tt .0 e in (needs-nothing u .0 (h .0), h .1), λ h. same (Nothing u) tt .1 (needs-nothing u .1 (h .0), h .1));
+        none-after = λ u e. none-after u (needs-nothing u .0 (same (Nothing u) tt .0 e .0));
+        spent = λ u. (
+          λ e. let h = over u .0 e in (h .0, (nextUnits nextNeeds, units-needed, h .1)),
+          λ h. over u .1 (h .0, let k = units-counted (h .1 .0) (h .1 .1) in let l = h .1 .2 in omega arith),
+        );
+        never-refused = never-refused budget nextNeeds needs-answered;
+      }

@@ -46,7 +46,7 @@ walked-answered (Beaten s u) h = tt
 walked-answered (Spent u) h = absurd h
 walked-answered (Refused f) h = absurd h
 
-yes-beaten : {A : Type 0} {u s v : ℕ} → Yes u ≡ Beaten s v → A
+pub yes-beaten : {A : Type 0} {u s v : ℕ} → Yes u ≡ Beaten s v → A
 yes-beaten e = absurd (let z : _≡_ {A = ℕ} 0 1 = cc in omega arith)
 
 pub yes-broken : {A : Type 0} {u i : ℕ} → Yes u ≡ Broken i → A

@@ -3,3 +3,4 @@ pub mod Walk
 pub mod Answers
 pub mod Meanings
 pub mod Listings
+pub mod RisingOrder

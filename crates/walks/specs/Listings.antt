@@ -7,6 +7,7 @@ use lib.ListN.{length, getD, take}
 use Rattle.rules.specs.Lists.{All, Any, Distinct}
 use Rattle.rules.specs.Rules.{Rule}
 use Rattle.rules.specs.Preferred.{Preferred}
+use Rattle.places.specs.Places.{place}
 use Rattle.walks.specs.Walk.{walkOrder, preferredSets, nextVerdict}
 use Rattle.walks.specs.declared.answers.NextState.{NextState}
 use Rattle.walks.specs.declared.answers.NextState.the-variants.{State, Nothing, Spent as NextSpent, Refused as NextRefused}
@@ -24,36 +25,40 @@ pub record ListsPreferred (ws : List ℕ) (rs : List (Rule ℕ)) (l : List ℕ) 
   pub only : All (λ s. (s < 2 ^ length ws) × Preferred ws rs s) l
   pub in-order : Subsequence l (walkOrder (length ws))
 
--- the states that come of starting at a number and going on from each answer plus one, at most k of them
-abbrev pub goOn : NextState → (ℕ → List ℕ) → List ℕ
-goOn (State s u) rest = s ∷ rest (suc s)
-goOn (Nothing u) rest = []
-goOn (NextSpent u) rest = []
-goOn (NextRefused f) rest = []
+-- the states that come of starting at a place and going on from the place after each answer's, at most k of them; `place` is that of the order
+abbrev pub goOn : (ℕ → ℕ) → NextState → (ℕ → List ℕ) → List ℕ
+goOn place (State s u) rest = s ∷ rest (suc (place s))
+goOn place (Nothing u) rest = []
+goOn place (NextSpent u) rest = []
+goOn place (NextRefused f) rest = []
 
-abbrev pub listed : (ℕ → NextState) → ℕ → ℕ → List ℕ
-listed next zero start = []
-listed next (suc k) start = goOn (next start) (λ t. listed next k t)
+abbrev pub listed : (ℕ → ℕ) → (ℕ → NextState) → ℕ → ℕ → List ℕ
+listed place next zero start = []
+listed place next (suc k) start = goOn place (next start) (λ t. listed place next k t)
 
 -- a step of the listing starts at 0 or right after a preferred set
-abbrev pub ListingStep : List ℕ → List (Rule ℕ) → ℕ → Type 0
-ListingStep ws rs t = (t ≡ 0) ⊎ ((s : ℕ) × (t ≡ suc s) × (s < 2 ^ length ws) × Preferred ws rs s)
+abbrev pub ListingStep : (ℕ → ℕ) → List ℕ → List (Rule ℕ) → ℕ → Type 0
+ListingStep place ws rs t = (t ≡ 0) ⊎ ((s : ℕ) × (t ≡ suc (place s)) × (s < 2 ^ length ws) × Preferred ws rs s)
+
+-- no step is spent
+abbrev pub NeverSpent : (ℕ → ℕ) → List ℕ → List (Rule ℕ) → (ℕ → NextState) → Type 0
+NeverSpent place ws rs next = (t u : ℕ) → ListingStep place ws rs t → next t ≡ NextSpent u → ⊥
 
 -- no step is spent, and l is the whole list
 pub record Whole (ws : List ℕ) (rs : List (Rule ℕ)) (budget : ℕ) (l : List ℕ) : Type 0 where
-  pub unspent : (t u : ℕ) → ListingStep ws rs t → nextVerdict ws rs t budget ≡ NextSpent u → ⊥
+  pub unspent : NeverSpent (place (length ws)) ws rs (λ t. nextVerdict ws rs t budget)
   pub states : l ≡ preferredSets ws rs
 
 -- where the step after the first c states of l starts, the first step starting at `start`
-abbrev pub stepAfter : ℕ → List ℕ → ℕ → ℕ
-stepAfter start l zero = start
-stepAfter start l (suc c) = suc (getD l c 0)
+abbrev pub stepAfter : (ℕ → ℕ) → ℕ → List ℕ → ℕ → ℕ
+stepAfter place start l zero = start
+stepAfter place start l (suc c) = suc (place (getD l c 0))
 
 -- the step after the first `count` states is spent, no earlier one is, and l has these states
 pub record CutShort (ws : List ℕ) (rs : List (Rule ℕ)) (budget : ℕ) (l : List ℕ) : Type 0 where
   pub count : ℕ
   pub inside : count ≤ length (preferredSets ws rs)
-  pub step : ListingStep ws rs (stepAfter 0 (preferredSets ws rs) count)
-  pub spent : nextVerdict ws rs (stepAfter 0 (preferredSets ws rs) count) budget ≡ NextSpent budget
-  pub earlier : (c u : ℕ) → c < count → nextVerdict ws rs (stepAfter 0 (preferredSets ws rs) c) budget ≡ NextSpent u → ⊥
+  pub step : ListingStep (place (length ws)) ws rs (stepAfter (place (length ws)) 0 (preferredSets ws rs) count)
+  pub spent : nextVerdict ws rs (stepAfter (place (length ws)) 0 (preferredSets ws rs) count) budget ≡ NextSpent budget
+  pub earlier : (c u : ℕ) → c < count → nextVerdict ws rs (stepAfter (place (length ws)) 0 (preferredSets ws rs) c) budget ≡ NextSpent u → ⊥
   pub states : l ≡ take count (preferredSets ws rs)

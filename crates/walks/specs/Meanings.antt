@@ -6,10 +6,11 @@ use mathlib.Core.List.{List, [], _∷_}
 use lib.ListN.{length, getD, take}
 use Rattle.kinds.specs.declared.refusals.Refusal.{Refusal}
 use Rattle.rules.specs.Lists.{All, Any, Distinct}
-use Rattle.rules.specs.Sets.{has}
+use Rattle.rules.specs.Sets.{has, ProperSubset}
 use Rattle.rules.specs.Rules.{Rule, Model, FirstBroken, reduct}
 use Rattle.rules.specs.Stable.{Stable}
 use Rattle.rules.specs.Preferred.{Beats, Preferred}
+use Rattle.places.specs.Places.{Earlier, place}
 use Rattle.walks.specs.Walk.{preferredWalk, stableWalk, candidates, preferredVerdict, stableVerdict, nextVerdict}
 use Rattle.walks.specs.declared.answers.Verdict.the-variants.{Yes, Broken, Beaten, Spent, Refused}
 use Rattle.walks.specs.declared.answers.NextState.the-variants.{State, Nothing, Spent as NextSpent, Refused as NextRefused}
@@ -19,6 +20,11 @@ pub record EachSetOnce (n : ℕ) (l : List ℕ) : Type 0 where
   pub once : Distinct l
   pub only : All (λ s. s < 2 ^ n) l
   pub each : (s : ℕ) → s < 2 ^ n → Any (λ x. x ≡ s) l
+
+-- each set of n atoms once, earlier ones first (document 02, W-206)
+pub record Ordered (n : ℕ) (l : List ℕ) : Type 0 where
+  pub each-once : EachSetOnce n l
+  pub earlier-first : (i j : ℕ) → i < j → j < length l → Earlier n (getD l i 0) (getD l j 0)
 
 -- s is the first entry of the walk that is P, and k entries stand before it
 pub record First (P : ℕ → Type 0) (l : List ℕ) (s k : ℕ) : Type 0 where
@@ -31,11 +37,12 @@ pub record First (P : ℕ → Type 0) (l : List ℕ) (s k : ℕ) : Type 0 where
 abbrev pub FirstAt : (ℕ → Type 0) → List ℕ → ℕ → ℕ → Type 0
 FirstAt P l s u = (k : ℕ) × (u ≡ suc k) × First P l s k
 
--- s is the least number from a on that is P
-pub record Least (P : ℕ → Type 0) (a s : ℕ) : Type 0 where
-  pub above : a ≤ s
+-- s is the earliest set of n atoms, from place a on, that is P
+pub record EarliestFrom (P : ℕ → Type 0) (n a s : ℕ) : Type 0 where
+  pub inside : s < 2 ^ n
+  pub after : a ≤ place n s
   pub here : P s
-  pub least : (t : ℕ) → a ≤ t → t < s → P t → ⊥
+  pub earliest : (t : ℕ) → t < 2 ^ n → a ≤ place n t → Earlier n t s → P t → ⊥
 
 -- the preferred verdict
 
@@ -51,6 +58,8 @@ pub record PreferredMeans (ws : List ℕ) (rs : List (Rule ℕ)) (m budget : ℕ
   pub broken : (i : ℕ) → preferredVerdict ws rs m budget ≡ Broken i ↔ FirstBroken rs (has m) i
   -- the first set of the walk that beats m, with its place
   pub beaten : (s u : ℕ) → preferredVerdict ws rs m budget ≡ Beaten s u ↔ (Model rs (has m) × FirstAt (λ s. Beats ws rs s m) (preferredWalk ws m) s u × (u ≤ budget))
+  -- no earlier set beats m
+  pub earliest : (s u : ℕ) → preferredVerdict ws rs m budget ≡ Beaten s u → (t : ℕ) → t < 2 ^ length ws → Earlier (length ws) t s → Beats ws rs t m → ⊥
   -- exactly when the units needed exceed the budget
   pub spent : (u : ℕ) → preferredVerdict ws rs m budget ≡ Spent u ↔ ((u ≡ budget) × ((n : ℕ) × PreferredUnits ws rs m n × (budget < n)))
   pub never-refused : (f : Refusal) → preferredVerdict ws rs m budget ≡ Refused f → ⊥
@@ -67,6 +76,8 @@ pub record StableMeans (n : ℕ) (rs : List (Rule ℕ)) (m budget : ℕ) : Type 
   pub broken : (i : ℕ) → stableVerdict n rs m budget ≡ Broken i ↔ FirstBroken rs (has m) i
   -- the first proper subset that is a model of the reduct, with its place
   pub beaten : (s u : ℕ) → stableVerdict n rs m budget ≡ Beaten s u ↔ (Model rs (has m) × FirstAt (λ s. Model (reduct rs (has m)) (has s)) (stableWalk n m) s u × (u ≤ budget))
+  -- no earlier one is
+  pub earliest : (s u : ℕ) → stableVerdict n rs m budget ≡ Beaten s u → (t : ℕ) → ProperSubset t m → Earlier n t s → Model (reduct rs (has m)) (has t) → ⊥
   pub spent : (u : ℕ) → stableVerdict n rs m budget ≡ Spent u ↔ ((u ≡ budget) × ((k : ℕ) × StableUnits n rs m k × (budget < k)))
   pub never-refused : (f : Refusal) → stableVerdict n rs m budget ≡ Refused f → ⊥
 
@@ -94,9 +105,9 @@ NextUnits ws rs start u = ((s : ℕ) × FoundState ws rs start s u) ⊎ NoState 
 
 pub record NextMeans (ws : List ℕ) (rs : List (Rule ℕ)) (start budget : ℕ) : Type 0 where
   pub state : (s u : ℕ) → nextVerdict ws rs start budget ≡ State s u ↔ (FoundState ws rs start s u × (u ≤ budget))
-  -- the least preferred set with number at or above the start
-  pub least : (s u : ℕ) → nextVerdict ws rs start budget ≡ State s u → (s < 2 ^ length ws) × Least (Preferred ws rs) start s
+  -- the earliest preferred set with its place at the start or after it
+  pub earliest : (s u : ℕ) → nextVerdict ws rs start budget ≡ State s u → EarliestFrom (Preferred ws rs) (length ws) start s
   pub nothing : (u : ℕ) → nextVerdict ws rs start budget ≡ Nothing u ↔ (NoState ws rs start u × (u ≤ budget))
-  pub none-above : (u : ℕ) → nextVerdict ws rs start budget ≡ Nothing u → (s : ℕ) → start ≤ s → s < 2 ^ length ws → Preferred ws rs s → ⊥
+  pub none-after : (u : ℕ) → nextVerdict ws rs start budget ≡ Nothing u → (s : ℕ) → s < 2 ^ length ws → start ≤ place (length ws) s → Preferred ws rs s → ⊥
   pub spent : (u : ℕ) → nextVerdict ws rs start budget ≡ NextSpent u ↔ ((u ≡ budget) × ((n : ℕ) × NextUnits ws rs start n × (budget < n)))
   pub never-refused : (f : Refusal) → nextVerdict ws rs start budget ≡ NextRefused f → ⊥

@@ -18,3 +18,9 @@ pub enum NextState {
     Spent { units: u64 },
     Refused { refusal: Refusal },
 }
+
+// Where a set stands in the order of the walks.
+pub enum Place {
+    At { place: u64 },
+    Refused { refusal: Refusal },
+}

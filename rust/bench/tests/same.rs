@@ -79,10 +79,10 @@ fn the_walks() {
                 same(walks::stable(&plain_words, set, budget), expected);
                 same(walks::c::stable(&plain_words, set, budget), expected);
             }
-            let expected = Reference.next_state(&words, 1, budget);
-            if file.atoms > 0 {
-                same(walks::next_state(&words, 1, budget), expected);
-                same(walks::c::next_state(&words, 1, budget), expected);
+            for start in [0, 1, random.any() % ((1 << file.atoms) + 1)] {
+                let expected = Reference.next_state(&words, start, budget);
+                same(walks::next_state(&words, start, budget), expected);
+                same(walks::c::next_state(&words, start, budget), expected);
             }
         }
     }

@@ -10,7 +10,7 @@ use reference::program::{Names, Program, Role, Rule};
 use reference::reader;
 use reference::stores::{name_store, rule_store};
 use reference::translator;
-use reference::verdicts::{is_model, Next, Verdict};
+use reference::verdicts::{self, holds, is_model, place, Next, Verdict};
 use reference::writer;
 
 /// The lengths of outputs worth lending where the result has this length.
@@ -133,7 +133,7 @@ fn next_states(check: &mut Checker, random: &mut Random, rules: &[u16], sets: u6
             check.next_state(rules, start, budget)?;
         }
         match set {
-            Some(set) => start = set + 1,
+            Some(set) => start = lent::place(rules, set).expect("a state has a place") + 1,
             None => break,
         }
     }
@@ -248,7 +248,8 @@ fn any_stores(check: &mut Checker, random: &mut Random, rules: &[u16], names: &[
     };
     check.preferred(rules, number, budget)?;
     check.stable(rules, number, budget)?;
-    check.next_state(rules, number, budget.min(2_000))
+    check.next_state(rules, number, budget.min(2_000))?;
+    check.place(rules, number)
 }
 
 /// Small stores with one to three damages.
@@ -322,7 +323,7 @@ pub fn many_atoms(check: &mut Checker, random: &mut Random) -> Checked {
         for budget in [0, 1, random.any() % 700] {
             check.preferred(&rules, set, budget)?;
             check.stable(&rules, set, budget)?;
-            check.next_state(&rules, set, budget)?;
+            check.next_state(&rules, place(program.atoms, set), budget)?;
         }
     }
     for number in [sets - 1, sets, sets + 1, 1 << 60, u64::MAX] {
@@ -416,6 +417,70 @@ pub fn long(check: &mut Checker, random: &mut Random) -> Checked {
         check.preferred(&rules, random.any(), 5)?;
         check.stable(&rules, random.any(), 5)?;
         check.next_state(&rules, random.any(), 5)?;
+        check.place(&rules, random.any())?;
+    }
+    Ok(())
+}
+
+/// Few of the atoms, most, or any.
+fn some_set(random: &mut Random, sets: u64) -> u64 {
+    let (any, few) = (random.any(), random.any() & random.any() & random.any());
+    *random.pick(&[any, few, !few]) & (sets - 1)
+}
+
+/// Places of sets of up to 60 atoms, and what is refused a place: stores of the other kind and of
+/// no form, more atoms, larger numbers, and which of these counts.
+pub fn places(check: &mut Checker, random: &mut Random) -> Checked {
+    let atoms = match random.below(6) {
+        0 => *random.pick(&[0, 1, 2, 59, 60]),
+        1 => *random.pick(&[61, 62, 63, 64, 65, 256]),
+        _ => random.within(0, 60),
+    };
+    let (program, _) = exact(Kind::Preference, atoms, random.below(3), random.below(5));
+    let rules = rule_store(&program);
+    let sets = 1u64 << atoms.min(63);
+    for _ in 0..6 {
+        check.place(&rules, some_set(random, sets))?;
+        check.place(&rules, 1 << random.below(64))?;
+        check.place(&rules, sets >> random.within(1, 8))?;
+    }
+    let (plain, _) = exact(Kind::Plain, atoms, 0, 0);
+    let mut spoiled = rules.clone();
+    spoil::rules(random, &mut spoiled);
+    for set in [0, sets - 1, sets, sets + 1, 1 << 60, u64::MAX] {
+        check.place(&rules, set)?;
+        check.place(&rule_store(&plain), set)?;
+        check.place(&spoiled, set)?;
+    }
+    Ok(())
+}
+
+/// Of two sets, the earlier lacks the first declared atom on which they differ.
+fn sort_by_order(atoms: usize, sets: &mut [u64]) {
+    let members = |set: &u64| -> Vec<bool> { (0..atoms).map(|a| holds(*set, a)).collect() };
+    sets.sort_by_key(members);
+}
+
+/// The states of a small file: all of them in their order, going on from the place of each, and the
+/// next one from the places around it and from its own number.
+pub fn orders(check: &mut Checker, random: &mut Random) -> Checked {
+    let (file, _) = preference(random, Size::SMALL);
+    let rules = rule_store(&file);
+    let sets = 1u64 << file.atoms;
+    let yes = |set: &u64| {
+        let verdict = verdicts::preferred(&file, *set, BUDGET_LIMIT);
+        matches!(verdict, Verdict::Yes { .. })
+    };
+    let mut states: Vec<u64> = (0..sets).filter(yes).collect();
+    sort_by_order(file.atoms, &mut states);
+    check.listing(&rules, &states, BUDGET_LIMIT)?;
+    for chosen in random.choose(4, states.len()) {
+        let set = states[chosen];
+        check.place(&rules, set)?;
+        let at = place(file.atoms, set);
+        for start in [at.saturating_sub(1), at, at + 1, set] {
+            check.next_state(&rules, start, BUDGET_LIMIT)?;
+        }
     }
     Ok(())
 }

@@ -79,7 +79,7 @@ pub enum Outcome {
     Refused(u64),
 }
 
-fn outcome_of_text(refusal: u64) -> Outcome {
+fn outcome_of_refusal(refusal: u64) -> Outcome {
     match refusal {
         0 => Outcome::Done,
         number => Outcome::Refused(number),
@@ -132,7 +132,7 @@ impl<'e> Checker<'e> {
             (answer, rules.memory, names.memory, input == text)
         };
         let (ours, theirs) = (outcome(&Reference), outcome(self.engine));
-        let outcome = outcome_of_text(ours.0.refusal);
+        let outcome = outcome_of_refusal(ours.0.refusal);
         self.same("read", outcome, &ours, &theirs, || {
             format!(
                 "read, outputs {rules_len} and {names_len}, text:\n{}",
@@ -156,7 +156,7 @@ impl<'e> Checker<'e> {
             (answer, out.memory, input.0 == rules && input.1 == names)
         };
         let (ours, theirs) = (outcome(&Reference), outcome(self.engine));
-        let outcome = outcome_of_text(ours.0.refusal);
+        let outcome = outcome_of_refusal(ours.0.refusal);
         self.same(name, outcome, &ours, &theirs, || {
             format!(
                 "{name}, output {out_len}, rules: {}\nnames: {}",
@@ -224,6 +224,35 @@ impl<'e> Checker<'e> {
     pub fn next_state(&mut self, rules: &[u16], start: u64, budget: u64) -> Checked {
         self.verdict_call("next_state", rules, start, budget, |engine, rules| {
             engine.next_state(rules, start, budget)
+        })
+    }
+
+    pub fn place(&mut self, rules: &[u16], set: u64) -> Checked {
+        let outcome = |engine: &dyn Engine| {
+            let input = rules.to_vec();
+            let answer = engine.place(&input, set);
+            (answer, input == rules)
+        };
+        let (ours, theirs) = (outcome(&Reference), outcome(self.engine));
+        let outcome = outcome_of_refusal(ours.0.refusal);
+        self.same("place", outcome, &ours, &theirs, || {
+            format!("place of {set}, rules: {}", shown_words(rules))
+        })
+    }
+
+    /// Compares what the engine lists, going on from the place of each answer plus one, with these
+    /// states.
+    pub fn listing(&mut self, rules: &[u16], states: &[u64], budget: u64) -> Checked {
+        let mut listed = Vec::new();
+        let mut next = self.engine.next_state(rules, 0, budget);
+        while next.kind == 0 && listed.len() <= states.len() {
+            listed.push(next.value);
+            let start = self.engine.place(rules, next.value).value.wrapping_add(1);
+            next = self.engine.next_state(rules, start, budget);
+        }
+        let (ours, theirs) = ((states, 1), (listed.as_slice(), next.kind));
+        self.same("listing", Outcome::Done, &ours, &theirs, || {
+            format!("listing, budget {budget}, rules: {}", shown_words(rules))
         })
     }
 }

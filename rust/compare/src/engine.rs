@@ -26,6 +26,12 @@ pub struct VerdictAnswer {
     pub units: u64,
 }
 
+#[derive(Clone, Copy, Debug, PartialEq, Eq)]
+pub struct ValueAnswer {
+    pub refusal: u64,
+    pub value: u64,
+}
+
 pub trait Engine {
     fn name(&self) -> &str;
     fn read(&self, text: &[u8], rules: &mut [u16], names: &mut [u8]) -> ReadAnswer;
@@ -34,6 +40,7 @@ pub trait Engine {
     fn preferred(&self, rules: &[u16], set: u64, budget: u64) -> VerdictAnswer;
     fn stable(&self, rules: &[u16], set: u64, budget: u64) -> VerdictAnswer;
     fn next_state(&self, rules: &[u16], start: u64, budget: u64) -> VerdictAnswer;
+    fn place(&self, rules: &[u16], set: u64) -> ValueAnswer;
 }
 
 /// The second implementation.
@@ -110,6 +117,14 @@ impl Engine for Reference {
             Ok(Next::None { units }) => answer(1, 0, units),
             Ok(Next::Spent { units }) => answer(3, 0, units),
             Err(reason) => answer(4, reason as u64, 0),
+        }
+    }
+
+    fn place(&self, rules: &[u16], set: u64) -> ValueAnswer {
+        let place = lent::place(rules, set);
+        ValueAnswer {
+            refusal: place.map_or_else(|reason| reason as u64, |_| 0),
+            value: place.unwrap_or(0),
         }
     }
 }

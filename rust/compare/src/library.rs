@@ -1,6 +1,6 @@
 //! The proved engine, twice: through the C interface as it is, and through the safe binding.
 
-use crate::engine::{Engine, ReadAnswer, TextAnswer, VerdictAnswer};
+use crate::engine::{Engine, ReadAnswer, TextAnswer, ValueAnswer, VerdictAnswer};
 use rigtomato::{lent, sys, Next, Refusal, Verdict};
 
 /// The static library through the C interface, each field of each answer taken as it comes.
@@ -90,6 +90,14 @@ impl Engine for Library {
         let (at, length) = (rules.as_ptr(), rules.len());
         verdict_answer(unsafe { sys::rigtomato_next_state(at, length, start, budget) })
     }
+
+    fn place(&self, rules: &[u16], set: u64) -> ValueAnswer {
+        let answer = unsafe { sys::rigtomato_place(rules.as_ptr(), rules.len(), set) };
+        ValueAnswer {
+            refusal: answer.refusal,
+            value: answer.value,
+        }
+    }
 }
 
 /// The safe binding.
@@ -160,6 +168,14 @@ impl Engine for Binding {
             Ok(Next::None { units }) => answer(1, 0, units),
             Ok(Next::Spent) => answer(3, 0, budget),
             Err(refusal) => answer(4, refusal as u64, 0),
+        }
+    }
+
+    fn place(&self, rules: &[u16], set: u64) -> ValueAnswer {
+        let place = lent::place(rules, set);
+        ValueAnswer {
+            refusal: place.map_or_else(|refusal| refusal as u64, |_| 0),
+            value: place.unwrap_or(0),
         }
     }
 }

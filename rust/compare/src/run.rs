@@ -10,7 +10,7 @@ use std::time::{Duration, Instant};
 type Family = fn(&mut Checker, &mut Random) -> Checked;
 
 /// The families with how often each has its turn in a round.
-const FAMILIES: [(&str, Family, usize); 11] = [
+const FAMILIES: [(&str, Family, usize); 13] = [
     ("valid files", cases::valid, 60),
     ("damaged texts", cases::damaged_text, 40),
     ("no files", cases::soup, 20),
@@ -22,6 +22,8 @@ const FAMILIES: [(&str, Family, usize); 11] = [
     ("edges of names", cases::edges_of_names, 20),
     ("reducts", cases::reducts, 40),
     ("choices", cases::choices, 20),
+    ("places", cases::places, 20),
+    ("orders", cases::orders, 20),
 ];
 
 /// When a run ends: when both are reached.
@@ -94,7 +96,8 @@ pub fn wanted_outcomes() -> Vec<(&'static str, Outcome)> {
     refusals("preferred", &[10, 11, 12, 13]);
     refusals("stable", &[10, 11, 12, 13]);
     refusals("next_state", &[10, 11, 12, 13]);
-    for function in ["read", "write", "translate"] {
+    refusals("place", &[10, 11, 12]);
+    for function in ["read", "write", "translate", "place", "listing"] {
         wanted.push((function, Outcome::Done));
     }
     for kind in [0, 1, 2, 3] {

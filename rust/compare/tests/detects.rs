@@ -1,11 +1,11 @@
 //! Wrong engines: the harness has to notice each of them.
 
-use compare::engine::{Engine, ReadAnswer, Reference, TextAnswer, VerdictAnswer};
+use compare::engine::{Engine, ReadAnswer, Reference, TextAnswer, ValueAnswer, VerdictAnswer};
 use compare::run::{run, Until};
 use reference::limits::Kind;
-use reference::program::{Role, Rule};
-use reference::stores::{check_names, check_rules_of, rule_store};
-use reference::verdicts::reduct;
+use reference::program::{Program, Role, Rule};
+use reference::stores::{check_names, check_rules, check_rules_of, rule_store};
+use reference::verdicts::{self, beats, is_model, place, reduct, Next, Verdict};
 use reference::{translator, writer};
 use std::time::Duration;
 
@@ -35,9 +35,17 @@ enum Slip {
     RulesAsConstraints,
     HeadAndBodyExchanged,
     VaryingLeftInTheHead,
+    RisingNumbers,
+    StableByRisingNumber,
+    FirstBetterByRisingNumber,
+    StartAsNumber,
+    AnswerAsPlace,
+    PlaceIsTheNumber,
+    PlaceOneTooHigh,
+    PlaceInAPlainStore,
 }
 
-const SLIPS: [Slip; 23] = [
+const SLIPS: [Slip; 31] = [
     Slip::RefusesEverything,
     Slip::WritesOnRefusal,
     Slip::WritesPastTheEnd,
@@ -61,6 +69,14 @@ const SLIPS: [Slip; 23] = [
     Slip::RulesAsConstraints,
     Slip::HeadAndBodyExchanged,
     Slip::VaryingLeftInTheHead,
+    Slip::RisingNumbers,
+    Slip::StableByRisingNumber,
+    Slip::FirstBetterByRisingNumber,
+    Slip::StartAsNumber,
+    Slip::AnswerAsPlace,
+    Slip::PlaceIsTheNumber,
+    Slip::PlaceOneTooHigh,
+    Slip::PlaceInAPlainStore,
 ];
 
 /// The store with other `not` lists, by which the reduct then keeps other rules; as it is where
@@ -119,6 +135,54 @@ fn wrong_translation(slip: Slip, rules: &[u16], names: &[u8]) -> Option<Vec<u8>>
         _ => return None,
     }
     Some(writer::write(&plain, &plain_names))
+}
+
+/// The program with its atoms numbered from the last one, so that walks over it go by the rising
+/// numbers of the program's own sets. A set is turned by `place`, there and back.
+fn turned(program: &Program) -> Program {
+    let mut turned = program.clone();
+    turned.roles.reverse();
+    for rule in &mut turned.rules {
+        for list in [&mut rule.head, &mut rule.body, &mut rule.not] {
+            list.iter_mut().for_each(|a| *a = program.atoms - 1 - *a);
+        }
+    }
+    turned
+}
+
+fn answer(kind: u64, value: u64, units: u64) -> VerdictAnswer {
+    VerdictAnswer { kind, value, units }
+}
+
+/// The verdict on a set that is not refused, by a walk in rising number.
+fn by_rising_number(
+    rules: &[u16],
+    set: u64,
+    verdict: impl Fn(&Program, u64) -> Verdict,
+) -> VerdictAnswer {
+    let program = check_rules(rules).expect("it was judged");
+    let atoms = program.atoms;
+    match verdict(&turned(&program), place(atoms, set)) {
+        Verdict::Yes { units } => answer(0, 0, units),
+        Verdict::Broken { rule } => answer(1, rule, 0),
+        Verdict::Beaten { set, units } => answer(2, place(atoms, set), units),
+        Verdict::Spent { units } => answer(3, 0, units),
+    }
+}
+
+/// The next state by rising number, from a number on.
+fn next_by_rising_number(file: &Program, start: u64, budget: u64) -> VerdictAnswer {
+    match verdicts::next_state(&turned(file), start, budget) {
+        Next::State { set, units } => answer(0, place(file.atoms, set), units),
+        Next::None { units } => answer(1, 0, units),
+        Next::Spent { units } => answer(3, 0, units),
+    }
+}
+
+/// The least of the better sets' numbers, as far as one looks for it.
+fn least(first: u64, better: impl Fn(u64) -> bool) -> u64 {
+    let mut numbers = (0..first).take(1_000);
+    numbers.find(|&n| better(n)).unwrap_or(first)
 }
 
 fn deliver(text: &[u8], out: &mut [u8]) -> TextAnswer {
@@ -211,7 +275,19 @@ impl Engine for Wrong {
         } else {
             budget
         };
-        self.verdict(Reference.preferred(rules, set, lent), budget)
+        let mut answer = Reference.preferred(rules, set, lent);
+        match self.0 {
+            Slip::RisingNumbers if answer.kind < 4 => {
+                let verdict = |file: &Program, m| verdicts::preferred(file, m, budget);
+                answer = by_rising_number(rules, set, verdict);
+            }
+            Slip::FirstBetterByRisingNumber if answer.kind == 2 => {
+                let file = check_rules(rules).expect("it was judged");
+                answer.value = least(answer.value, |n| beats(&file, n, set));
+            }
+            _ => {}
+        }
+        self.verdict(answer, budget)
     }
 
     fn stable(&self, rules: &[u16], set: u64, budget: u64) -> VerdictAnswer {
@@ -236,24 +312,60 @@ impl Engine for Wrong {
                 let earlier = &program.rules[..answer.value as usize];
                 answer.value = reduct(earlier, set).len() as u64;
             }
+            Slip::RisingNumbers | Slip::StableByRisingNumber if answer.kind < 4 => {
+                let verdict = |plain: &Program, m| verdicts::stable(plain, m, budget);
+                answer = by_rising_number(rules, set, verdict);
+            }
+            Slip::FirstBetterByRisingNumber if answer.kind == 2 => {
+                let program = check_rules(rules).expect("it was judged");
+                let kept = reduct(&program.rules, set);
+                let smaller = |n| n & !set == 0 && is_model(&kept, n);
+                answer.value = least(answer.value, smaller);
+            }
             _ => {}
         }
         answer
     }
 
     fn next_state(&self, rules: &[u16], start: u64, budget: u64) -> VerdictAnswer {
-        let answer = Reference.next_state(rules, start, budget);
+        let right = Reference.next_state(rules, start, budget);
+        if right.kind == 4 {
+            return right;
+        }
+        let file = check_rules(rules).expect("it was judged");
+        let turn = |number: u64| place(file.atoms, number);
         match self.0 {
-            Slip::StartSkipped if answer.kind == 0 && answer.value == start => {
+            Slip::StartSkipped if right.kind == 0 && turn(right.value) == start => {
                 Reference.next_state(rules, start + 1, budget)
             }
-            Slip::FirstStateOnly if answer.kind == 0 && start > 0 => VerdictAnswer {
-                kind: 1,
-                value: 0,
-                units: answer.units,
-            },
-            _ => answer,
+            Slip::FirstStateOnly if right.kind == 0 && start > 0 => answer(1, 0, right.units),
+            Slip::RisingNumbers => next_by_rising_number(&file, start, budget),
+            Slip::StartAsNumber if start < 1 << file.atoms => {
+                Reference.next_state(rules, turn(start), budget)
+            }
+            Slip::AnswerAsPlace if right.kind == 0 => answer(0, turn(right.value), right.units),
+            _ => right,
         }
+    }
+
+    fn place(&self, rules: &[u16], set: u64) -> ValueAnswer {
+        let mut answer = Reference.place(rules, set);
+        match self.0 {
+            Slip::RisingNumbers | Slip::PlaceIsTheNumber if answer.refusal == 0 => {
+                answer.value = set;
+            }
+            Slip::PlaceOneTooHigh if answer.refusal == 0 => answer.value += 1,
+            Slip::PlaceInAPlainStore => {
+                if let Ok(mut program) = check_rules_of(Kind::Plain, rules) {
+                    program.kind = Kind::Preference;
+                    program.roles = vec![Role::Varying; program.atoms];
+                    program.rules.clear();
+                    answer = Reference.place(&rule_store(&program), set);
+                }
+            }
+            _ => {}
+        }
+        answer
     }
 }
 

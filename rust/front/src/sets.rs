@@ -1,6 +1,9 @@
 //! Sets of up to 256 atoms.
 
-/// A set of atoms. Sets compare as their numbers do: the highest word stands first.
+const HIGHEST: u64 = 1 << 63;
+
+/// A set of atoms. Of two sets, the lesser is the one lacking the first declared atom on which they
+/// differ: the first atom is the highest bit of the first word.
 #[derive(Clone, Copy, Debug, Default, PartialEq, Eq, PartialOrd, Ord)]
 pub struct Set {
     words: [u64; 4],
@@ -8,25 +11,25 @@ pub struct Set {
 
 impl Set {
     pub fn insert(&mut self, atom: usize) {
-        self.words[3 - atom / 64] |= 1 << (atom % 64);
+        self.words[atom / 64] |= HIGHEST >> (atom % 64);
     }
 
     /// The atoms in declared order.
     pub fn atoms(self) -> impl Iterator<Item = usize> {
-        let words = self.words.into_iter().rev().enumerate();
+        let words = self.words.into_iter().enumerate();
         words.flat_map(|(place, word)| ones(word).map(move |bit| 64 * place + bit))
     }
 
     /// The set's number, of a set of the first 64 atoms.
     pub fn number(self) -> u64 {
-        self.words[3]
+        self.words[0].reverse_bits()
     }
 }
 
 impl From<u64> for Set {
     fn from(number: u64) -> Set {
         Set {
-            words: [0, 0, 0, number],
+            words: [number.reverse_bits(), 0, 0, 0],
         }
     }
 }
@@ -41,12 +44,12 @@ impl FromIterator<usize> for Set {
     }
 }
 
-/// The places of a word's ones, from the lowest.
+/// The places of a word's ones, counted from the highest bit.
 fn ones(mut word: u64) -> impl Iterator<Item = usize> {
     std::iter::from_fn(move || {
-        let lowest = (word != 0).then(|| word.trailing_zeros() as usize);
-        word &= word.wrapping_sub(1);
-        lowest
+        let highest = (word != 0).then(|| word.leading_zeros() as usize)?;
+        word ^= HIGHEST >> highest;
+        Some(highest)
     })
 }
 
@@ -65,12 +68,24 @@ mod tests {
     }
 
     #[test]
-    fn order_is_that_of_the_numbers() {
-        let sets: [&[usize]; 7] = [&[], &[0], &[1], &[0, 1], &[63], &[0, 64], &[1, 64]];
+    fn the_lesser_lacks_the_first_atom_on_which_they_differ() {
+        let sets: [&[usize]; 11] = [
+            &[],
+            &[255],
+            &[64, 65],
+            &[63],
+            &[63, 255],
+            &[1],
+            &[1, 64],
+            &[1, 2],
+            &[0],
+            &[0, 64],
+            &[0, 1],
+        ];
         let mut sorted: Vec<Set> = sets.map(|atoms| atoms.iter().copied().collect()).to_vec();
-        let rising = sorted.clone();
+        let expected = sorted.clone();
         sorted.reverse();
         sorted.sort_unstable();
-        assert_eq!(sorted, rising);
+        assert_eq!(sorted, expected);
     }
 }

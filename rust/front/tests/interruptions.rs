@@ -138,10 +138,10 @@ fn a_verdict() {
 fn a_solver() {
     let printed = Temporary::new("printed", "");
     for (more, expected) in [
-        (None, "(state ab3 b)\n(state ab1 c)\n(state ab2 b c)\n"),
+        (None, "(state ab3 b)\n(state ab2 b c)\n(state ab1 c)\n"),
         (
             Some("--json"),
-            "{\"states\":[[\"ab3\",\"b\"],[\"ab1\",\"c\"],[\"ab2\",\"b\",\"c\"]],\
+            "{\"states\":[[\"ab3\",\"b\"],[\"ab2\",\"b\",\"c\"],[\"ab1\",\"c\"]],\
              \"end\":\"interrupted\",\"count\":3}\n",
         ),
     ] {

@@ -11,7 +11,7 @@ use compare::spoil;
 use reference::limits::{Kind, BUDGET_LIMIT, PROGRAM_LIMIT, VERDICT_ATOM_LIMIT};
 use reference::program::{Names, Program};
 use reference::refusal::{Reason, Refusal};
-use reference::verdicts::{holds, next_state, Next};
+use reference::verdicts::{holds, next_state, place, Next};
 use reference::{reader, translator, writer};
 use std::process::Command;
 
@@ -30,7 +30,7 @@ fn listed(file: &Program, names: &Names) -> Result<Vec<u8>, Refusal> {
         }
         output.extend_from_slice(b")\n");
         total += 1;
-        start = set + 1;
+        start = place(file.atoms, set) + 1;
     }
     output.extend_from_slice(format!("(total {total})\n").as_bytes());
     Ok(output)

@@ -148,7 +148,7 @@ fn failing_solvers() {
     let start = "rigtomato: the solver printed what is no model: ";
     for (models, line) in [
         ("circuit.models", "holds(\\\"high35\\\")"),
-        ("circuit.states", "(state ab13"),
+        ("circuit.states", "(state ab15"),
         ("circuit.lp", "% A preference file"),
     ] {
         let unreadable = failed(models, "30");

@@ -58,13 +58,12 @@ pub fn translate(rules: &[u16], names: &[u8], out: &mut [u8]) -> Result<usize, R
     deliver(&writer::write(&plain, &plain_names), out)
 }
 
-/// The checks before a verdict: the store's kind, then atoms, set and budget. `last` is the
+/// The checks of a set or a start: the store's kind, then atoms, then the number. `last` is the
 /// largest number allowed, given 2^n.
-fn admit(
+fn admit_number(
     kind: Kind,
     rules: &[u16],
     number: u64,
-    budget: u64,
     last: fn(u64) -> u64,
 ) -> Result<Program, Reason> {
     let program = check_rules_of(kind, rules)?;
@@ -74,6 +73,18 @@ fn admit(
     if number > last(1 << program.atoms) {
         return Err(Reason::SetTooLarge);
     }
+    Ok(program)
+}
+
+/// The same and then the budget.
+fn admit(
+    kind: Kind,
+    rules: &[u16],
+    number: u64,
+    budget: u64,
+    last: fn(u64) -> u64,
+) -> Result<Program, Reason> {
+    let program = admit_number(kind, rules, number, last)?;
     if budget > BUDGET_LIMIT {
         return Err(Reason::BudgetTooLarge);
     }
@@ -93,4 +104,9 @@ pub fn stable(rules: &[u16], set: u64, budget: u64) -> Result<Verdict, Reason> {
 pub fn next_state(rules: &[u16], start: u64, budget: u64) -> Result<Next, Reason> {
     let file = admit(Kind::Preference, rules, start, budget, |sets| sets)?;
     Ok(verdicts::next_state(&file, start, budget))
+}
+
+pub fn place(rules: &[u16], set: u64) -> Result<u64, Reason> {
+    let file = admit_number(Kind::Preference, rules, set, |sets| sets - 1)?;
+    Ok(verdicts::place(file.atoms, set))
 }

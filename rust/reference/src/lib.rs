@@ -1,4 +1,4 @@
-//! The second implementation of Rigtomato, written from document 01 alone.
+//! The second implementation of Rigtomato, written from the documents alone.
 //!
 //! It exists to be compared with the proved engine, so it is brute force over the definitions:
 //! every set of a walk is tried, every fault of a line is looked for, names are found by looking

@@ -5,7 +5,7 @@ use crate::program::{Names, Program};
 use crate::reader;
 use crate::refusal::{Reason, Refusal};
 use crate::translator;
-use crate::verdicts::{holds, next_state, Next};
+use crate::verdicts::{holds, next_state, place, Next};
 use crate::writer;
 
 fn or_refused(result: Result<Vec<u8>, Refusal>) -> Vec<u8> {
@@ -73,7 +73,7 @@ fn listing(text: &[u8], budget: u64) -> Result<Vec<u8>, Refusal> {
                 output.extend_from_slice(b")\n");
                 output = fits(output)?;
                 total += 1;
-                start = set + 1;
+                start = place(file.atoms, set) + 1;
             }
             Next::None { .. } => {
                 output.extend_from_slice(format!("(total {total})\n").as_bytes());

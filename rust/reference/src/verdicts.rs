@@ -1,6 +1,7 @@
 //! The two verdicts and the next state, by walking over sets one by one.
 //!
-//! A set is its number: atom i is in when bit i is set.
+//! A set is its number: atom i is in when bit i is set. Of two sets, the earlier is the one lacking
+//! the first declared atom on which they differ (document 02, W-206); every walk goes in this order.
 
 use crate::program::{Program, Rule};
 
@@ -25,6 +26,12 @@ pub enum Next {
 
 pub fn holds(set: u64, atom: usize) -> bool {
     (set >> atom) & 1 == 1
+}
+
+/// The set's place, from 0, in the order of all sets of so many atoms.
+pub fn place(atoms: usize, set: u64) -> u64 {
+    let members = (0..atoms).filter(|&a| holds(set, a));
+    members.map(|a| 1 << (atoms - 1 - a)).sum()
 }
 
 /// The rule has its whole body in, no `not` atom in, and no head atom in.
@@ -76,11 +83,11 @@ pub fn reduct(rules: &[Rule], m: u64) -> Vec<Rule> {
     .collect()
 }
 
-/// The set at a place of a walk: `base` with the free atoms as the place's binary digits say.
-/// Rising places give rising numbers.
+/// The set at a place of a walk: `base` with the free atoms as the place's binary digits say, the
+/// last atom by the lowest digit. Of two places the lower has the earlier set.
 fn set_at(place: u64, free: &[usize], base: u64) -> u64 {
     let mut set = base;
-    for (digit, &atom) in free.iter().enumerate() {
+    for (digit, &atom) in free.iter().rev().enumerate() {
         if holds(place, digit) {
             set |= 1 << atom;
         }
@@ -142,15 +149,17 @@ pub fn stable(plain: &Program, m: u64, budget: u64) -> Verdict {
     )
 }
 
-/// The least preferred set with number at or above the start.
+/// The first preferred set at or after the start, which is a place.
 pub fn next_state(file: &Program, start: u64, budget: u64) -> Next {
     let spent = Next::Spent { units: budget };
+    let atoms: Vec<usize> = (0..file.atoms).collect();
     let mut units = 0;
-    for candidate in start..1 << file.atoms {
+    for place in start..1 << file.atoms {
         if units == budget {
             return spent;
         }
         units += 1;
+        let candidate = set_at(place, &atoms, 0);
         match preferred(file, candidate, budget - units) {
             Verdict::Broken { .. } => {}
             Verdict::Spent { .. } => return spent,

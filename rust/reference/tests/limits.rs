@@ -204,8 +204,13 @@ fn sixty_atoms() {
         Err(Reason::SetTooLarge)
     );
     assert_eq!(lent::next_state(&sixty, 0, 3), Ok(Next::Spent { units: 3 }));
+    assert_eq!(lent::place(&sixty, 1), Ok(1 << 59));
+    assert_eq!(lent::place(&sixty, 1 << 59), Ok(1));
+    assert_eq!(lent::place(&sixty, (1 << 60) - 1), Ok((1 << 60) - 1));
+    assert_eq!(lent::place(&sixty, 1 << 60), Err(Reason::SetTooLarge));
     let more = stores(&format!("(vary{})\n(fix)\n", many("a", 61))).0;
     assert_eq!(lent::preferred(&more, 0, 0), Err(Reason::TooManyAtoms));
+    assert_eq!(lent::place(&more, 0), Err(Reason::TooManyAtoms));
     let fixed = stores(&format!("(vary)\n(fix{})\n", many("a", 60))).0;
     assert_eq!(
         lent::preferred(&fixed, 77, 1),

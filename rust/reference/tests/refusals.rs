@@ -296,6 +296,7 @@ fn rule_stores() {
             "word {place} as {word}"
         );
         assert_eq!(lent::preferred(&store, 0, 0), Err(Reason::RuleStore));
+        assert_eq!(lent::place(&store, 0), Err(Reason::RuleStore));
     }
     for (place, word) in [(2, 16), (2, 3), (5, 1), (5, 17), (6, 18), (10, 2), (16, 0)] {
         let mut store = a.clone();
@@ -311,6 +312,7 @@ fn rule_stores() {
     assert_eq!(lent::translate(&plain, &plain_names, &mut out), ten);
     assert_eq!(lent::preferred(&plain, 0, 0), Err(Reason::RuleStore));
     assert_eq!(lent::next_state(&plain, 0, 0), Err(Reason::RuleStore));
+    assert_eq!(lent::place(&plain, 0), Err(Reason::RuleStore));
     assert_eq!(lent::stable(&a, 0, 0), Err(Reason::RuleStore));
     assert_eq!(lent::write(&[0, 1, 1, 0], &plain_names, &mut out), ten);
 }
@@ -375,6 +377,10 @@ fn the_order_of_the_callers_refusals() {
     assert_eq!(lent::next_state(&a, 9, over), Err(Reason::SetTooLarge));
     assert_eq!(lent::next_state(&a, 8, over), Err(Reason::BudgetTooLarge));
     assert!(lent::next_state(&a, 8, over - 1).is_ok());
+    assert_eq!(lent::place(&[], u64::MAX), Err(Reason::RuleStore));
+    assert_eq!(lent::place(&sixty_one, u64::MAX), Err(Reason::TooManyAtoms));
+    assert_eq!(lent::place(&a, 8), Err(Reason::SetTooLarge));
+    assert_eq!(lent::place(&a, 7), Ok(7));
     assert_eq!(lent::write(&[9], b"", &mut []), Err(Reason::RuleStore));
     assert_eq!(lent::write(&a, b"", &mut []), Err(Reason::NameStore));
     assert_eq!(

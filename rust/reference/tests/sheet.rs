@@ -1,10 +1,10 @@
-//! Document 01, "Sheets of known states"; the choice rules of a translation and its sums by
-//! document 02, W-214.
+//! Document 01, "Sheets of known states", with places, order and units by document 02, W-206; the
+//! choice rules of a translation and its sums by W-214.
 
 mod common;
 
 use common::{accepted, rules, states, translated_sums, FILE_A};
-use reference::lent::{next_state, preferred, stable};
+use reference::lent::{next_state, place, preferred, stable};
 use reference::programs;
 use reference::verdicts::{Next, Verdict};
 
@@ -37,34 +37,44 @@ fn file_a_verdicts_and_units() {
     assert_eq!(verdict(6, LARGEST), Verdict::Yes { units: 8 });
     assert_eq!(verdict(6, 8), Verdict::Yes { units: 8 });
     assert_eq!(verdict(6, 7), Verdict::Spent { units: 7 });
-    assert_eq!(verdict(1, LARGEST), Verdict::Beaten { set: 6, units: 7 });
+    assert_eq!(verdict(1, LARGEST), Verdict::Beaten { set: 6, units: 4 });
     assert_eq!(verdict(0, LARGEST), Verdict::Broken { rule: 0 });
     assert_eq!(verdict(0, 0), Verdict::Broken { rule: 0 });
     assert_eq!(verdict(2, LARGEST), Verdict::Broken { rule: 1 });
-    assert_eq!(verdict(1, 6), Verdict::Spent { units: 6 });
-    assert_eq!(verdict(1, 7), Verdict::Beaten { set: 6, units: 7 });
+    assert_eq!(verdict(1, 3), Verdict::Spent { units: 3 });
+    assert_eq!(verdict(1, 4), Verdict::Beaten { set: 6, units: 4 });
     assert_eq!(verdict(1, 0), Verdict::Spent { units: 0 });
+}
+
+#[test]
+fn file_a_places() {
+    let a = rules(FILE_A);
+    let order = [0, 4, 2, 6, 1, 5, 3, 7];
+    for (at, set) in (0..).zip(order) {
+        assert_eq!(place(&a, set), Ok(at));
+    }
 }
 
 #[test]
 fn file_a_next_states() {
     let a = rules(FILE_A);
     let next = |start, budget| next_state(&a, start, budget).unwrap();
-    // Candidates 0 to 6 cost 7; 1 and 5 are models, each beaten by the 7th set; 6 takes 8.
-    assert_eq!(next(0, LARGEST), Next::State { set: 6, units: 29 });
-    assert_eq!(next(0, 29), Next::State { set: 6, units: 29 });
-    assert_eq!(next(0, 28), Next::Spent { units: 28 });
-    assert_eq!(next(6, 9), Next::State { set: 6, units: 9 });
-    // Set 7 is beaten by the second set, 1.
-    assert_eq!(next(7, LARGEST), Next::None { units: 3 });
-    assert_eq!(next(7, 3), Next::None { units: 3 });
-    assert_eq!(next(7, 2), Next::Spent { units: 2 });
+    // The candidates 0, 4, 2 and 6 cost 4, of which 6 alone is a model; it takes 8.
+    assert_eq!(next(0, LARGEST), Next::State { set: 6, units: 12 });
+    assert_eq!(next(0, 12), Next::State { set: 6, units: 12 });
+    assert_eq!(next(0, 11), Next::Spent { units: 11 });
+    assert_eq!(next(3, 9), Next::State { set: 6, units: 9 });
+    // The candidates 1, 5, 3 and 7 cost 4; the models 1, 5 and 7 are each beaten by the 4th set.
+    assert_eq!(next(4, LARGEST), Next::None { units: 16 });
+    assert_eq!(next(4, 16), Next::None { units: 16 });
+    assert_eq!(next(4, 15), Next::Spent { units: 15 });
+    assert_eq!(next(7, 5), Next::None { units: 5 });
     assert_eq!(next(8, 0), Next::None { units: 0 });
 }
 
 #[test]
 fn file_a_with_one_class() {
-    assert_eq!(states(ONE_CLASS), [1, 5, 6]);
+    assert_eq!(states(ONE_CLASS), [6, 1, 5]);
 }
 
 #[test]
@@ -75,7 +85,7 @@ fn file_a_in_the_other_order() {
 
 #[test]
 fn file_a_with_dark_fixed() {
-    assert_eq!(states(DARK_FIXED), [1, 6]);
+    assert_eq!(states(DARK_FIXED), [6, 1]);
     let fixed = rules(DARK_FIXED);
     assert_eq!(preferred(&fixed, 1, LARGEST), Ok(Verdict::Yes { units: 4 }));
 }
@@ -138,6 +148,11 @@ fn stable_sets_and_units() {
         stable(&two, 3, LARGEST),
         Ok(Verdict::Beaten { set: 0, units: 1 })
     );
+    // The proper subsets of {a, b, c}, by order: {}, {c}, {b}, {b, c}, {a}, {a, c}, {a, b}.
+    let some = rules("(atoms a b c)\n(rule (head a b) (body) (not))\n");
+    let beaten = Verdict::Beaten { set: 2, units: 3 };
+    assert_eq!(stable(&some, 7, LARGEST), Ok(beaten));
+    assert_eq!(stable(&some, 7, 2), Ok(Verdict::Spent { units: 2 }));
     let empty = rules("(atoms a b)\n");
     assert_eq!(stable(&empty, 0, 0), Ok(Verdict::Yes { units: 0 }));
 }
@@ -153,7 +168,7 @@ fn the_translation_of_small_files_pairs() {
             .filter(|&set| matches!(verdicts::stable(&plain, set, LARGEST), Verdict::Yes { .. }))
             .map(|set| set % (1 << file.atoms))
             .collect();
-        cut.sort_unstable();
+        cut.sort_unstable_by_key(|&set| verdicts::place(file.atoms, set));
         assert_eq!(cut, states(text), "{text}");
     }
 }
@@ -161,11 +176,11 @@ fn the_translation_of_small_files_pairs() {
 #[test]
 fn a_listing_that_is_spent() {
     let spent = |budget| String::from_utf8(programs::states_with(ONE_CLASS.as_bytes(), budget));
-    let whole = "(state sensor)\n(state sensor dark)\n(state lamp dark)\n(total 3)\n";
+    let whole = "(state lamp dark)\n(state sensor)\n(state sensor dark)\n(total 3)\n";
     assert_eq!(spent(LARGEST).unwrap(), whole);
     let rules = rules(ONE_CLASS);
     let mut needed = Vec::new();
-    for start in [0, 2, 6, 7] {
+    for start in [0, 4, 5, 6] {
         match next_state(&rules, start, LARGEST).unwrap() {
             Next::State { units, .. } | Next::None { units } => needed.push(units),
             Next::Spent { .. } => panic!("spent"),

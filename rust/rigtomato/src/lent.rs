@@ -1,5 +1,8 @@
 //! The public functions over slices: inputs handed in, outputs lent. On a refusal no element of
 //! an output is written; after success what lies past the written part keeps its content.
+//!
+//! Of two sets, the earlier is the one lacking the first declared atom on which they differ. Walks
+//! go in this order, and a start is a place in it: see [`place`].
 
 use crate::refusal::{Refusal, TextRefusal};
 use crate::sys;
@@ -18,16 +21,16 @@ pub enum Verdict {
     Yes { units: u64 },
     /// It is no model; this is the number, from 0, of the first rule that it breaks.
     Broken { rule: u64 },
-    /// It is a model; this is the first better set, found with these units.
+    /// It is a model; this is the first better set in the walk, found with these units.
     Beaten { set: u64, units: u64 },
     /// More units are needed than the budget.
     Spent,
 }
 
-/// What is said about the states at or above a start.
+/// What is said about the states at or after a start.
 #[derive(Clone, Copy, Debug, PartialEq, Eq)]
 pub enum Next {
-    /// The least of them.
+    /// The first of them.
     State { set: u64, units: u64 },
     /// There is none.
     None { units: u64 },
@@ -120,7 +123,7 @@ pub fn stable(rules: &[u16], set: u64, budget: u64) -> Result<Verdict, Refusal> 
     verdict(unsafe { sys::rigtomato_stable(rules.as_ptr(), rules.len(), set, budget) })
 }
 
-/// The least preferred set with number at or above the start.
+/// The first preferred set at or after the start, which is a place from 0 to 2^n.
 pub fn next_state(rules: &[u16], start: u64, budget: u64) -> Result<Next, Refusal> {
     // SAFETY: the pointer and the length are one slice.
     let answer = unsafe { sys::rigtomato_next_state(rules.as_ptr(), rules.len(), start, budget) };
@@ -130,5 +133,16 @@ pub fn next_state(rules: &[u16], start: u64, budget: u64) -> Result<Next, Refusa
         1 => Ok(Next::None { units }),
         3 => Ok(Next::Spent),
         _ => Err(Refusal::of_number(value)),
+    }
+}
+
+/// The set's place, from 0, in the order of all sets of the preference store's atoms. One more is
+/// the start from which the sets after it follow.
+pub fn place(rules: &[u16], set: u64) -> Result<u64, Refusal> {
+    // SAFETY: the pointer and the length are one slice.
+    let answer = unsafe { sys::rigtomato_place(rules.as_ptr(), rules.len(), set) };
+    match answer.refusal {
+        0 => Ok(answer.value),
+        number => Err(Refusal::of_number(number)),
     }
 }

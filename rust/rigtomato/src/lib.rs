@@ -136,13 +136,19 @@ impl Program {
         lent::stable(&self.rules, set, budget)
     }
 
-    /// The least preferred set with number at or above the start.
+    /// The first preferred set at or after the start, which is a place: 0, or one past the
+    /// [`place`](Program::place) of the state before.
     pub fn next_state(&self, start: u64, budget: u64) -> Result<Next, Refusal> {
         lent::next_state(&self.rules, start, budget)
     }
 
-    /// The preferred states by rising number, each with this budget. After an error there is
-    /// nothing more.
+    /// The set's place, from 0, in the order of all sets of this preference file's atoms.
+    pub fn place(&self, set: u64) -> Result<u64, Refusal> {
+        lent::place(&self.rules, set)
+    }
+
+    /// The preferred states, each with this budget: of two, first the one lacking the first
+    /// declared atom on which they differ. After an error there is nothing more.
     pub fn states(&self, budget: u64) -> States<'_> {
         States {
             program: self,
@@ -186,7 +192,8 @@ impl Iterator for States<'_> {
         let start = self.start.take()?;
         match self.program.next_state(start, self.budget) {
             Ok(Next::State { set, .. }) => {
-                self.start = Some(set + 1);
+                let place = self.program.place(set);
+                self.start = Some(place.expect("a state is a set of the file's atoms") + 1);
                 Some(Ok(set))
             }
             Ok(Next::None { .. }) => None,

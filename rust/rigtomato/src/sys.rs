@@ -24,6 +24,13 @@ pub struct VerdictAnswer {
     pub units: u64,
 }
 
+#[repr(C)]
+#[derive(Clone, Copy, Debug, PartialEq, Eq)]
+pub struct ValueAnswer {
+    pub refusal: u64,
+    pub value: u64,
+}
+
 extern "C" {
     pub fn rigtomato_read(
         text: *const u8,
@@ -67,4 +74,5 @@ extern "C" {
         start: u64,
         budget: u64,
     ) -> VerdictAnswer;
+    pub fn rigtomato_place(rules: *const u16, rules_len: usize, set: u64) -> ValueAnswer;
 }

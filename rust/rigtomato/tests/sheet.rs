@@ -1,4 +1,4 @@
-//! Document 01's sheet through the binding.
+//! Document 01's sheet through the binding, with places, order and units by document 02, W-206.
 
 use rigtomato::{Kind, Next, Program, Refusal, Stopped, TextRefusal, Verdict, LARGEST_BUDGET};
 
@@ -26,15 +26,22 @@ fn file_a() {
     assert_eq!(verdict(6, LARGEST_BUDGET), Verdict::Yes { units: 8 });
     assert_eq!(
         verdict(1, LARGEST_BUDGET),
-        Verdict::Beaten { set: 6, units: 7 }
+        Verdict::Beaten { set: 6, units: 4 }
     );
     assert_eq!(verdict(0, LARGEST_BUDGET), Verdict::Broken { rule: 0 });
     assert_eq!(verdict(2, LARGEST_BUDGET), Verdict::Broken { rule: 1 });
-    assert_eq!(verdict(1, 6), Verdict::Spent);
-    assert_eq!(verdict(1, 7), Verdict::Beaten { set: 6, units: 7 });
-    assert_eq!(a.next_state(0, 29), Ok(Next::State { set: 6, units: 29 }));
+    assert_eq!(verdict(1, 3), Verdict::Spent);
+    assert_eq!(verdict(1, 4), Verdict::Beaten { set: 6, units: 4 });
+    assert_eq!(a.next_state(0, 12), Ok(Next::State { set: 6, units: 12 }));
+    assert_eq!(a.next_state(4, 16), Ok(Next::None { units: 16 }));
     assert_eq!(a.next_state(8, 0), Ok(Next::None { units: 0 }));
-    assert_eq!(a.states(28).collect::<Vec<_>>(), [Err(Stopped::Spent)]);
+    assert_eq!(a.next_state(9, 0), Err(Refusal::SetTooLarge));
+    assert_eq!(a.states(11).collect::<Vec<_>>(), [Err(Stopped::Spent)]);
+    // The state comes with 12 units; that there is no other takes 16.
+    assert_eq!(
+        a.states(15).collect::<Vec<_>>(),
+        [Ok(6), Err(Stopped::Spent)]
+    );
     assert_eq!(a.stable(0, 0), Err(Refusal::RuleStore));
     assert_eq!(a.preferred(8, 0), Err(Refusal::SetTooLarge));
     assert_eq!(
@@ -47,15 +54,40 @@ fn file_a() {
 fn file_a_declared_otherwise() {
     assert_eq!(
         states(&file("(min sensor lamp)\n(vary dark)\n(fix)\n")),
-        [1, 5, 6]
+        [6, 1, 5]
     );
     assert_eq!(
         states(&file("(min lamp)\n(min sensor)\n(vary dark)\n(fix)\n")),
         [2, 6]
     );
     let fixed = file("(min sensor)\n(min lamp)\n(vary)\n(fix dark)\n");
-    assert_eq!(states(&fixed), [1, 6]);
+    assert_eq!(states(&fixed), [6, 1]);
     assert_eq!(fixed.preferred(1, 4), Ok(Verdict::Yes { units: 4 }));
+}
+
+#[test]
+fn places() {
+    let a = file("(min sensor)\n(min lamp)\n(vary dark)\n(fix)\n");
+    for (place, set) in (0..).zip([0, 4, 2, 6, 1, 5, 3, 7]) {
+        assert_eq!(a.place(set), Ok(place));
+    }
+    assert_eq!(a.place(8), Err(Refusal::SetTooLarge));
+    let empty = Program::read(b"(vary)\n(fix)\n").unwrap();
+    assert_eq!(empty.place(0), Ok(0));
+    assert_eq!(empty.place(1), Err(Refusal::SetTooLarge));
+    let plain = Program::read(b"(atoms a)\n").unwrap();
+    assert_eq!(plain.place(0), Err(Refusal::RuleStore));
+    let many = |count: usize| {
+        let names: String = (0..count).map(|i| format!(" a{i}")).collect();
+        Program::read(format!("(vary)\n(fix{names})\n").as_bytes()).unwrap()
+    };
+    assert_eq!(many(60).place(1), Ok(1 << 59));
+    assert_eq!(many(60).place(1 << 60), Err(Refusal::SetTooLarge));
+    assert_eq!(many(61).place(0), Err(Refusal::TooManyAtoms));
+    // All sets are states: they come in the order of their places.
+    let five = many(5);
+    let order = states(&five).into_iter().map(|set| five.place(set));
+    assert!(order.eq((0..32).map(Ok)));
 }
 
 #[test]

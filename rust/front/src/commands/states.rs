@@ -17,8 +17,9 @@ use std::sync::Arc;
 pub const MORE: &str = "\
 A preferred state is a model that no other model beats: a class of faults is
 compared by subset, the gravest class on which two models differ decides. Each
-state is printed as it is found, by rising number, its atoms in declared order;
-the last line is
+state is printed as it is found, its atoms in declared order; of two states the
+one without the first declared atom on which they differ comes first. The last
+line is
 
     (total N)                there are no others
     (first N)                --first said to stop here
@@ -42,7 +43,10 @@ fn walk(program: &Program, budget: u64, steps: &SyncSender<Step>) {
     while let Some(from) = start {
         let step = program.next_state(from, budget);
         start = match step {
-            Ok(Next::State { set, .. }) => Some(set + 1),
+            Ok(Next::State { set, .. }) => {
+                let place = program.place(set);
+                Some(place.expect("a state is a set of the file's atoms") + 1)
+            }
             _ => None,
         };
         if steps.send(step).is_err() {

@@ -17,12 +17,13 @@ The atoms are a set; none at all is the empty set. The answer is one of
 
     yes, 8 units
     no model: line 5 is broken: (rule (head sensor lamp) (body) (not))
-    beaten by: lamp dark (7 units)
-    spent: more than 6 units are needed
+    beaten by: lamp dark (4 units)
+    spent: more than 3 units are needed
 
-A unit is one set tried. With --json: {\"verdict\":\"yes\",\"units\":8},
+Sets are tried in the order in which 'states' lists, and the first better one is
+named. A unit is one set tried. With --json: {\"verdict\":\"yes\",\"units\":8},
 {\"verdict\":\"broken\",\"rule\":0,\"line\":5,\"text\":\"..\"} (rules count from 0),
-{\"verdict\":\"beaten\",\"set\":[..],\"units\":7} or {\"verdict\":\"spent\",\"units\":6}.
+{\"verdict\":\"beaten\",\"set\":[..],\"units\":4} or {\"verdict\":\"spent\",\"units\":3}.
 The file has at most 60 atoms.
 ";
 
@@ -34,7 +35,8 @@ The atoms are a set; none at all is the empty set. The answer is one of
     not minimal: lamp is a model of the reduct (3 units)
     spent: more than 6 units are needed
 
-A unit is one set tried. With --json: {\"verdict\":\"yes\",\"units\":8},
+Sets are tried in the order in which 'states' lists, and the first smaller one is
+named. A unit is one set tried. With --json: {\"verdict\":\"yes\",\"units\":8},
 {\"verdict\":\"broken\",\"rule\":0,\"line\":5,\"text\":\"..\"} (rules count from 0),
 {\"verdict\":\"beaten\",\"set\":[..],\"units\":3} or {\"verdict\":\"spent\",\"units\":6}.
 The program has at most 60 atoms.

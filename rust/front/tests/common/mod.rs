@@ -11,8 +11,8 @@ pub const FILE_A: &str = "(min sensor)\n(min lamp)\n(vary dark)\n(fix)\n\
 
 /// 60 fixed atoms; the empty set is a state, and the next is beyond 2^59 candidates.
 pub fn endless() -> String {
-    let rules: String = (0..59)
-        .map(|i| format!("(rule (head a59) (body a{i}) (not))\n"))
+    let rules: String = (1..60)
+        .map(|i| format!("(rule (head a0) (body a{i}) (not))\n"))
         .collect();
     format!("(vary)\n(fix{})\n{rules}", names(60))
 }

@@ -49,7 +49,7 @@ pub fn states(text: &str) -> Vec<u64> {
     let mut start = 0;
     while let Next::State { set, .. } = lent::next_state(&rules, start, 1 << 40).unwrap() {
         found.push(set);
-        start = set + 1;
+        start = lent::place(&rules, set).unwrap() + 1;
     }
     found
 }

@@ -1,6 +1,6 @@
-use mathlib.Core.Path.{refl, sym, subst, _∙_}
+use mathlib.Core.Path.{refl, sym, subst}
 use Prim.Native.Nat.{ℕ, _≤_, _^_}
-use Rattle.masks.proofs.FilledMasks.{taken-fits, care-length, want-length, class-length, masks-fit, next-filled}
+use Rattle.masks.proofs.FilledMasks.{taken-fits, care-length, want-length, class-length, masks-fit, next-told}
 use borrow.Author.Needs.{needs}
 use Rattle.lister.proofs.next.next_of.Statement.{statement}
 use Rattle.lister.proofs.next.next_of.Tie as tie
@@ -38,8 +38,11 @@ slice-aggregate-next-masks-3 c = class-length (c .before .before .before .before
 next-masks-requires : tie.Need-next-masks-requires
 next-masks-requires c κs = (masks-fit (c .before .before .before .before .before .before .fill-masks .ensures), subst (λ (x : ℕ). (c .before .before .before .before .before .before .before .before .before .before .before .args .start) ≤ 2 ^ x) (sym (c .before .before .before .before .before .before .fill-masks .ensures .atoms-are)) (c .before .before .before .before .before .before .before .before .before .before .before .pre .1 .1 .1))
 
+next-at-requires : tie.Need-next-at-requires
+next-at-requires c κs = search needs
+
 returns : tie.Need-returns
-returns c = (c .next-masks .ensures) ∙ next-filled (c .before .before .before .before .before .before .before .fill-masks .ensures) _ _
+returns c = next-told (c .before .before .before .before .before .before .before .before .fill-masks .ensures) _ _ _ _ (c .before .next-masks .ensures) (c .next-at .ensures)
 
 pub next-of-spec : {M : Type 1} → statement M
 next-of-spec =
@@ -56,4 +59,5 @@ next-of-spec =
     array-share-prefix-classes
     slice-aggregate-next-masks-3
     next-masks-requires
+    next-at-requires
     returns)

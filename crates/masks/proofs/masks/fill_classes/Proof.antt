@@ -21,6 +21,12 @@ mul-note-role c = search needs
 shared-slice-read-note-role : tie.Need-shared-slice-read-note-role Inv-loop μ-loop
 shared-slice-read-note-role c = search needs
 
+sub-bit-of : tie.Need-sub-bit-of Inv-loop μ-loop
+sub-bit-of c = search needs
+
+sub-bit-of-2 : tie.Need-sub-bit-of-2 Inv-loop μ-loop
+sub-bit-of-2 c = search needs
+
 bit-of-requires : tie.Need-bit-of-requires Inv-loop μ-loop
 bit-of-requires c κs = search needs
 
@@ -51,6 +57,8 @@ fill-classes-spec =
     loop-holds
     mul-note-role
     shared-slice-read-note-role
+    sub-bit-of
+    sub-bit-of-2
     bit-of-requires
     note-role-requires
     add-i

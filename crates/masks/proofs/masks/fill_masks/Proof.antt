@@ -53,7 +53,7 @@ part-fill-rules-end : tie.Need-part-fill-rules-end
 part-fill-rules-end c = search needs
 
 fill-rules-requires : tie.Need-fill-rules-requires
-fill-rules-requires c κs = (preference-stored _ _ _ _ (header (c .before .before .before .before .before .before .before .before)), (omega (arith, preference-rules _ _ _ _ (header (c .before .before .before .before .before .before .before .before)), (c .before .before .before .before .before .before .before .before .before .before .before .before .before .before .before .before .before .before .pre .1 .1 .1 .0)), omega (arith, preference-rules _ _ _ _ (header (c .before .before .before .before .before .before .before .before)), (c .before .before .before .before .before .before .before .before .before .before .before .before .before .before .before .before .before .before .pre .1 .1 .1 .1))))
+fill-rules-requires c κs = (preference-atoms _ _ _ _ (header (c .before .before .before .before .before .before .before .before)), (preference-stored _ _ _ _ (header (c .before .before .before .before .before .before .before .before)), (omega (arith, preference-rules _ _ _ _ (header (c .before .before .before .before .before .before .before .before)), (c .before .before .before .before .before .before .before .before .before .before .before .before .before .before .before .before .before .before .pre .1 .1 .1 .0)), omega (arith, preference-rules _ _ _ _ (header (c .before .before .before .before .before .before .before .before)), (c .before .before .before .before .before .before .before .before .before .before .before .before .before .before .before .before .before .before .pre .1 .1 .1 .1)))))
 
 cast-atoms : tie.Need-cast-atoms
 cast-atoms c = omega (arith, preference-atoms _ _ _ _ (header (c .before .before .before .before .before .before .before .before .before .before .before .before .before)))

@@ -42,7 +42,7 @@ part-mask-of-end : tie.Need-part-mask-of-end
 part-mask-of-end c = search needs
 
 mask-of-requires : tie.Need-mask-of-requires
-mask-of-requires c κs = heads-below _ (c .before .before .before .before .before .pre)
+mask-of-requires c κs = (c .before .before .before .before .before .pre .0, heads-below _ _ (c .before .before .before .before .before .pre .1))
 
 mul-mask-of : tie.Need-mul-mask-of
 mul-mask-of c = search needs
@@ -57,7 +57,7 @@ part-mask-of-end-2 : tie.Need-part-mask-of-end-2
 part-mask-of-end-2 c = search needs
 
 mask-of-requires-2 : tie.Need-mask-of-requires-2
-mask-of-requires-2 c κs = bodies-below _ (c .before .before .before .before .before .before .before .pre)
+mask-of-requires-2 c κs = (c .before .before .before .before .before .before .before .pre .0, bodies-below _ _ (c .before .before .before .before .before .before .before .pre .1))
 
 mul-mask-of-2 : tie.Need-mul-mask-of-2
 mul-mask-of-2 c = search needs
@@ -72,22 +72,22 @@ part-mask-of-end-3 : tie.Need-part-mask-of-end-3
 part-mask-of-end-3 c = search needs
 
 mask-of-requires-3 : tie.Need-mask-of-requires-3
-mask-of-requires-3 c κs = nots-below _ (c .before .before .before .before .before .before .before .before .before .pre)
+mask-of-requires-3 c κs = (c .before .before .before .before .before .before .before .before .before .pre .0, nots-below _ _ (c .before .before .before .before .before .before .before .before .before .pre .1))
 
 is-kept-requires : tie.Need-is-kept-requires
 is-kept-requires c κs = search needs
 
 returns : tie.Need-returns
-returns c = read-dropped _ _ _ _ _ (c .before .before .before .before .before .before .mask-of .ensures) (c .before .before .before .before .mask-of2 .ensures) (c .before .before .mask-of3 .ensures) _ _ (c .before .is-kept .ensures) refl (not-true _ (c .if1 .taken))
+returns c = read-dropped _ _ _ _ _ _ (c .before .before .before .before .before .before .mask-of .ensures) (c .before .before .before .before .mask-of2 .ensures) (c .before .before .mask-of3 .ensures) _ _ (c .before .is-kept .ensures) refl (not-true _ (c .if1 .taken))
 
 is-breakable-requires : tie.Need-is-breakable-requires
 is-breakable-requires c κs = search needs
 
 returns-2 : tie.Need-returns-2
-returns-2 c = read-unbreakable _ _ _ _ _ (c .before .before .before .before .before .before .before .before .mask-of .ensures) (c .before .before .before .before .before .before .mask-of2 .ensures) (c .before .before .before .before .mask-of3 .ensures) _ _ (c .before .before .before .is-kept .ensures) (c .before .is-breakable .ensures) (not-true _ (c .if2 .taken))
+returns-2 c = read-unbreakable _ _ _ _ _ _ (c .before .before .before .before .before .before .before .before .mask-of .ensures) (c .before .before .before .before .before .before .mask-of2 .ensures) (c .before .before .before .before .mask-of3 .ensures) _ _ (c .before .before .before .is-kept .ensures) (c .before .is-breakable .ensures) (not-true _ (c .if2 .taken))
 
 returns-3 : tie.Need-returns-3
-returns-3 c = read-asked _ _ _ _ _ (c .before .before .before .before .before .before .before .before .mask-of .ensures) (c .before .before .before .before .before .before .mask-of2 .ensures) (c .before .before .before .before .mask-of3 .ensures) _ _ (c .before .before .before .is-kept .ensures) (c .before .is-breakable .ensures) (not-false _ (c .before .before .if1 .left)) (not-false _ (c .if2 .left))
+returns-3 c = read-asked _ _ _ _ _ _ (c .before .before .before .before .before .before .before .before .mask-of .ensures) (c .before .before .before .before .before .before .mask-of2 .ensures) (c .before .before .before .before .mask-of3 .ensures) _ _ (c .before .before .before .is-kept .ensures) (c .before .is-breakable .ensures) (not-false _ (c .before .before .if1 .left)) (not-false _ (c .if2 .left))
 
 pub read-rule-spec : {M : Type 1} → statement M
 read-rule-spec =

@@ -1,4 +1,4 @@
-use Rattle.masks.specs.Masks.{careOf, wantOf}
+use Rattle.masks.specs.Masks.{careAt, wantAt}
 use Rattle.stable_verdict.proofs.ReductFill.{put-masks}
 use borrow.Author.Needs.{needs}
 use Rattle.stable_verdict.proofs.reduct.put_rule.Statement.{statement}
@@ -29,7 +29,7 @@ part-fill-rules-end-2 : tie.Need-part-fill-rules-end-2
 part-fill-rules-end-2 c = search needs
 
 fill-rules-requires : tie.Need-fill-rules-requires
-fill-rules-requires c κs = search needs
+fill-rules-requires c κs = (c .before .before .before .before .before .pre .0, ((c .before .before .before .before .before .pre .1 .0, tt), (search needs, search needs)))
 
 same-length : tie.Need-same-length
 same-length c = search needs
@@ -38,7 +38,7 @@ same-length-2 : tie.Need-same-length-2
 same-length-2 c = search needs
 
 returns : tie.Need-returns
-returns c = (put-masks (careOf 0) _ _ _ _ (c .before .before .before .before .before .before .before .before .before .before .pre .1 .0) (c .before .before .before .before .fill-rules .ensures .0), put-masks (wantOf 0) _ _ _ _ (c .before .before .before .before .before .before .before .before .before .before .pre .1 .1) (c .before .before .before .before .fill-rules .ensures .1))
+returns c = (put-masks (careAt (c .before .before .before .before .before .before .before .before .before .before .args .n) 0) _ _ _ _ (c .before .before .before .before .before .before .before .before .before .before .pre .1 .1 .0) (c .before .before .before .before .fill-rules .ensures .0), put-masks (wantAt (c .before .before .before .before .before .before .before .before .before .before .args .n) 0) _ _ _ _ (c .before .before .before .before .before .before .before .before .before .before .pre .1 .1 .1) (c .before .before .before .before .fill-rules .ensures .1))
 
 pub put-rule-spec : {M : Type 1} → statement M
 put-rule-spec =

@@ -1,3 +1,4 @@
+use Rattle.kinds.specs.Limits.{walkAtoms}
 use Prim.Native.Nat.{ℕ, _-_, _^_}
 use mathlib.Core.Path.{_≡_, refl, ap, _∙_}
 use lib.ListN.{length, drop}
@@ -28,7 +29,7 @@ wide-requires : tie.Need-wide-requires Inv-loop μ-loop
 wide-requires c κs = search needs
 
 bit-of-requires : tie.Need-bit-of-requires Inv-loop μ-loop
-bit-of-requires c κs = atom-below (c .before .before .before .before .before .args .atoms .now) (c .before .before .before .before .before .pre) _ _ (c .before .before .loop-test .taken) (c .wide .ensures)
+bit-of-requires c κs = atom-below walkAtoms (c .before .before .before .before .before .args .atoms .now) (c .before .before .before .before .before .pre) _ _ (c .before .before .loop-test .taken) (c .wide .ensures)
 
 returns : tie.Need-returns Inv-loop μ-loop
 returns c = some-found _ _ _ (c .before .before .before .before .before .loop .inv) (c .before .before .before .before .loop-test .taken) (bit-in _ _ _ (c .before .bit-of .ensures ∙ ap (λ (x : ℕ). 2 ^ x) (c .before .before .wide .ensures)) (c .if1 .taken))

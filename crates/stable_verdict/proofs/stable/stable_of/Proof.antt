@@ -3,25 +3,24 @@ use Prim.Native.Nat.{_≤_}
 use native.Mathlib.Omega.{arith}
 use lib.ListN.{length}
 use lib.Seq.{length-take-le}
-use Rattle.masks.proofs.CheckedStore.{PlainHeader, has-header, plain-stored, plain-rules}
+use Rattle.masks.proofs.CheckedStore.{PlainHeader, has-header, plain-few, plain-stored, plain-rules}
 use Rattle.masks.proofs.FilledMasks.{taken-fits}
-use Rattle.stable_verdict.proofs.ProperSubsets.{below-60}
-use Rattle.stable_verdict.proofs.KeptRules.{ReductReady, reduct-ready, kept-care-length, kept-want-length, marks-length, marks-fit, broken-ready, walk-ready}
+use Rattle.stable_verdict.proofs.KeptRules.{ReductReady, reduct-ready, kept-care-length, kept-want-length, marks-length, marks-fit, place-small, broken-ready, walk-ready}
 use borrow.Author.Needs.{needs}
 use Rattle.stable_verdict.proofs.stable.stable_of.Statement.{statement}
 use Rattle.stable_verdict.proofs.stable.stable_of.Tie as tie
 
-header : (c : tie.After-wide) → PlainHeader (c .before .before .before .args .words .now) (c .wide .result)
-header c = record { store = c .before .before .before .pre .0; few = c .before .before .before .pre .1 .0; is-plain = c .before .before .before .pre .1 .1 .0; rules-read = c .wide .ensures }
+header : (c : tie.After-wide2) → PlainHeader (c .before .before .before .before .before .args .words .now) (c .before .before .wide .result) (c .wide2 .result)
+header c = record { store = c .before .before .before .before .before .pre .0; few = c .before .before .before .before .before .pre .1 .0; is-plain = c .before .before .before .before .before .pre .1 .1 .0; atoms-read = c .before .before .wide .ensures; rules-read = c .wide2 .ensures }
 
-ready : (c : tie.After-fill-reduct) → ReductReady (c .before .before .before .before .before .before .before .before .args .words .now) (c .before .before .before .before .before .wide .result) (c .before .before .before .before .before .before .before .before .args .set) (c .fill-reduct .last .1 .1 .1 .0) (c .fill-reduct .last .1 .1 .1 .1 .0) (c .fill-reduct .last .1 .1 .1 .1 .1 .0) (c .fill-reduct .result)
-ready c = reduct-ready _ _ _ _ _ (header (c .before .before .before .before .before)) (c .fill-reduct .ensures)
+ready : (c : tie.After-fill-reduct) → ReductReady (c .before .before .before .before .before .before .before .before .before .before .args .words .now) (c .before .before .before .before .before .before .before .wide .result) (c .before .before .before .before .before .wide2 .result) (c .before .before .before .before .before .before .before .before .before .before .args .set) (c .fill-reduct .last .1 .1 .1 .1 .0) (c .fill-reduct .last .1 .1 .1 .1 .1 .0) (c .fill-reduct .last .1 .1 .1 .1 .1 .1 .0) (c .fill-reduct .result)
+ready c = reduct-ready _ _ _ _ _ _ (header (c .before .before .before .before .before)) (c .fill-reduct .ensures)
 
 care-fits : (c : tie.After-gather) → c .gather .result ≤ length (c .gather .last .0)
-care-fits c = omega (arith, c .gather .ensures .1 .1, taken-fits _ _ (kept-care-length (ready (c .before .before .before .before .before .before .before .before .before .before))), c .gather .kept .0)
+care-fits c = omega (arith, c .gather .ensures .1 .1, taken-fits _ _ (kept-care-length (ready (c .before .before .before .before .before .before .before .before .before .before .before))), c .gather .kept .0)
 
 want-fits : (c : tie.After-gather) → c .gather .result ≤ length (c .gather .last .1 .0)
-want-fits c = omega (arith, c .gather .ensures .1 .1, taken-fits _ _ (kept-want-length (ready (c .before .before .before .before .before .before .before .before .before .before))), c .gather .kept .1 .0)
+want-fits c = omega (arith, c .gather .ensures .1 .1, taken-fits _ _ (kept-want-length (ready (c .before .before .before .before .before .before .before .before .before .before .before))), c .gather .kept .1 .0)
 
 shared-slice-read-wide : tie.Need-shared-slice-read-wide
 shared-slice-read-wide c = omega (arith, has-header _ _ (c .before .before .pre .0))
@@ -29,11 +28,17 @@ shared-slice-read-wide c = omega (arith, has-header _ _ (c .before .before .pre 
 wide-requires : tie.Need-wide-requires
 wide-requires c κs = search needs
 
+shared-slice-read-wide-2 : tie.Need-shared-slice-read-wide-2
+shared-slice-read-wide-2 c = omega (arith, has-header _ _ (c .before .before .before .before .pre .0))
+
+wide-requires-2 : tie.Need-wide-requires-2
+wide-requires-2 c κs = search needs
+
 sub-fill-reduct : tie.Need-sub-fill-reduct
-sub-fill-reduct c = has-header _ _ (c .before .before .before .pre .0)
+sub-fill-reduct c = has-header _ _ (c .before .before .before .before .before .pre .0)
 
 part-fill-reduct-start : tie.Need-part-fill-reduct-start
-part-fill-reduct-start c = has-header _ _ (c .before .before .before .pre .0)
+part-fill-reduct-start c = has-header _ _ (c .before .before .before .before .before .pre .0)
 
 part-fill-reduct-end : tie.Need-part-fill-reduct-end
 part-fill-reduct-end c = search needs
@@ -48,34 +53,40 @@ slice-aggregate-fill-reduct-3 : tie.Need-slice-aggregate-fill-reduct-3
 slice-aggregate-fill-reduct-3 c = search needs
 
 fill-reduct-requires : tie.Need-fill-reduct-requires
-fill-reduct-requires c κs = (plain-stored _ _ (header (c .before .before .before .before)), (plain-rules _ _ (header (c .before .before .before .before)), (refl, (plain-rules _ _ (header (c .before .before .before .before)), plain-rules _ _ (header (c .before .before .before .before))))))
+fill-reduct-requires c κs = (plain-few _ _ _ (header (c .before .before .before .before)), (plain-stored _ _ _ (header (c .before .before .before .before)), (plain-rules _ _ _ (header (c .before .before .before .before)), (refl, (plain-rules _ _ _ (header (c .before .before .before .before)), plain-rules _ _ _ (header (c .before .before .before .before)))))))
+
+cast-atoms : tie.Need-cast-atoms
+cast-atoms c = omega (arith, plain-few _ _ _ (header (c .before .before .before .before .before .before .before .before)))
+
+turned-requires : tie.Need-turned-requires
+turned-requires c κs = plain-few _ _ _ (header (c .before .before .before .before .before .before .before .before))
 
 array-share-prefix-care : tie.Need-array-share-prefix-care
-array-share-prefix-care c = taken-fits _ _ (kept-care-length (ready (c .before .before .before)))
+array-share-prefix-care c = taken-fits _ _ (kept-care-length (ready (c .before .before .before .before)))
 
 slice-aggregate-first-broken : tie.Need-slice-aggregate-first-broken
-slice-aggregate-first-broken c = kept-care-length (ready (c .before .before .before .before))
+slice-aggregate-first-broken c = kept-care-length (ready (c .before .before .before .before .before))
 
 array-share-prefix-want : tie.Need-array-share-prefix-want
-array-share-prefix-want c = taken-fits _ _ (kept-want-length (ready (c .before .before .before .before)))
+array-share-prefix-want c = taken-fits _ _ (kept-want-length (ready (c .before .before .before .before .before)))
 
 slice-aggregate-first-broken-2 : tie.Need-slice-aggregate-first-broken-2
-slice-aggregate-first-broken-2 c = kept-want-length (ready (c .before .before .before .before .before))
+slice-aggregate-first-broken-2 c = kept-want-length (ready (c .before .before .before .before .before .before))
 
 first-broken-requires : tie.Need-first-broken-requires
-first-broken-requires c κs = sym (kept-want-length (ready (c .before .before .before .before .before))) ∙ kept-care-length (ready (c .before .before .before .before .before))
+first-broken-requires c κs = sym (kept-want-length (ready (c .before .before .before .before .before .before))) ∙ kept-care-length (ready (c .before .before .before .before .before .before))
 
 array-share-prefix-marks : tie.Need-array-share-prefix-marks
-array-share-prefix-marks c = marks-fit (ready (c .before .before .before .before .before .before .before))
+array-share-prefix-marks c = marks-fit (ready (c .before .before .before .before .before .before .before .before))
 
 slice-aggregate-marked-at : tie.Need-slice-aggregate-marked-at
-slice-aggregate-marked-at c = marks-length (ready (c .before .before .before .before .before .before .before .before))
+slice-aggregate-marked-at c = marks-length (ready (c .before .before .before .before .before .before .before .before .before))
 
 marked-at-requires : tie.Need-marked-at-requires
 marked-at-requires c κs = search needs
 
 returns : tie.Need-returns
-returns c = broken-ready (ready (c .before .before .before .before .before .before .before .before .before)) _ (c .before .before .before .first-broken .ensures) _ _ (c .before .before .if1 .taken) (c .marked-at .ensures)
+returns c = broken-ready (ready (c .before .before .before .before .before .before .before .before .before .before)) _ (c .before .before .before .before .before .before .turned .ensures) _ (c .before .before .before .first-broken .ensures) _ _ (c .before .before .if1 .taken) (c .marked-at .ensures)
 
 slice-aggregate-gather : tie.Need-slice-aggregate-gather
 slice-aggregate-gather c = search needs
@@ -84,7 +95,7 @@ slice-aggregate-gather-2 : tie.Need-slice-aggregate-gather-2
 slice-aggregate-gather-2 c = search needs
 
 gather-requires : tie.Need-gather-requires
-gather-requires c κs = (taken-fits _ _ (kept-care-length (ready (c .before .before .before .before .before .before .before .before .before))), taken-fits _ _ (kept-want-length (ready (c .before .before .before .before .before .before .before .before .before))))
+gather-requires c κs = (taken-fits _ _ (kept-care-length (ready (c .before .before .before .before .before .before .before .before .before .before))), taken-fits _ _ (kept-want-length (ready (c .before .before .before .before .before .before .before .before .before .before))))
 
 array-share-prefix-care-2 : tie.Need-array-share-prefix-care-2
 array-share-prefix-care-2 c = care-fits (c .before .before)
@@ -99,10 +110,13 @@ slice-aggregate-stable-walk-2 : tie.Need-slice-aggregate-stable-walk-2
 slice-aggregate-stable-walk-2 c = sym (length-take-le _ (c .before .before .before .before .gather .last .1 .0) (want-fits (c .before .before .before .before)))
 
 stable-walk-requires : tie.Need-stable-walk-requires
-stable-walk-requires c κs = (length-take-le _ (c .before .before .before .before .gather .last .1 .0) (want-fits (c .before .before .before .before)) ∙ sym (length-take-le _ (c .before .before .before .before .gather .last .0) (care-fits (c .before .before .before .before))), below-60 _ _ (c .before .before .before .before .before .before .before .before .before .before .before .before .before .before .before .before .before .before .before .before .before .before .pre .1 .0) (c .before .before .before .before .before .before .before .before .before .before .before .before .before .before .before .before .before .before .before .before .before .before .pre .1 .1 .1))
+stable-walk-requires c κs = (length-take-le _ (c .before .before .before .before .gather .last .1 .0) (want-fits (c .before .before .before .before)) ∙ sym (length-take-le _ (c .before .before .before .before .gather .last .0) (care-fits (c .before .before .before .before))), place-small (ready (c .before .before .before .before .before .before .before .before .before .before .before .before .before .before .before)) _ (c .before .before .before .before .before .before .before .before .before .before .before .turned .ensures) _ (c .before .before .before .before .before .before .before .before .first-broken .ensures))
+
+verdict-at-requires : tie.Need-verdict-at-requires
+verdict-at-requires c κs = plain-few _ _ _ (header (c .before .before .before .before .before .before .before .before .before .before .before .before .before .before .before .before .before .before .before .before .before))
 
 returns-2 : tie.Need-returns-2
-returns-2 c = walk-ready (ready (c .before .before .before .before .before .before .before .before .before .before .before .before .before .before .before)) _ (c .before .before .before .before .before .before .before .before .before .first-broken .ensures) _ _ _ _ (c .before .before .before .before .before .before .before .before .before .before .before .before .before .before .before .before .before .before .before .before .before .before .before .pre .1 .1 .1) (c .before .before .before .before .before .before .before .before .if1 .left) (c .before .before .before .before .before .gather .ensures .0) (c .before .before .before .before .before .gather .ensures .1 .0) (c .stable-walk .ensures)
+returns-2 c = walk-ready (ready (c .before .before .before .before .before .before .before .before .before .before .before .before .before .before .before .before .before)) _ (c .before .before .before .before .before .before .before .before .before .before .before .before .before .turned .ensures) _ (c .before .before .before .before .before .before .before .before .before .before .first-broken .ensures) _ _ _ _ _ (c .before .before .before .before .before .before .before .before .before .before .before .before .before .before .before .before .before .before .before .before .before .before .before .before .before .before .before .pre .1 .1 .1) (c .before .before .before .before .before .before .before .before .before .if1 .left) (c .before .before .before .before .before .before .gather .ensures .0) (c .before .before .before .before .before .before .gather .ensures .1 .0) (c .before .stable-walk .ensures) (c .verdict-at .ensures)
 
 pub stable-of-spec : {M : Type 1} → statement M
 stable-of-spec =
@@ -110,6 +124,8 @@ stable-of-spec =
     (tie.spec
     shared-slice-read-wide
     wide-requires
+    shared-slice-read-wide-2
+    wide-requires-2
     sub-fill-reduct
     part-fill-reduct-start
     part-fill-reduct-end
@@ -117,6 +133,8 @@ stable-of-spec =
     slice-aggregate-fill-reduct-2
     slice-aggregate-fill-reduct-3
     fill-reduct-requires
+    cast-atoms
+    turned-requires
     array-share-prefix-care
     slice-aggregate-first-broken
     array-share-prefix-want
@@ -134,4 +152,5 @@ stable-of-spec =
     array-share-prefix-want-2
     slice-aggregate-stable-walk-2
     stable-walk-requires
+    verdict-at-requires
     returns-2)
