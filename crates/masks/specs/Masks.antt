@@ -74,10 +74,10 @@ unfoldable pub sparesM : ℕ → ℕ → List ℕ → Bool
 sparesM m s [] = false
 sparesM m s (c ∷ cs) = cond (agreeM m s c) (sparesM m s cs) (withinM m s c)
 
--- the atoms of the first class that m lacks
+-- the atoms that m lacks, class by class up to the first of which it has any
 unfoldable pub lackingM : ℕ → List ℕ → ℕ
 lackingM m [] = 0
-lackingM m (c ∷ cs) = bitXor c (bitAnd c m)
+lackingM m (c ∷ cs) = bitOr (bitXor c (bitAnd c m)) (cond (eqb (bitAnd c m) 0) (lackingM m cs) 0)
 
 unfoldable pub beatsM : List ℕ → List ℕ → List ℕ → ℕ → ℕ → Bool
 beatsM cs ws ks m s = sparesM m s ks && modelM cs ws s

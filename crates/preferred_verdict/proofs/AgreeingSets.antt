@@ -1,5 +1,5 @@
 -- What the loop of the preferred walk keeps, and what follows at each way out.
-use Prim.Native.Nat.{min, ℕ, _+_, _-_, _^_, _≤_, _<_}
+use Prim.Native.Nat.{min, ℕ, suc, _+_, _-_, _^_, _≤_, _<_}
 use mathlib.Core.Path.{_≡_, refl, sym, ap, _∙_, subst}
 use mathlib.Core.Bool.{Bool, true, false, cond, _&&_}
 use mathlib.Core.List.{List, [], _∷_}
@@ -9,18 +9,21 @@ use native.Mathlib.Omega.{arith}
 use lib.Pow.{pow-mono}
 use lib.Count.{ones}
 use lib.Dec.{T, eqb, eqb→eq}
-use lib.Bits.{bitAnd, bitOr, bitXor, or-lt, or-self, or-comm}
-use lib.ListN.{length, getD}
+use lib.Bits.{bitAnd, bitOr, bitXor, or-lt, or-self, or-comm, or-zero-l, or-zero-r, and-zero-r}
+use lib.ListN.{length, getD, drop, drop-of-length-le}
+use lib.Seq.{drop-cons}
+use native.Mathlib.Numerals.{add-one}
 use borrow.Author.Tests.{eq-eqb, ne-eqb}
 use Rattle.rules.specs.Sets.{has}
-use Rattle.rules.proofs.Booleans.{eq→eqb, T-of}
+use Rattle.rules.proofs.Booleans.{eq→eqb, T-of, T-or-out, is-true, is-false}
 use Rattle.walks.specs.Walk.{search, capped}
 use Rattle.masks.specs.Masks.{firstM, modelM, agreeM, sparesM, lackingM, withinM, beatsM, preferredWalkM, preferredM}
 use Rattle.walks.specs.declared.answers.Verdict.{Verdict}
 use Rattle.walks.specs.declared.answers.Verdict.the-variants.{Yes, Broken, Beaten, Spent}
 use Rattle.rules.specs.Lists.{filter, from}
 use Rattle.masks.proofs.Bits.{bit, bit-lt}
-use Rattle.masks.proofs.MaskBits.{disjoint, agrees, part-of}
+use Rattle.masks.proofs.MaskBits.{has-or, disjoint, agrees, part-of}
+use Rattle.masks.proofs.MaskLoops.{or-assoc}
 use Rattle.walks.proofs.Filters.{upTo}
 use Rattle.walks.proofs.Searches.{Answered, walked-answered, search-walked}
 use Rattle.preferred_verdict.proofs.FreeAtoms.{freeOf, first-place, next-place, last-place, before-total}
@@ -28,7 +31,7 @@ use Rattle.masks.specs.Subsets.{rank}
 use Rattle.masks.proofs.Steps.{walk-first, walk-found, walk-next, walk-last, walk-spent, capped-yes, capped-beaten}
 use Rattle.masks.proofs.Stepping.{lacks, lacks-bit, stands, stands-agrees, gap, gap-last, or-again, le-or, agrees-sum}
 
--- a set with an atom of the first class that the other lacks does not beat it
+-- a set with a lacked atom does not beat the other: before that class neither has an atom, and in it the one has more
 
 in-lacks : (c m i : ℕ) → T (has (lacks c m) i) → T (has c i) × (T (has m i) → ⊥)
 in-lacks c m i t =
@@ -37,14 +40,45 @@ in-lacks c m i t =
     let b = bit-lt c i in
     (eq→eqb (bit c i) 1 (omega arith), λ h. let q : bit m i ≡ 1 = eqb→eq (bit m i) 1 h in omega arith)
 
-pub none-lacked : (m s : ℕ) (ks : List ℕ) → T (sparesM m s ks) → bitAnd s (lackingM m ks) ≡ 0
-unfolding sparesM lackingM agreeM withinM
-none-lacked m s [] h = absurd h
-none-lacked m s (c ∷ ks) h = eqb→eq (bitAnd s (lacks c m)) 0 (disjoint s (lacks c m) .1 (λ i t k. let q = in-lacks c m i t in q .1 (within (agreeM m s c) refl h i (q .0) k)))
+-- one class, and what the later ones say
+module _ (m s c : ℕ) (later : Bool) (h : T (cond (agreeM m s c) later (withinM m s c))) where
+  -- what s has of it, m has
+  part : (i : ℕ) → T (has c i) → T (has s i) → T (has m i)
+  unfolding agreeM withinM
+  part = step (agreeM m s c) refl h
+    where
+      step : (p : Bool) → agreeM m s c ≡ p → T (cond p later (withinM m s c)) → (i : ℕ) → T (has c i) → T (has s i) → T (has m i)
+      step true e t i a b = T-of (agrees s m c .0 (T-of (sym e) tt) i a) b
+      step false e t i a b = part-of s m c .0 t i a b
+
+  class-apart : bitAnd s (lacks c m) ≡ 0
+  class-apart = eqb→eq (bitAnd s (lacks c m)) 0 (disjoint s (lacks c m) .1 (λ i t k. let q = in-lacks c m i t in q .1 (part i (q .0) k)))
+
+  -- where m has none of it, the later classes decide
+  class-empty : bitAnd c m ≡ 0 → T later
+  unfolding agreeM
+  class-empty e = T-of (ap (λ (p : Bool). cond p later (withinM m s c)) (is-true (agreeM m s c) (agrees s m c .1 (λ i t. is-false (has s i) (λ k. out i t (part i t k)) ∙ sym (is-false (has m i) (out i t)))))) h
+    where
+      out : (i : ℕ) → T (has c i) → T (has m i) → ⊥
+      out i t k = disjoint c m .0 (eq→eqb (bitAnd c m) 0 e) i k t
+
+both-apart : (s x y : ℕ) → bitAnd s x ≡ 0 → bitAnd s y ≡ 0 → bitAnd s (bitOr x y) ≡ 0
+both-apart s x y e f = eqb→eq (bitAnd s (bitOr x y)) 0 (disjoint s (bitOr x y) .1 (λ i t k. either i k (T-or-out (has x i) (has y i) (T-of (has-or x y i) t))))
   where
-    within : (p : Bool) → agreeM m s c ≡ p → T (cond p (sparesM m s ks) (withinM m s c)) → (i : ℕ) → T (has c i) → T (has s i) → T (has m i)
-    within true e t i a b = T-of (agrees s m c .0 (T-of (sym e) tt) i a) b
-    within false e t i a b = part-of s m c .0 t i a b
+    either : (i : ℕ) → T (has s i) → T (has x i) ⊎ T (has y i) → ⊥
+    either i k (inl t) = disjoint s x .0 (eq→eqb (bitAnd s x) 0 e) i t k
+    either i k (inr t) = disjoint s y .0 (eq→eqb (bitAnd s y) 0 f) i t k
+
+none-lacked : (m s : ℕ) (ks : List ℕ) → T (sparesM m s ks) → bitAnd s (lackingM m ks) ≡ 0
+unfolding sparesM lackingM
+none-lacked m s [] h = absurd h
+none-lacked m s (c ∷ ks) h =
+    both-apart s (lacks c m) (cond (eqb (bitAnd c m) 0) (lackingM m ks) 0) (class-apart m s c (sparesM m s ks) h)
+    (step (eqb (bitAnd c m) 0) refl (λ e. none-lacked m s ks (class-empty m s c (sparesM m s ks) h e)))
+  where
+    step : (p : Bool) → eqb (bitAnd c m) 0 ≡ p → (bitAnd c m ≡ 0 → bitAnd s (lackingM m ks) ≡ 0) → bitAnd s (cond p (lackingM m ks) 0) ≡ 0
+    step true e r = r (eqb→eq (bitAnd c m) 0 (T-of (sym e) tt))
+    step false e r = and-zero-r s
 
 pub beats-lacked : (cs ws ks : List ℕ) (m s l : ℕ) → l ≡ lackingM m ks → (bitAnd s l ≡ 0 → ⊥) → false ≡ beatsM cs ws ks m s
 unfolding beatsM
@@ -54,15 +88,40 @@ beats-lacked cs ws ks m s l e f = by (sparesM m s ks) (λ t. f (ap (bitAnd s) e 
     by true h = absurd (h tt)
     by false h = refl
 
-pub lacking-none : (m : ℕ) (ks : List ℕ) → length ks ≡ 0 → 0 ≡ lackingM m ks
-unfolding lackingM
-lacking-none m [] e = refl
-lacking-none m (c ∷ ks) e = absurd (omega arith)
+-- the lacked atoms, one class further
 
-pub lacking-some : (m : ℕ) (ks : List ℕ) → (length ks ≡ 0 → ⊥) → bitXor (getD ks 0 0) (bitAnd (getD ks 0 0) m) ≡ lackingM m ks
-unfolding lackingM
-lacking-some m [] e = absurd (e refl)
-lacking-some m (c ∷ ks) e = refl
+module _ (m : ℕ) (ks : List ℕ) where
+  pub record Lacking (lacked i : ℕ) : Type 0 where
+    pub inside : i ≤ length ks
+    pub same : lackingM m ks ≡ bitOr lacked (lackingM m (drop i ks))
+
+  pub lack-begins : Lacking 0 0
+  lack-begins = record { inside = omega arith; same = sym (or-zero-l (lackingM m ks)) }
+
+  module _ (lacked i : ℕ) (st : Lacking lacked i) where
+    pub lack-ends : length ks ≤ i → lacked ≡ lackingM m ks
+    unfolding lackingM
+    lack-ends l = sym (st .same ∙ ap (λ (t : List ℕ). bitOr lacked (lackingM m t)) (drop-of-length-le ks l) ∙ or-zero-r lacked)
+
+    module _ (l : i < length ks) where
+      abbrev c : ℕ
+      c = getD ks i 0
+
+      one : (p : Bool) → eqb (bitAnd c m) 0 ≡ p → lackingM m ks ≡ bitOr (bitOr lacked (bitXor c (bitAnd c m))) (cond p (lackingM m (drop (suc i) ks)) 0)
+      unfolding lackingM
+      one p e =
+          st .same ∙ ap (λ (t : List ℕ). bitOr lacked (lackingM m t)) (drop-cons ks i 0 l)
+          ∙ ap (λ (q : Bool). bitOr lacked (bitOr (bitXor c (bitAnd c m)) (cond q (lackingM m (drop (suc i) ks)) 0))) e
+          ∙ sym (or-assoc lacked (bitXor c (bitAnd c m)) (cond p (lackingM m (drop (suc i) ks)) 0))
+
+      pub lack-stops : (bitAnd c m ≡ 0 → ⊥) → bitOr lacked (bitXor c (bitAnd c m)) ≡ lackingM m ks
+      lack-stops h = sym (one false (ne-eqb (bitAnd c m) 0 h) ∙ or-zero-r (bitOr lacked (bitXor c (bitAnd c m))))
+
+      pub lack-more : bitAnd c m ≡ 0 → Lacking (bitOr lacked (bitXor c (bitAnd c m))) (i + 1)
+      lack-more h = record {
+        inside = omega arith;
+        same = one true (eq-eqb (bitAnd c m) 0 h) ∙ ap (λ (k : ℕ). bitOr (bitOr lacked (bitXor c (bitAnd c m))) (lackingM m (drop k ks))) (sym (add-one i));
+      }
 
 -- a set that beats another: the classes first, then the rules
 

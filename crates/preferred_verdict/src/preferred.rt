@@ -38,15 +38,21 @@ fn spares(classes: &[u64], set: u64, of: u64) -> bool
     false
 }
 
-// The atoms of the first class that `of` lacks: a set that has one of them does not beat it.
+// The atoms that `of` lacks, class by class up to the first of which it has any: a set that has one of them does not beat it.
 fn lacking(classes: &[u64], of: u64) -> u64
     ensures { λ r. ⌜ r ≡ lackingM of (now (classes .entry)) ⌝ }
 {
-    if classes.len() == 0 {
-        return 0;
+    let mut lacked: u64 = 0;
+    let mut i = 0;
+    while i < classes.len() {
+        let c = classes[i];
+        lacked |= c ^ (c & of);
+        if c & of != 0 {
+            return lacked;
+        }
+        i += 1;
     }
-    let c = classes[0];
-    c ^ (c & of)
+    lacked
 }
 
 // Whether `set`, which agrees with `of` on the fixed atoms, beats it.

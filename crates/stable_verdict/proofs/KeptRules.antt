@@ -32,7 +32,7 @@ use Rattle.masks.proofs.RulesFill.{front-of}
 use Rattle.masks.proofs.VerdictMasks.{care-mirrored, want-mirrored}
 use Rattle.masks.proofs.CheckedStore.{PlainHeader, plain-atoms, plain-few, plain-rules-are, plain-within, stable-broken, stable-walked}
 use Rattle.stable_verdict.specs.ReductMarks.{MarksMean, keeps?, marksOf, markedAt}
-use Rattle.stable_verdict.proofs.ProperSubsets.{below-60}
+use Rattle.stable_verdict.proofs.ProperSubsets.{below-60, first-le}
 use Rattle.stable_verdict.proofs.ReductFill.{bare, asked-none}
 
 pub mark-law : (m : ℕ) (rs : List (Rule ℕ)) → MarksMean m rs (marksOf m rs)
@@ -156,16 +156,6 @@ module _ (m : ℕ) where
   want-gathered : (rs : List (Rule ℕ)) → gatherWant (care rs) (want rs) ≡ gatherWant (reductCare rs) (reductWant rs)
   unfolding gatherWant
   want-gathered = gathered-alike gatherWant (λ c w. w) (λ c w cs ws. refl)
-
-first-le : (s : ℕ) (cs ws : List ℕ) → firstM s cs ws ≤ length cs
-unfolding firstM
-first-le s [] ws = omega arith
-first-le s (c ∷ cs) [] = omega arith
-first-le s (c ∷ cs) (w ∷ ws) = step (not (eqb (bitAnd s c) w)) (first-le s cs ws)
-  where
-    step : (b : Bool) → firstM s cs ws ≤ length cs → countIf b (firstM s cs ws) ≤ suc (length cs)
-    step true h = omega arith
-    step false h = omega arith
 
 -- the rules of a plain store, as the code takes their words
 abbrev rulesIn : List ℕ → ℕ → List (Rule ℕ)

@@ -16,12 +16,12 @@ use Rattle.rules.specs.Rules.{countIf}
 use Rattle.rules.proofs.Booleans.{eq→eqb}
 use Rattle.walks.specs.Walk.{search, capped}
 use Rattle.masks.specs.Masks.{firstM, modelM, subsetM, stableWalkM}
-use Rattle.masks.specs.Subsets.{rank, NextSub, StepTable}
+use Rattle.masks.specs.Subsets.{rank, NextSub}
+use Rattle.stable_verdict.specs.SubsetWalk.{Subset, Walking}
 use Rattle.walks.specs.declared.answers.Verdict.the-variants.{Yes, Beaten, Spent}
 use Rattle.walks.proofs.Filters.{upTo}
-use Rattle.masks.proofs.Steps.{walk-first, walk-none, walk-found, walk-next, walk-spent, capped-yes, capped-beaten}
+use Rattle.masks.proofs.Steps.{walk-first, walk-none, walk-found as found, walk-next, walk-spent, capped-yes, capped-beaten}
 use Rattle.masks.proofs.Subsets.{rank-top, rank-none, rank-lt}
-use Rattle.stable_verdict.proofs.SubsetSteps.{StepRead, step-read}
 use Rattle.masks.proofs.MaskLoops.{shifted}
 
 pub ones-small : (m : ℕ) → m < 2 ^ 60 → ones m ≤ 60
@@ -35,6 +35,16 @@ proper-is m h =
 pub below-60 : (n m : ℕ) → n ≤ 60 → m < 2 ^ n → m < 2 ^ 60
 below-60 n m l h = lt-of-lt-of-le h (pow-mono {i = n} {j = 60} l)
 
+pub first-le : (s : ℕ) (cs ws : List ℕ) → firstM s cs ws ≤ length cs
+unfolding firstM
+first-le s [] ws = omega arith
+first-le s (c ∷ cs) [] = omega arith
+first-le s (c ∷ cs) (w ∷ ws) = step (not (eqb (bitAnd s c) w)) (first-le s cs ws)
+  where
+    step : (b : Bool) → firstM s cs ws ≤ length cs → countIf b (firstM s cs ws) ≤ suc (length cs)
+    step true h = omega arith
+    step false h = omega arith
+
 -- a broken rule is no sooner than the first
 broken-later : (s : ℕ) (cs ws : List ℕ) (i : ℕ) → i < length cs → bitAnd s (getD cs i 0) ≡ getD ws i 0 → firstM s cs ws ≤ i
 unfolding firstM
@@ -47,85 +57,94 @@ broken-later s (c ∷ cs) (w ∷ ws) (suc i) l e = step (not (eqb (bitAnd s c) w
     step true h = omega arith
     step false h = omega arith
 
-pub broken-here : (s : ℕ) (cs ws : List ℕ) (i : ℕ) → i < length cs → bitAnd s (getD cs i 0) ≡ getD ws i 0 → eqb i (length cs) ≡ modelM cs ws s
+broken-here : (s : ℕ) (cs ws : List ℕ) (i : ℕ) → i < length cs → bitAnd s (getD cs i 0) ≡ getD ws i 0 → modelM cs ws s ≡ false
 unfolding modelM
-broken-here s cs ws i l e =
-    ne-eqb i (length cs) (λ q. omega arith) ∙ sym (ne-eqb (firstM s cs ws) (length cs) (λ q. omega (arith, broken-later s cs ws i l e)))
+broken-here s cs ws i l e = ne-eqb (firstM s cs ws) (length cs) (λ q. omega (arith, broken-later s cs ws i l e))
 
-pub broken-first : (s : ℕ) (cs ws : List ℕ) (r : ℕ) → r ≡ firstM s cs ws → eqb r (length cs) ≡ modelM cs ws s
+pub told-broken : (s : ℕ) (cs ws : List ℕ) (i : ℕ) → i < length cs → bitAnd s (getD cs i 0) ≡ getD ws i 0 → (eqb i (length cs) ≡ modelM cs ws s) × (i ≤ length cs)
+told-broken s cs ws i l e = (ne-eqb i (length cs) (λ q. omega arith) ∙ sym (broken-here s cs ws i l e), omega arith)
+
+pub told-first : (s : ℕ) (cs ws : List ℕ) (r : ℕ) → r ≡ firstM s cs ws → (eqb r (length cs) ≡ modelM cs ws s) × (r ≤ length cs)
 unfolding modelM
-broken-first s cs ws r e = ap (λ (x : ℕ). eqb x (length cs)) e
+told-first s cs ws r e = (ap (λ (x : ℕ). eqb x (length cs)) e, omega (arith, first-le s cs ws))
 
-module _ (cs ws : List ℕ) (m budget : ℕ) where
-  -- s is the next subset to be tried, or m itself; `last` is the units at which the loop ends
-  pub record Subsetting (proper last s units : ℕ) : Type 0 where
-    pub all : proper ≡ rank 64 m m
-    pub bound : last ≡ min proper budget
-    pub fits : m < 2 ^ 60
-    pub inside : bitAnd s m ≡ s
-    pub place : rank 64 m s ≡ units
-    pub spend : units ≤ last
-    pub same : stableWalkM cs ws m ≡ search (modelM cs ws) (upTo (subsetM m) m s) units
+module _ (cs ws : List ℕ) (m last : ℕ) where
+  abbrev At : ℕ → ℕ → Type 0
+  At s units = Walking cs ws m last (record { set = s; units = units })
 
-  pub subsets-begin : (proper last : ℕ) → m < 2 ^ 60 → proper ≡ rank 64 m m → last ≡ min proper budget → Subsetting proper last 0 0
+  pub walk-begins : m < 2 ^ 60 → last ≤ rank 64 m m → At 0 0
   unfolding stableWalkM
-  subsets-begin proper last h e b = record {
-    all = e;
-    bound = b;
+  walk-begins h e = record {
     fits = h;
+    enough = e;
     inside = and-zero-l m;
     place = rank-none m;
     spend = omega arith;
     same = walk-first (subsetM m) (modelM cs ws) m 0 0 (omega arith) (λ x l t. omega arith);
   }
 
-  module _ (proper last s units : ℕ) (st : Subsetting proper last s units) where
-    is-proper : units < proper → s ≡ m → ⊥
-    is-proper l e = let p : rank 64 m s ≡ rank 64 m m = ap (rank 64 m) e in let q = st .place in let a = st .all in omega arith
+  module _ (s units : ℕ) (st : Walking cs ws m last (record { set = s; units = units })) where
+    is-proper : units < rank 64 m m → s ≡ m → ⊥
+    is-proper l e = let p : rank 64 m s ≡ rank 64 m m = ap (rank 64 m) e in let q = st .place in omega arith
 
-    below : units < proper → s < m
+    below : units < rank 64 m m → s < m
     below l = let i = st .inside in let n = is-proper l in omega (arith, and-le-r s m)
 
     tried : T (subsetM m s)
     tried = eq→eqb (bitAnd s m) s (st .inside)
 
+    pub walk-within : s < 2 ^ 60
+    walk-within = let i = st .inside in let f = st .fits in omega (arith, and-le-r s m)
+
     module _ (l : units < last) where
-      not-last : units < proper
-      not-last = let b = st .bound in omega arith
+      not-last : units < rank 64 m m
+      not-last = let e = st .enough in omega arith
 
-      pub subsets-step : (steps : List ℕ) → StepTable m steps → StepRead m s (units + 1) steps
-      subsets-step steps t = step-read m s (units + 1) steps t (st .fits) (st .inside) (is-proper not-last) (ap (λ (u : ℕ). u + 1) (st .place))
+      pub walk-subset : Subset m s
+      walk-subset = record { fits = st .fits; inside = st .inside; differs = is-proper not-last }
 
-      pub subsets-found : (r : ℕ) → eqb r (length cs) ≡ modelM cs ws s → r ≡ length cs → Beaten s (units + 1) ≡ capped budget (stableWalkM cs ws m)
-      subsets-found r e h =
-          let n : units + 1 ≤ budget = (let b = st .bound in omega arith) in
-          sym (ap (capped budget) (st .same ∙ walk-found (subsetM m) (modelM cs ws) m s units (below not-last) tried (sym e ∙ eq-eqb _ _ h)) ∙ capped-beaten budget s (units + 1) n)
+      pub walk-counts : rank 64 m s + 1 ≡ units + 1
+      walk-counts = ap (λ (u : ℕ). u + 1) (st .place)
 
-      pub subsets-go-on : (r : ℕ) → eqb r (length cs) ≡ modelM cs ws s → (r ≡ length cs → ⊥) → (s′ : ℕ) → NextSub m s s′ → Subsetting proper last s′ (units + 1)
-      subsets-go-on r e h s′ nx = record {
-        all = st .all;
-        bound = st .bound;
+      goes-on : modelM cs ws s ≡ false → (s′ : ℕ) → NextSub m s s′ → At s′ (units + 1)
+      goes-on e s′ nx = record {
         fits = st .fits;
+        enough = st .enough;
         inside = nx .inside;
         place = nx .counts ∙ ap (λ (u : ℕ). u + 1) (st .place);
         spend = omega arith;
-        same = st .same ∙ walk-next (subsetM m) (modelM cs ws) m s s′ units (nx .above) (omega (arith, and-le-r s′ m, nx .inside)) tried (sym e ∙ ne-eqb _ _ h)
+        same = st .same ∙ walk-next (subsetM m) (modelM cs ws) m s s′ units (nx .above) (omega (arith, and-le-r s′ m, nx .inside)) tried e
             (λ x a b t. let g : s′ ≤ x = nx .least x a (eqb→eq (bitAnd x m) x t) in omega arith);
       }
 
-    module _ (l : last ≤ units) where
-      pub subsets-spent : units < proper → Spent budget ≡ capped budget (stableWalkM cs ws m)
-      subsets-spent k =
-          let e : units ≡ budget = (let b = st .bound in let u = st .spend in omega arith) in
-          sym (ap (capped budget) (st .same ∙ ap (search (modelM cs ws) (upTo (subsetM m) m s)) e)
-          ∙ walk-spent (subsetM m) (modelM cs ws) m s budget (below k) tried)
+      -- the rule i is broken at s
+      pub walk-passes : (i : ℕ) → i < length cs → bitAnd s (getD cs i 0) ≡ getD ws i 0 → (s′ : ℕ) → NextSub m s s′ → At s′ (units + 1)
+      walk-passes i h e = goes-on (broken-here s cs ws i h e)
 
-      pub subsets-end : proper ≤ units → Yes units ≡ capped budget (stableWalkM cs ws m)
-      subsets-end k = by-dec (ℕ-discrete s m)
+      module _ (r : ℕ) (told : (eqb r (length cs) ≡ modelM cs ws s) × (r ≤ length cs)) where
+        pub walk-goes-on : (r ≡ length cs → ⊥) → (s′ : ℕ) → NextSub m s s′ → At s′ (units + 1)
+        walk-goes-on h = goes-on (sym (told .0) ∙ ne-eqb r (length cs) h)
+
+        pub broken-inside : (r ≡ length cs → ⊥) → r < length cs
+        broken-inside h = let l = told .1 in omega arith
+
+        pub walk-found : (budget : ℕ) → last ≤ budget → r ≡ length cs → Beaten s (units + 1) ≡ capped budget (stableWalkM cs ws m)
+        walk-found budget b h =
+            sym (ap (capped budget) (st .same ∙ found (subsetM m) (modelM cs ws) m s units (below not-last) tried (sym (told .0) ∙ eq-eqb r (length cs) h)) ∙ capped-beaten budget s (units + 1) (omega arith))
+
+    module _ (proper budget : ℕ) (all : proper ≡ rank 64 m m) (bound : last ≡ min proper budget) (l : last ≤ units) where
+      pub walk-spends : units < proper → Spent budget ≡ capped budget (stableWalkM cs ws m)
+      walk-spends k =
+          let e : units ≡ budget = (let u = st .spend in omega arith) in
+          sym (ap (capped budget) (st .same ∙ ap (search (modelM cs ws) (upTo (subsetM m) m s)) e)
+          ∙ walk-spent (subsetM m) (modelM cs ws) m s budget (below (omega arith)) tried)
+
+      pub walk-ends : proper ≤ units → Yes units ≡ capped budget (stableWalkM cs ws m)
+      walk-ends k = by-dec (ℕ-discrete s m)
         where
           within : units ≤ budget
-          within = let b = st .bound in let u = st .spend in omega arith
+          within = let u = st .spend in omega arith
 
           by-dec : Dec (s ≡ m) → Yes units ≡ capped budget (stableWalkM cs ws m)
           by-dec (yes e) = sym (ap (capped budget) (st .same ∙ walk-none (subsetM m) (modelM cs ws) m s units (λ x a b t. omega arith)) ∙ capped-yes budget units within)
-          by-dec (no q) = absurd (let a = st .all in let f = st .fits in omega (arith, st .place, rank-lt 64 m s (omega arith) (st .inside) q))
+          by-dec (no q) = absurd (let f = st .fits in omega (arith, st .place, rank-lt 64 m s (omega arith) (st .inside) q))

@@ -5,11 +5,12 @@ use mathlib.Core.List.{List}
 use native.Mathlib.Decide.{ℕ-discrete}
 use native.Mathlib.Omega.{arith}
 use lib.Pow.{pow-pos}
-use lib.Bits.{bitAnd, and-le-r}
+use lib.Bits.{and-le-r}
 use lib.Count.{ones, trailingZeros, ones-le}
 use lib.ListN.{length, getD, set, length-set}
 use lib.Seq.{getD-set-same, getD-set-other}
 use Rattle.masks.specs.Subsets.{rank, NextSub, stepOf, StepTable}
+use Rattle.stable_verdict.specs.SubsetWalk.{Subset}
 use Rattle.masks.proofs.Subsets.{Lowest, lowest, zeros-lt, step-pos, next-sub, rank-lt, rank-top}
 
 module _ (m : ℕ) where
@@ -99,26 +100,22 @@ module _ (m : ℕ) where
             at i l (no ne) = getD-set-other steps j i (atom - below) 0 ne ∙ st .done i (omega arith)
 
 -- the step read after a proper subset s of m, by the place of the next one
-pub record StepRead (m s place : ℕ) (steps : List ℕ) : Type 0 where
-  pub small : trailingZeros 64 place < 60
-  pub stands : trailingZeros 64 place < length steps
-  pub fits : s + getD steps (trailingZeros 64 place) 0 < 2 ^ 64
-  pub next : NextSub m s (s + getD steps (trailingZeros 64 place) 0)
-
-module _ (m s place : ℕ) (steps : List ℕ) (t : StepTable m steps) (fits : m < 2 ^ 60) (inside : bitAnd s m ≡ s) (ne : s ≡ m → ⊥) (e : rank 64 m s + 1 ≡ place) where
+module _ (m s place : ℕ) (steps : List ℕ) (t : StepTable m steps) (p : Subset m s) (e : rank 64 m s + 1 ≡ place) where
   few : trailingZeros 64 place < ones m
-  few = zeros-lt 64 (ones m) place (omega arith) (omega (arith, rank-lt 64 m s (omega arith) inside ne, rank-top 64 m (omega arith)))
+  few = let f = p .fits in zeros-lt 64 (ones m) place (omega arith) (omega (arith, rank-lt 64 m s (omega arith) (p .inside) (p .differs), rank-top 64 m (omega arith)))
 
-  next : NextSub m s (s + getD steps (trailingZeros 64 place) 0)
-  next =
+  pub step-small : trailingZeros 64 place < 60
+  step-small = omega (arith, few, ones-le 60 m (p .fits))
+
+  pub step-stands : trailingZeros 64 place < length steps
+  step-stands = omega (arith, few, t .room)
+
+  pub step-next : NextSub m s (s + getD steps (trailingZeros 64 place) 0)
+  step-next =
+      let f = p .fits in
       subst (λ (x : ℕ). NextSub m s (s + x))
       (ap (λ (u : ℕ). stepOf 64 m (trailingZeros 64 u)) e ∙ sym (t .holds (trailingZeros 64 place) few))
-      (next-sub m s (omega arith) inside ne)
+      (next-sub m s (omega arith) (p .inside) (p .differs))
 
-  pub step-read : StepRead m s place steps
-  step-read = record {
-    small = omega (arith, few, ones-le 60 m fits);
-    stands = omega (arith, few, t .room);
-    fits = let i = next .inside in omega (arith, and-le-r (s + getD steps (trailingZeros 64 place) 0) m);
-    next = next;
-  }
+  pub step-fits : s + getD steps (trailingZeros 64 place) 0 < 2 ^ 64
+  step-fits = let i = step-next .inside in let f = p .fits in omega (arith, and-le-r (s + getD steps (trailingZeros 64 place) 0) m)

@@ -1,2 +1,3 @@
--- The marks of the reduct.
+-- The marks of the reduct, and where the walk stands.
 pub mod ReductMarks
+pub mod SubsetWalk

@@ -15,7 +15,7 @@ use masks::masks::wide;
 use places::turning::turned;
 use walks::answers::Verdict;
 ghost use mathlib.Core.Path.{_≡_};
-ghost use Prim.Native.Nat.{_<_, _≤_, _^_};
+ghost use Prim.Native.Nat.{_+_, _<_, _≤_, _^_};
 ghost use lib.Dec.{eqb};
 ghost use lib.ListN.{length};
 ghost use Rattle.kinds.specs.Limits.{walkAtoms};
@@ -23,8 +23,15 @@ ghost use Rattle.kinds.specs.declared.limits.Kind.the-variants.{Plain as KindPl
 ghost use Rattle.stores.specs.RuleStore.{StoreOf, decode};
 ghost use Rattle.walks.specs.Walk.{capped, stableVerdict};
 ghost use Rattle.masks.specs.Masks.{modelM, stableWalkM};
-ghost use Rattle.masks.specs.Subsets.{rank, StepTable};
+ghost use Rattle.masks.specs.Subsets.{rank, NextSub, StepTable};
+ghost use Rattle.stable_verdict.specs.SubsetWalk.{Subset, Walking};
 ghost use Rattle.walks.specs.Answers.{stableAnswer};
+
+// Where a walk stands: the subset that is tried next, and the units so far.
+struct Standing {
+    set: u64,
+    units: u64,
+}
 
 // How many proper subsets a set has.
 fn proper_subsets(set: u64) -> u64
@@ -52,11 +59,11 @@ fn fill_steps(set: u64, steps: &mut [u64])
     }
 }
 
-// The number of a rule that is broken at `set`, or the number of rules.
-// Rule `first` is looked at first: the rule that one subset breaks, the next mostly breaks too.
+// The number of a rule that is broken at `set`, or the number of rules; rule `first` is looked at first.
 fn some_broken(care: &[u64], want: &[u64], set: u64, first: usize) -> usize
     requires { ⌜ length (now want) ≡ length (now care) ⌝ }
     ensures { λ r. ⌜ eqb r (length (now (care .entry))) ≡ modelM (now (care .entry)) (now (want .entry)) set ⌝ }
+    ensures { λ r. ⌜ r ≤ length (now (care .entry)) ⌝ }
 {
     if first < care.len() {
         if set & care[first] == want[first] {
@@ -66,7 +73,54 @@ fn some_broken(care: &[u64], want: &[u64], set: u64, first: usize) -> usize
     first_broken(care, want, set)
 }
 
-// Tries the proper subsets of `set` by rising number; the trailing zeros of a subset's place tell its step.
+// The subset of `set` that follows s, by its place in the walk, whose trailing zeros tell the step.
+fn next_subset(set: u64, steps: &[u64], s: u64, place: u64) -> u64
+    requires { ⌜ StepTable set (now steps) ⌝ }
+    requires { ⌜ Subset set s ⌝ }
+    requires { ⌜ rank 64 set s + 1 ≡ place ⌝ }
+    ensures { λ r. ⌜ NextSub set s r ⌝ }
+{
+    let j = u64::trailing_zeros(place) as usize;
+    s + steps[j]
+}
+
+// Passes over the subsets that the rule `broken` breaks: the rule that one breaks, the next mostly breaks too.
+fn pass_broken(
+    care: &[u64],
+    want: &[u64],
+    broken: usize,
+    set: u64,
+    steps: &[u64],
+    standing: Standing,
+    last: u64,
+) -> Standing
+    requires { ⌜ (length (now want) ≡ length (now care)) × (broken < length (now care)) ⌝ }
+    requires { ⌜ StepTable set (now steps) ⌝ }
+    requires { ⌜ Walking (now care) (now want) set last standing ⌝ }
+    ensures { λ r. ⌜ Walking (now (care .entry)) (now (want .entry)) set last r ⌝ }
+    ensures { λ r. ⌜ standing .units ≤ r .units ⌝ }
+{
+    let c = care[broken];
+    let w = want[broken];
+    let mut s = standing.set;
+    let mut units = standing.units;
+    while units < last {
+        if s & c != w {
+            return Standing {
+                set: s,
+                units: units,
+            };
+        }
+        units += 1;
+        s = next_subset(set, steps, s, units);
+    }
+    Standing {
+        set: s,
+        units: units,
+    }
+}
+
+// Tries the proper subsets of `set`, one unit each, the earlier first. Where a rule ceases to be broken, mostly the rule before it is broken again.
 fn walk_subsets(care: &[u64], want: &[u64], set: u64, steps: &[u64], budget: u64) -> Verdict
     requires { ⌜ length (now want) ≡ length (now care) ⌝ }
     requires { ⌜ set < 2 ^ 60 ⌝ }
@@ -78,17 +132,25 @@ fn walk_subsets(care: &[u64], want: &[u64], set: u64, steps: &[u64], budget: u64
     let mut s: u64 = 0;
     let mut units: u64 = 0;
     let mut broken = 0;
+    let mut before = 0;
     while units < last {
+        let found = some_broken(care, want, s, before);
+        before = broken;
+        broken = found;
         units += 1;
-        broken = some_broken(care, want, s, broken);
         if broken == care.len() {
             return Verdict::Beaten {
                 set: s,
                 units: units,
             };
         }
-        let j = u64::trailing_zeros(units) as usize;
-        s += steps[j];
+        let next = Standing {
+            set: next_subset(set, steps, s, units),
+            units: units,
+        };
+        let standing = pass_broken(care, want, broken, set, steps, next, last);
+        s = standing.set;
+        units = standing.units;
     }
     if units < proper {
         return Verdict::Spent { units: budget };

@@ -1,5 +1,5 @@
 use borrow.Author.Needs.{needs}
-use Rattle.stable_verdict.proofs.ProperSubsets.{broken-here, broken-first}
+use Rattle.stable_verdict.proofs.ProperSubsets.{told-broken, told-first}
 use Rattle.stable_verdict.proofs.stable.some_broken.Statement.{statement}
 use Rattle.stable_verdict.proofs.stable.some_broken.Tie as tie
 
@@ -16,13 +16,13 @@ shared-slice-read-if2-2 : tie.Need-shared-slice-read-if2-2
 shared-slice-read-if2-2 c = search needs
 
 returns : tie.Need-returns
-returns c = broken-here (c .before .before .before .before .before .before .args .set) (c .before .before .before .before .before .before .args .care .now) (c .before .before .before .before .before .before .args .want .now) _ (c .before .before .before .if1 .taken) (c .if2 .taken)
+returns c = told-broken (c .before .before .before .before .before .before .args .set) (c .before .before .before .before .before .before .args .care .now) (c .before .before .before .before .before .before .args .want .now) _ (c .before .before .before .if1 .taken) (c .if2 .taken)
 
 first-broken-requires : tie.Need-first-broken-requires
 first-broken-requires c κs = search needs
 
 returns-2 : tie.Need-returns-2
-returns-2 c = broken-first (c .before .before .before .before .args .set) (c .before .before .before .before .args .care .now) (c .before .before .before .before .args .want .now) _ (c .first-broken .ensures)
+returns-2 c = told-first (c .before .before .before .before .args .set) (c .before .before .before .before .args .care .now) (c .before .before .before .before .args .want .now) _ (c .first-broken .ensures)
 
 pub some-broken-spec : {M : Type 1} → statement M
 some-broken-spec =
