@@ -36,7 +36,7 @@ fn candidate(
 ) -> NextState
     requires { ⌜ length (now want) ≡ length (now care) ⌝ }
     requires { ⌜ free + ones fixed ≤ 60 ⌝ }
-    requires { ⌜ fixed < 2 ^ (free + ones fixed) ⌝ }
+    requires { ⌜ fixed + 1 ≡ 2 ^ ones fixed ⌝ }
     requires { ⌜ units ≤ budget ⌝ }
     ensures { λ r. ⌜ r ≡ cappedNext budget (after (preferredM (now (care .entry)) (now (want .entry)) (now (classes .entry)) fixed (free + ones fixed) set) set units Nothing) ⌝ }
 {

@@ -32,7 +32,8 @@ use Rattle.masks.specs.FilledMasks.{MasksOf}
 use Rattle.masks.proofs.RuleMasks.{SameNots, same-nots}
 use Rattle.masks.proofs.VerdictMasks.{first-at, model-at, stable-walk-at, capped-at, gather-walk}
 use Rattle.masks.proofs.RulesFill.{front-of}
-use Rattle.masks.proofs.FilledMasks.{class-mask-lt, first-classes, rules-within}
+use Rattle.masks.proofs.LowestBits.{class-mask-lt}
+use Rattle.masks.proofs.FilledMasks.{first-classes, rules-within}
 
 -- the words of a store, by its program
 

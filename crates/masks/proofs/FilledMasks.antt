@@ -5,8 +5,6 @@ use mathlib.Core.Bool.{Bool, true, false, cond}
 use mathlib.Core.List.{List, [], _∷_, map}
 use native.Mathlib.Omega.{arith}
 use lib.Dec.{leb}
-use lib.Pow.{pow-lt, pow-pos}
-use lib.Bits.{or-lt}
 use lib.Count.{ones}
 use lib.ListN.{length, take, drop, length-take, length-map}
 use Rattle.kinds.specs.Limits.{classLimit, fixed}
@@ -15,7 +13,7 @@ use Rattle.kinds.specs.declared.limits.Kind.the-variants.{Preference}
 use Rattle.rules.specs.Lists.{All, from}
 use Rattle.rules.specs.Preferred.{ofClass}
 use Rattle.rules.specs.Renumbering.{Within, SameAtoms}
-use Rattle.rules.proofs.Lists.{all-imp, all-map, length-from}
+use Rattle.rules.proofs.Lists.{all-imp, length-from}
 use Rattle.places.specs.Places.{mirror, place, setAt}
 use Rattle.places.proofs.Places.{by-place, place-atoms, set-atoms}
 use Rattle.stores.specs.Program.{Program, ProgramForm, ClassesForm, RuleForm, NotForm}
@@ -25,22 +23,12 @@ use Rattle.walks.specs.declared.answers.Verdict.{Verdict}
 use Rattle.walks.specs.declared.answers.Verdict.the-variants.{Yes, Broken, Beaten, Spent, Refused}
 use Rattle.walks.specs.declared.answers.NextState.{NextState}
 use Rattle.walks.specs.declared.answers.NextState.the-variants.{State, Nothing, Spent as NextSpent, Refused as NextRefused}
-use Rattle.masks.specs.Masks.{maskOf, placeMask, careAt, wantAt, classMasks, preferredWalkM, preferredM, verdictAt}
+use Rattle.masks.specs.Masks.{placeMask, careAt, wantAt, classMasks, preferredWalkM, preferredM, verdictAt}
 use Rattle.masks.specs.FilledMasks.{MasksOf, MasksFit, nextMasks, nextAt}
 use Rattle.masks.specs.declared.masks.Sizes.{Sizes}
-use Rattle.masks.proofs.ClassMasks.{class-below, no-class}
+use Rattle.masks.proofs.LowestBits.{lowest-bits}
+use Rattle.masks.proofs.ClassMasks.{no-class}
 use Rattle.masks.proofs.VerdictMasks.{preferred-at, capped-at}
-
--- the mask of atoms below n is below 2^n
-mask-lt : (n : ℕ) (xs : List ℕ) → All (λ a. a < n) xs → maskOf xs < 2 ^ n
-unfolding maskOf
-mask-lt n [] h = pow-pos n
-mask-lt n (a ∷ xs) h = or-lt n (2 ^ a) (maskOf xs) (pow-lt (h .0)) (mask-lt n xs (h .1))
-
-pub class-mask-lt : (ws : List ℕ) (w : ℕ) → placeMask (length ws) (ofClass ws w) < 2 ^ length ws
-class-mask-lt ws w =
-    let n = length ws in
-    mask-lt n (map (mirror n) (ofClass ws w)) (all-map (λ a. a < n) (mirror n) (ofClass ws w) (all-imp (λ a. a < n) (λ a. mirror n a < n) (λ a l. omega arith) (ofClass ws w) (class-below ws w)))
 
 -- a list has as many entries as were taken
 pub taken-fits : (r : ℕ) (l : List ℕ) → r ≡ length (take r l) → r ≤ length l
@@ -104,12 +92,15 @@ module _ {p : Program} {cs wants ks : List ℕ} {z : Sizes} (d : MasksOf p cs wa
   words-length : length (p .words) ≡ z .atoms
   words-length = forms .1 ∙ sym (d .atoms-are)
 
+  fixed-lowest : z .fixed + 1 ≡ 2 ^ ones (z .fixed)
+  fixed-lowest = ap (λ (x : ℕ). x + 1) (d .fixed-is) ∙ lowest-bits (p .words) (p .classes) (forms .2) (forms .3) ∙ ap (λ (x : ℕ). 2 ^ ones x) (sym (d .fixed-is))
+
   pub masks-fit : MasksFit (take (z .rules) cs) (take (z .rules) wants) z
   masks-fit = record {
     same-rules = sym want-length ∙ care-length;
     few = omega (arith, d .few, d .atoms-are);
     free-is = d .free-is;
-    fixed-fits = subst (λ (x : ℕ). z .fixed < 2 ^ x) words-length (subst (λ (x : ℕ). x < 2 ^ length (p .words)) (sym (d .fixed-is)) (class-mask-lt (p .words) fixed));
+    fixed-low = fixed-lowest;
   }
 
   no-classes : (c : ℕ) → p .classes < c → c ≤ classLimit → ofClass (p .words) c ≡ []
@@ -185,9 +176,6 @@ next-between cs wants ks z start b p u l e =
 module _ {cs wants : List ℕ} {z : Sizes} (h : MasksFit cs wants z) where
   pub free-few : z .free + ones (z .fixed) ≤ 60
   free-few = let e = h .free-is in let l = h .few in omega arith
-
-  pub free-room : z .fixed < 2 ^ (z .free + ones (z .fixed))
-  free-room = subst (λ (n : ℕ). z .fixed < 2 ^ n) (sym (h .free-is)) (h .fixed-fits)
 
   module _ (ks : List ℕ) where
     pub walk-of-atoms : {v : Verdict} (m b : ℕ) → v ≡ capped b (preferredWalkM cs wants ks (z .fixed) (z .free + ones (z .fixed)) m) → v ≡ capped b (preferredWalkM cs wants ks (z .fixed) (z .atoms) m)

@@ -1,9 +1,9 @@
 -- The laws of masks, of subsets, and of a call's checks.
 pub mod Bits
-pub mod Stepping
 pub mod MaskBits
 pub mod RuleMasks
 pub mod ClassMasks
+pub mod LowestBits
 pub mod MaskLoops
 pub mod RulesFill
 pub mod ClassFill

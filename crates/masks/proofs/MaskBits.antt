@@ -13,8 +13,7 @@ use Rattle.rules.specs.Sets.{has}
 use Rattle.rules.proofs.Booleans.{bool-ext, eq→eqb, T-of, T-and, T-and-l, T-and-r, T-or, T-or-out, T-not-in, T-not-out}
 use Rattle.rules.proofs.Sets.{set-ext}
 use Rattle.masks.specs.Masks.{maskOf}
-use Rattle.masks.proofs.Bits.{bit, bit-zero, bit-suc, bit-lt, bit-of-zero, bit-and, bit-or}
-use Rattle.masks.proofs.Stepping.{below-two}
+use Rattle.masks.proofs.Bits.{bit, bit-zero, bit-suc, bit-lt, bit-of-zero, bit-and, bit-or, below-two}
 
 -- the bit operations, member by member
 

@@ -1,8 +1,9 @@
 -- A walk from one set that is tried to the next, as a loop goes.
 use Prim.Native.Nat.{ℕ, suc, _+_, _-_, _≤_, _<_}
-use mathlib.Core.Path.{_≡_, ap, _∙_}
+use mathlib.Core.Path.{_≡_, sym, ap, _∙_}
 use mathlib.Core.Bool.{Bool, true, false, cond}
 use mathlib.Core.List.{List, [], _∷_}
+use native.Mathlib.Decide.{decLe}
 use native.Mathlib.Numerals.{add-one}
 use native.Mathlib.Omega.{arith}
 use lib.Dec.{T}
@@ -64,9 +65,18 @@ module _ (t b : ℕ → Bool) where
       → search b (upTo t top s) u ≡ search b (upTo t top s′) (u + 1)
   walk-next top s s′ u l h ht hb none = walk-search top s s′ u l h ht none ∙ ap (λ (p : Bool). cond p (Beaten s (u + 1)) (search b (upTo t top s′) (u + 1))) hb
 
-  pub walk-last : (top s u : ℕ) → s < top → T (t s) → b s ≡ false → ((x : ℕ) → s < x → x < top → T (t x) → ⊥) → search b (upTo t top s) u ≡ Yes (u + 1)
-  walk-last top s u l ht hb none =
-      walk-next top s top u l (omega arith) ht hb none ∙ walk-none top top (u + 1) (λ x a k h. omega arith)
+  -- the next set may lie past the top
+  pub walk-onward : (top s s′ u : ℕ) → s < s′ → s < top → T (t s) → b s ≡ false → ((x : ℕ) → s < x → x < s′ → T (t x) → ⊥)
+      → search b (upTo t top s) u ≡ search b (upTo t top s′) (u + 1)
+  walk-onward top s s′ u l h ht hb none = step (decLe s′ top)
+    where
+      step : Dec (s′ ≤ top) → search b (upTo t top s) u ≡ search b (upTo t top s′) (u + 1)
+      step (yes k) = walk-next top s s′ u l k ht hb none
+      step (no k) =
+          let e : top - s′ ≡ 0 = omega arith in
+          let d : top - top ≡ 0 = omega arith in
+          walk-next top s top u h (omega arith) ht hb (λ x a c. none x a (omega arith))
+          ∙ ap (λ (n : ℕ). search b (filter t (from top n)) (u + 1)) d ∙ sym (ap (λ (n : ℕ). search b (filter t (from s′ n)) (u + 1)) e)
 
   -- past the budget it is spent, whatever follows
   pub walk-spent : (top s c : ℕ) → s < top → T (t s) → capped c (search b (upTo t top s) c) ≡ Spent c

@@ -9,8 +9,8 @@ use lib.Arith.{lt-one}
 use lib.Pow.{pow-mono}
 use lib.Bits.{bitAnd, and-step, and-le-r}
 use lib.Count.{ones, ones-step, ones-le, trailingZeros, under}
+use Rattle.masks.proofs.Bits.{below-two}
 use Rattle.masks.specs.Subsets.{digit, rank, NextSub, stepDigit, stepOf}
-use Rattle.masks.proofs.Stepping.{below-two}
 
 parity : (x : ℕ) → (x % 2 ≡ 0) ⊎ (x % 2 ≡ 1)
 parity x = below-two (x % 2) (mod-lt x (zero-lt-suc 1))
@@ -56,7 +56,7 @@ rank-zero (suc k) m = go (m % 2) (rank-zero k (m / 2))
 pub rank-none : (m : ℕ) → rank 64 m 0 ≡ 0
 rank-none m = rank-zero 64 m
 
-pub rank-le : (k m s : ℕ) → bitAnd s m ≡ s → rank k m s ≤ rank k m m
+rank-le : (k m s : ℕ) → bitAnd s m ≡ s → rank k m s ≤ rank k m m
 unfolding rank
 rank-le zero m s h = omega arith
 rank-le (suc k) m s h = go (m % 2) (s % 2) (low-in s m h) (rank-le k (m / 2) (s / 2) (half-in s m h))

@@ -1,5 +1,5 @@
 -- The masks of a preference program of few atoms, and the next state over them.
-use Prim.Native.Nat.{ℕ, _+_, _-_, _^_, _≤_, _<_}
+use Prim.Native.Nat.{ℕ, _+_, _-_, _^_, _≤_}
 use mathlib.Core.Path.{_≡_}
 use mathlib.Core.List.{List, map}
 use lib.Count.{ones}
@@ -35,7 +35,8 @@ pub record MasksFit (care want : List ℕ) (z : Sizes) : Type 0 where
   pub same-rules : length want ≡ length care
   pub few : z .atoms ≤ walkAtoms
   pub free-is : z .free + ones (z .fixed) ≡ z .atoms
-  pub fixed-fits : z .fixed < 2 ^ z .atoms
+  -- the fixed atoms are declared last, so their bits are the lowest
+  pub fixed-low : z .fixed + 1 ≡ 2 ^ ones (z .fixed)
 
 -- the next state over masks and places
 unfoldable pub nextMasks : List ℕ → List ℕ → List ℕ → Sizes → ℕ → ℕ → NextState

@@ -1,15 +1,16 @@
 -- What the loop of the preferred walk keeps, and what follows at each way out.
-use Prim.Native.Nat.{min, ℕ, suc, _+_, _-_, _^_, _≤_, _<_}
+use Prim.Native.Nat.{min, ℕ, suc, _+_, _-_, _/_, _%_, _^_, _≤_, _<_}
 use mathlib.Core.Path.{_≡_, refl, sym, ap, _∙_, subst}
 use mathlib.Core.Bool.{Bool, true, false, cond, _&&_}
 use mathlib.Core.List.{List, [], _∷_}
-use mathlib.Core.Logic.{_⊎_, inl, inr}
-use native.Mathlib.Decide.{ℕ-discrete}
+use mathlib.Core.Logic.{_↔_, _⊎_, inl, inr}
+use native.Mathlib.Decide.{decLe}
+use native.Mathlib.Nat.{mod-lt, mod-mod, mod-eq-of-lt, div-eq-of-lt, add-mod-right, add-div-right, div-add-mod', div-lt-iff-lt-mul, le-div-iff-mul-le, mul-le-mul, add-mul, one-mul}
 use native.Mathlib.Omega.{arith}
-use lib.Pow.{pow-mono}
+use lib.Pow.{pow-mono, pow-pos, pow-add}
 use lib.Count.{ones}
 use lib.Dec.{T, eqb, eqb→eq}
-use lib.Bits.{bitAnd, bitOr, bitXor, or-lt, or-self, or-comm, or-zero-l, or-zero-r, and-zero-r}
+use lib.Bits.{bitAnd, bitOr, bitXor, or-zero-l, or-zero-r, and-zero-r, and-mask}
 use lib.ListN.{length, getD, drop, drop-of-length-le}
 use lib.Seq.{drop-cons}
 use native.Mathlib.Numerals.{add-one}
@@ -21,22 +22,23 @@ use Rattle.masks.specs.Masks.{firstM, modelM, agreeM, sparesM, lackingM, within
 use Rattle.walks.specs.declared.answers.Verdict.{Verdict}
 use Rattle.walks.specs.declared.answers.Verdict.the-variants.{Yes, Broken, Beaten, Spent}
 use Rattle.rules.specs.Lists.{filter, from}
-use Rattle.masks.proofs.Bits.{bit, bit-lt}
+use Rattle.masks.proofs.Bits.{bit, bit-lt, bit-and, bit-xor}
 use Rattle.masks.proofs.MaskBits.{has-or, disjoint, agrees, part-of}
 use Rattle.masks.proofs.MaskLoops.{or-assoc}
 use Rattle.walks.proofs.Filters.{upTo}
 use Rattle.walks.proofs.Searches.{Answered, walked-answered, search-walked}
-use Rattle.preferred_verdict.proofs.FreeAtoms.{freeOf, first-place, next-place, last-place, before-total}
-use Rattle.masks.specs.Subsets.{rank}
-use Rattle.masks.proofs.Steps.{walk-first, walk-found, walk-next, walk-last, walk-spent, capped-yes, capped-beaten}
-use Rattle.masks.proofs.Stepping.{lacks, lacks-bit, stands, stands-agrees, gap, gap-last, or-again, le-or, agrees-sum}
+use Rattle.masks.proofs.Steps.{walk-first, walk-none, walk-found, walk-onward, walk-spent, capped-yes, capped-beaten}
 
 -- a set with a lacked atom does not beat the other: before that class neither has an atom, and in it the one has more
+
+abbrev lacks : ℕ → ℕ → ℕ
+lacks c m = bitXor c (bitAnd c m)
 
 in-lacks : (c m i : ℕ) → T (has (lacks c m) i) → T (has c i) × (T (has m i) → ⊥)
 in-lacks c m i t =
     let e : bit (lacks c m) i ≡ 1 = eqb→eq (bit (lacks c m) i) 1 t in
-    let l = lacks-bit c m i in
+    let x = bit-xor c (bitAnd c m) i in
+    let a = bit-and c m i in
     let b = bit-lt c i in
     (eq→eqb (bit c i) 1 (omega arith), λ h. let q : bit m i ≡ 1 = eqb→eq (bit m i) 1 h in omega arith)
 
@@ -133,137 +135,116 @@ pub beats-not : (cs ws ks : List ℕ) (m s : ℕ) (p : Bool) → p ≡ sparesM m
 unfolding beatsM
 beats-not cs ws ks m s p e t = rw (sym e ∙ t)
 
--- the preferred walk
+-- the preferred walk: the fixed atoms are declared last, so by place the sets that agree on them stand at equal distances
 
-module _ (cs ws ks : List ℕ) (f n m budget : ℕ) where
-  -- the set y ^ d is the next to be tried
-  pub record Walking (d y units : ℕ) : Type 0 where
-    pub room : f < 2 ^ n
-    pub small : n ≤ 60
-    pub off : d ≡ lacks f m
-    pub inside : y < 2 ^ n
-    pub filled : bitOr y f ≡ y
-    pub place : rank 64 (freeOf n f) (y - f) ≡ units
-    pub same : preferredWalkM cs ws ks f n m ≡ search (beatsM cs ws ks m) (upTo (λ s. agreeM m s f) (2 ^ n) (bitXor y d)) units
+module _ (f m : ℕ) (low : f + 1 ≡ 2 ^ ones f) where
+  on-mask : (x : ℕ) → bitAnd x f ≡ x % 2 ^ ones f
+  on-mask x = let e : f ≡ 2 ^ ones f - 1 = omega arith in ap (bitAnd x) e ∙ and-mask x (ones f)
+
+  agrees-part : (x : ℕ) → T (agreeM m x f) ↔ (x % 2 ^ ones f ≡ m % 2 ^ ones f)
+  unfolding agreeM
+  agrees-part x = (
+    λ t. sym (on-mask x) ∙ eqb→eq (bitAnd x f) (bitAnd m f) t ∙ on-mask m,
+    λ e. eq→eqb (bitAnd x f) (bitAnd m f) (on-mask x ∙ e ∙ sym (on-mask m)),
+  )
+
+module _ (cs ws ks : List ℕ) (f free m budget : ℕ) where
+  abbrev n : ℕ
+  n = free + ones f
+
+  abbrev distance : ℕ
+  distance = 2 ^ ones f
+
+  some : 0 < distance
+  some = pow-pos (ones f)
 
   -- on the walk, or past its last set; `last` is the units at which the loop ends
-  pub record Position (d total last y units : ℕ) : Type 0 where
-    pub all : total ≡ 2 ^ ones (freeOf n f)
+  pub record Position (total last s units : ℕ) : Type 0 where
+    pub low : f + 1 ≡ 2 ^ ones f
+    pub all : total ≡ 2 ^ free
     pub bound : last ≡ min total budget
     pub spend : units ≤ last
-    pub stage : Walking d y units ⊎ ((units ≡ total) × (preferredWalkM cs ws ks f n m ≡ Yes units))
+    pub part : s % 2 ^ ones f ≡ m % 2 ^ ones f
+    pub place : s / 2 ^ ones f ≡ units
+    pub same : preferredWalkM cs ws ks f (free + ones f) m ≡ search (beatsM cs ws ks m) (upTo (λ s. agreeM m s f) (2 ^ (free + ones f)) s) units
 
-  on-mask : (x : ℕ) → T (agreeM m x f) → bitAnd x f ≡ bitAnd m f
-  unfolding agreeM
-  on-mask x t = eqb→eq (bitAnd x f) (bitAnd m f) t
-
-  -- the first set that is tried has no free atom
-  none-before : (x : ℕ) → x < bitXor f (lacks f m) → bitAnd x f ≡ bitAnd m f → ⊥
-  none-before x l h =
-      let e : bitOr x f ≡ x + lacks f m = agrees-sum f m x h in
-      let s : bitXor f (lacks f m) + lacks f m ≡ f = stands f m f (or-self f) in
-      omega (arith, le-or f x, or-comm f x)
-
-  pub walk-begins : (total last : ℕ) → n ≤ 60 → f < 2 ^ n → total ≡ 2 ^ ones (freeOf n f) → last ≡ min total budget → Position (lacks f m) total last f 0
+  pub walk-begins : f + 1 ≡ 2 ^ ones f → (total last : ℕ) → total ≡ 2 ^ free → last ≡ min total budget → Position total last (bitAnd m f) 0
   unfolding preferredWalkM
-  walk-begins total last few g e b = record {
-    all = e;
-    bound = b;
-    spend = omega arith;
-    stage = inl (record {
-      room = g;
-      small = few;
-      off = refl;
-      inside = g;
-      filled = or-self f;
-      place = first-place n f few g;
-      same = walk-first (λ s. agreeM m s f) (beatsM cs ws ks m) (2 ^ n) (bitXor f (lacks f m)) 0 (omega (arith, stands f m f (or-self f))) (λ x l t. none-before x l (on-mask x t));
-    });
-  }
+  walk-begins low total last e b =
+      let l : m % distance < distance = mod-lt m some in
+      let s : bitAnd m f ≡ m % distance = on-mask f m low m in
+      let top : distance ≤ 2 ^ n = pow-mono {i = ones f} {j = free + ones f} (omega arith) in
+      record {
+        low = low;
+        all = e;
+        bound = b;
+        spend = omega arith;
+        part = ap (λ (x : ℕ). x % distance) s ∙ mod-mod m distance;
+        place = div-eq-of-lt (omega arith);
+        same = walk-first (λ s. agreeM m s f) (beatsM cs ws ks m) (2 ^ n) (bitAnd m f) 0 (omega arith) (λ x k t.
+            let p = agrees-part f m low x .0 t in
+            let q : x % distance ≡ x = mod-eq-of-lt (omega arith) in
+            omega arith);
+      }
 
-  module _ (d y units : ℕ) (st : Walking d y units) where
-    tried : T (agreeM m (bitXor y d) f)
-    unfolding agreeM
-    tried = eq→eqb _ _ (ap (λ (z : ℕ). bitAnd (bitXor y z) f) (st .off) ∙ stands-agrees f m y (st .filled))
+  module _ (total last s units : ℕ) (ps : Position total last s units) where
+    tried : T (agreeM m s f)
+    tried = agrees-part f m (ps .low) s .1 (ps .part)
 
-    sum : bitXor y d + d ≡ y
-    sum = ap (λ (z : ℕ). bitXor y z + z) (st .off) ∙ stands f m y (st .filled)
+    below : units < total → s < 2 ^ n
+    below l = let a = ps .all in let q = ps .place in omega (arith, div-lt-iff-lt-mul {k = distance} {x = s} {y = 2 ^ free} some .0 (omega arith), pow-add 2 free (ones f))
 
-    below : bitXor y d < 2 ^ n
-    below = let s = sum in let r = st .inside in omega arith
+    beyond : total ≤ units → 2 ^ n ≤ s
+    beyond l = let a = ps .all in let q = ps .place in omega (arith, le-div-iff-mul-le {k = distance} {x = 2 ^ free} {y = s} some .0 (omega arith), pow-add 2 free (ones f))
 
-    next-in : (y + 1 ≡ 2 ^ n → ⊥) → bitOr (y + 1) f < 2 ^ n
-    next-in ne = let i = st .inside in or-lt n (y + 1) f (omega arith) (st .room)
+    -- no set between this one and the next agrees
+    gap : (x : ℕ) → s < x → x < s + distance → T (agreeM m x f) → ⊥
+    gap x l u t = step (decLe (x / distance) (s / distance))
+      where
+        e : x % distance ≡ s % distance
+        e = agrees-part f m (ps .low) x .0 t ∙ sym (ps .part)
 
-    next-sum : bitXor (bitOr (y + 1) f) d + d ≡ bitOr (y + 1) f
-    next-sum = ap (λ (z : ℕ). bitXor (bitOr (y + 1) f) z + z) (st .off) ∙ stands f m (bitOr (y + 1) f) (or-again (y + 1) f)
+        step : Dec (x / distance ≤ s / distance) → ⊥
+        step (yes h) = omega (arith, e, div-add-mod' x distance, div-add-mod' s distance, mul-le-mul {n₁ = x / distance} {m₁ = distance} {n₂ = s / distance} {m₂ = distance} h (omega arith))
+        step (no h) =
+            omega (arith, e, div-add-mod' x distance, div-add-mod' s distance, add-mul (s / distance) 1 distance, one-mul distance, mul-le-mul {n₁ = s / distance + 1} {m₁ = distance} {n₂ = x / distance} {m₂ = distance} (omega arith) (omega arith))
 
-    step : beatsM cs ws ks m (bitXor y d) ≡ false → (y + 1 ≡ 2 ^ n → ⊥) → Walking d (bitOr (y + 1) f) (units + 1)
-    step e ne = record {
-      room = st .room;
-      small = st .small;
-      off = st .off;
-      inside = next-in ne;
-      filled = or-again (y + 1) f;
-      place = next-place n f (st .small) (st .room) y (st .inside) (st .filled) ne ∙ ap (λ (u : ℕ). u + 1) (st .place);
-      same = st .same ∙ walk-next (λ s. agreeM m s f) (beatsM cs ws ks m) (2 ^ n) (bitXor y d) (bitXor (bitOr (y + 1) f) d) units
-          (omega (arith, sum, next-sum, le-or (y + 1) f)) (omega (arith, next-sum, next-in ne)) tried e
-          (λ x l k t. gap f m y x (st .filled) (subst (λ (z : ℕ). bitXor y z < x) (st .off) l) (subst (λ (z : ℕ). x < bitXor (bitOr (y + 1) f) z) (st .off) k) (on-mask x t));
-    }
-
-    finish : beatsM cs ws ks m (bitXor y d) ≡ false → y + 1 ≡ 2 ^ n → preferredWalkM cs ws ks f n m ≡ Yes (units + 1)
-    finish e at = st .same ∙ walk-last (λ s. agreeM m s f) (beatsM cs ws ks m) (2 ^ n) (bitXor y d) units below tried e
-        (λ x l k t. gap-last f m n y x (st .filled) (st .room) at (subst (λ (z : ℕ). bitXor y z < x) (st .off) l) k (on-mask x t))
-
-  module _ (d total last y units : ℕ) (ps : Position d total last y units) where
     module _ (l : units < last) where
-      here : Walking d y units
-      here = step-of (ps .stage)
-        where
-          step-of : Walking d y units ⊎ ((units ≡ total) × (preferredWalkM cs ws ks f n m ≡ Yes units)) → Walking d y units
-          step-of (inl st) = st
-          step-of (inr h) = absurd (let b = ps .bound in let e = h .0 in omega arith)
+      inside : s < 2 ^ n
+      inside = below (let b = ps .bound in omega arith)
 
-      pub walk-fits : y + 1 < 2 ^ 64
-      walk-fits = let i = here .inside in let p : 2 ^ n ≤ 2 ^ 60 = pow-mono (here .small) in omega arith
+      pub walk-fits : free + ones f ≤ 60 → s + (f + 1) < 2 ^ 64
+      walk-fits few = omega (arith, ps .low, inside, pow-mono {i = free + ones f} {j = 60} few, pow-mono {i = ones f} {j = 60} (omega arith))
 
-      pub walk-finds : beatsM cs ws ks m (bitXor y d) ≡ true → Beaten (bitXor y d) (units + 1) ≡ capped budget (preferredWalkM cs ws ks f n m)
+      pub walk-finds : beatsM cs ws ks m s ≡ true → Beaten s (units + 1) ≡ capped budget (preferredWalkM cs ws ks f (free + ones f) m)
       walk-finds e =
           let k : units + 1 ≤ budget = (let b = ps .bound in omega arith) in
-          sym (ap (capped budget) (here .same ∙ walk-found (λ s. agreeM m s f) (beatsM cs ws ks m) (2 ^ n) (bitXor y d) units (below d y units here) (tried d y units here) e)
-          ∙ capped-beaten budget (bitXor y d) (units + 1) k)
+          sym (ap (capped budget) (ps .same ∙ walk-found (λ s. agreeM m s f) (beatsM cs ws ks m) (2 ^ n) s units inside tried e) ∙ capped-beaten budget s (units + 1) k)
 
-      pub walk-goes-on : beatsM cs ws ks m (bitXor y d) ≡ false → Position d total last (bitOr (y + 1) f) (units + 1)
-      walk-goes-on e = record { all = ps .all; bound = ps .bound; spend = omega arith; stage = by (ℕ-discrete (y + 1) (2 ^ n)) }
-        where
-          by : Dec (y + 1 ≡ 2 ^ n) → Walking d (bitOr (y + 1) f) (units + 1) ⊎ ((units + 1 ≡ total) × (preferredWalkM cs ws ks f n m ≡ Yes (units + 1)))
-          by (yes q) = inr (
-            ap (λ (u : ℕ). u + 1) (sym (here .place)) ∙ last-place n f (here .small) (here .room) y (here .inside) (here .filled) q ∙ sym (ps .all),
-            finish d y units here e q,
-          )
-          by (no q) = inl (step d y units here e q)
+      pub walk-goes-on : beatsM cs ws ks m s ≡ false → Position total last (s + (f + 1)) (units + 1)
+      walk-goes-on e = subst (λ (d : ℕ). Position total last (s + d) (units + 1)) (sym (ps .low)) (record {
+        low = ps .low;
+        all = ps .all;
+        bound = ps .bound;
+        spend = omega arith;
+        part = add-mod-right s distance ∙ ps .part;
+        place = add-div-right s some ∙ ap (λ (u : ℕ). u + 1) (ps .place);
+        same = ps .same ∙ walk-onward (λ s. agreeM m s f) (beatsM cs ws ks m) (2 ^ n) s (s + distance) units (omega (arith, some)) inside tried e gap;
+      })
 
     module _ (l : last ≤ units) where
-      pub walk-is-spent : units < total → Spent budget ≡ capped budget (preferredWalkM cs ws ks f n m)
-      walk-is-spent k = by (ps .stage)
-        where
-          by : Walking d y units ⊎ ((units ≡ total) × (preferredWalkM cs ws ks f n m ≡ Yes units)) → Spent budget ≡ capped budget (preferredWalkM cs ws ks f n m)
-          by (inl st) =
-              let e : units ≡ budget = (let b = ps .bound in let u = ps .spend in omega arith) in
-              sym (ap (capped budget) (st .same ∙ ap (search (beatsM cs ws ks m) (upTo (λ s. agreeM m s f) (2 ^ n) (bitXor y d))) e)
-              ∙ walk-spent (λ s. agreeM m s f) (beatsM cs ws ks m) (2 ^ n) (bitXor y d) budget (below d y units st) (tried d y units st))
-          by (inr h) = absurd (let e = h .0 in omega arith)
+      pub walk-is-spent : units < total → Spent budget ≡ capped budget (preferredWalkM cs ws ks f (free + ones f) m)
+      walk-is-spent k =
+          let e : units ≡ budget = (let b = ps .bound in let u = ps .spend in omega arith) in
+          sym (ap (capped budget) (ps .same ∙ ap (search (beatsM cs ws ks m) (upTo (λ s. agreeM m s f) (2 ^ n) s)) e)
+          ∙ walk-spent (λ s. agreeM m s f) (beatsM cs ws ks m) (2 ^ n) s budget (below k) tried)
 
-      pub walk-ends : total ≤ units → Yes units ≡ capped budget (preferredWalkM cs ws ks f n m)
-      walk-ends k = by (ps .stage)
-        where
-          within : units ≤ budget
-          within = let b = ps .bound in let u = ps .spend in omega arith
+      pub walk-ends : total ≤ units → Yes units ≡ capped budget (preferredWalkM cs ws ks f (free + ones f) m)
+      walk-ends k =
+          let w : units ≤ budget = (let b = ps .bound in let u = ps .spend in omega arith) in
+          sym (ap (capped budget) (ps .same ∙ walk-none (λ s. agreeM m s f) (beatsM cs ws ks m) (2 ^ n) s units (λ x a b t. omega (arith, beyond k))) ∙ capped-yes budget units w)
 
-          by : Walking d y units ⊎ ((units ≡ total) × (preferredWalkM cs ws ks f n m ≡ Yes units)) → Yes units ≡ capped budget (preferredWalkM cs ws ks f n m)
-          by (inl st) = absurd (let p = st .place in let a = ps .all in omega (arith, before-total n f (st .small) (st .room) y (st .inside) (st .filled)))
-          by (inr h) = sym (ap (capped budget) (h .1) ∙ capped-yes budget units within)
-
+module _ (cs ws ks : List ℕ) (f n m budget : ℕ) where
   -- the verdict
 
   pub no-model : (r : ℕ) → r ≡ firstM m cs ws → (r ≡ length cs → ⊥) → Broken r ≡ capped budget (preferredM cs ws ks f n m)

@@ -1,3 +1,2 @@
 -- The laws of the walk over the sets that agree on the fixed atoms.
-pub mod FreeAtoms
 pub mod AgreeingSets

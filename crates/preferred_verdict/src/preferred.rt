@@ -70,8 +70,8 @@ fn beats(care: &[u64], want: &[u64], classes: &[u64], lacked: u64, set: u64, of:
     false
 }
 
-// The walk over the sets that agree with `set` on the fixed atoms, of which `free` atoms are none.
-// A set s stands as y, which is s with all fixed atoms in; the next y is (y + 1) | fixed.
+// The walk over the sets that agree with `set` on the fixed atoms; `free` atoms are not fixed.
+// The fixed atoms are declared last and so have the lowest bits: these sets stand at equal distances.
 pub fn preferred_walk(
     care: &[u64],
     want: &[u64],
@@ -83,25 +83,24 @@ pub fn preferred_walk(
 ) -> Verdict
     requires { ⌜ length (now want) ≡ length (now care) ⌝ }
     requires { ⌜ free + ones fixed ≤ 60 ⌝ }
-    requires { ⌜ fixed < 2 ^ (free + ones fixed) ⌝ }
+    requires { ⌜ fixed + 1 ≡ 2 ^ ones fixed ⌝ }
     ensures { λ r. ⌜ r ≡ capped budget (preferredWalkM (now (care .entry)) (now (want .entry)) (now (classes .entry)) fixed (free + ones fixed) set) ⌝ }
 {
     let total = 1u64 << free;
     let last = least(total, budget);
-    let d = fixed ^ (fixed & set);
+    let distance = fixed + 1;
     let lacked = lacking(classes, set);
-    let mut y = fixed;
+    let mut s = set & fixed;
     let mut units: u64 = 0;
     while units < last {
         units += 1;
-        let s = y ^ d;
         if beats(care, want, classes, lacked, s, set) {
             return Verdict::Beaten {
                 set: s,
                 units: units,
             };
         }
-        y = (y + 1) | fixed;
+        s += distance;
     }
     if units < total {
         return Verdict::Spent { units: budget };

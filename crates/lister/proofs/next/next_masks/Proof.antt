@@ -4,7 +4,7 @@ use native.Mathlib.Omega.{arith}
 use lib.Count.{ones}
 use Rattle.masks.specs.Masks.{preferredM}
 use Rattle.masks.proofs.MaskLoops.{shifted}
-use Rattle.masks.proofs.FilledMasks.{free-few, free-room, next-of-atoms}
+use Rattle.masks.proofs.FilledMasks.{free-few, next-of-atoms}
 use Rattle.preferred_verdict.proofs.AgreeingSets.{preferred-answered-mask}
 use Rattle.lister.proofs.Candidates.{Scanning, scan-begins, scan-goes-on, scan-stops, scan-ends}
 use borrow.Author.Needs.{needs}
@@ -27,7 +27,7 @@ loop-holds : tie.Need-loop-holds Inv-loop μ-loop
 loop-holds c = scan-begins _ _ _ _ _ (subst (λ (x : ℕ). (c .before .before .before .before .args .start) ≤ x) (sym (shifted _ (c .before .before .before .before .pre .0 .few))) (c .before .before .before .before .pre .1))
 
 candidate-requires : tie.Need-candidate-requires Inv-loop μ-loop
-candidate-requires c κs = (c .before .before .before .before .before .before .pre .0 .same-rules, (free-few (c .before .before .before .before .before .before .pre .0), (free-room (c .before .before .before .before .before .before .pre .0), (c .before .loop .inv .spend))))
+candidate-requires c κs = (c .before .before .before .before .before .before .pre .0 .same-rules, (free-few (c .before .before .before .before .before .before .pre .0), (c .before .before .before .before .before .before .pre .0 .fixed-low, (c .before .loop .inv .spend))))
 
 enum-known-step : tie.Need-enum-known-step Inv-loop μ-loop
 enum-known-step c = search needs

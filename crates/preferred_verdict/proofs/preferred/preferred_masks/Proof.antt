@@ -1,4 +1,4 @@
-use Rattle.masks.proofs.FilledMasks.{free-few, free-room, walk-of-atoms}
+use Rattle.masks.proofs.FilledMasks.{free-few, walk-of-atoms}
 use Rattle.preferred_verdict.proofs.AgreeingSets.{no-model, a-model}
 use borrow.Author.Needs.{needs}
 use Rattle.preferred_verdict.proofs.preferred.preferred_masks.Statement.{statement}
@@ -11,7 +11,7 @@ returns : tie.Need-returns
 returns c = no-model _ _ _ _ _ _ _ _ (c .before .first-broken .ensures) (c .if1 .taken)
 
 preferred-walk-requires : tie.Need-preferred-walk-requires
-preferred-walk-requires c κs = (c .before .before .before .before .before .pre .same-rules, (free-few (c .before .before .before .before .before .pre), free-room (c .before .before .before .before .before .pre)))
+preferred-walk-requires c κs = (c .before .before .before .before .before .pre .same-rules, (free-few (c .before .before .before .before .before .pre), c .before .before .before .before .before .pre .fixed-low))
 
 returns-2 : tie.Need-returns-2
 returns-2 c = a-model _ _ _ _ _ _ _ _ _ (c .before .before .first-broken .ensures) (c .before .if1 .left) (walk-of-atoms (c .before .before .before .before .before .before .pre) _ _ _ (c .preferred-walk .ensures))
