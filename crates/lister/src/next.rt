@@ -7,6 +7,7 @@ use masks::guard::check_call;
 use masks::masks::Sizes;
 use masks::masks::fill_masks;
 use masks::masks::first_broken;
+use preferred_verdict::preferred::lacking;
 use preferred_verdict::preferred::preferred_walk;
 use walks::answers::NextState;
 use walks::answers::Verdict;
@@ -47,7 +48,9 @@ fn candidate(
     if first_broken(care, want, set) != care.len() {
         return NextState::Nothing { units: used };
     }
-    let verdict = preferred_walk(care, want, classes, fixed, free, set, budget - used);
+    let lacked = lacking(classes, set);
+    let left = budget - used;
+    let verdict = preferred_walk(care, want, classes, lacked, fixed, free, set, left);
     match verdict {
         Verdict::Yes { units: more } => NextState::State {
             set: set,

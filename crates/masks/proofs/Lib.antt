@@ -5,6 +5,7 @@ pub mod RuleMasks
 pub mod ClassMasks
 pub mod LowestBits
 pub mod MaskLoops
+pub mod BrokenRules
 pub mod RulesFill
 pub mod ClassFill
 pub mod Subsets

@@ -11,7 +11,7 @@ ghost use lib.ListN.{length, take, replicate};
 ghost use Rattle.kinds.specs.Limits.{classLimit, walkAtoms, fixed as fixedWord, ruleLimit};
 ghost use Rattle.rules.specs.Preferred.{ofClass};
 ghost use Rattle.stores.specs.RuleStore.{rulesFrom, StoreOf, decode, ruleAt};
-ghost use Rattle.masks.specs.Masks.{placeMask, careAt, wantAt, noted, classMasks, firstM, gatherCare, gatherWant, keptBy, breakable};
+ghost use Rattle.masks.specs.Masks.{placeMask, careAt, wantAt, noted, classMasks, firstM, modelM, gatherCare, gatherWant, keptBy, breakable};
 ghost use Rattle.kinds.specs.declared.limits.Kind.the-variants.{Preference as KindPreference};
 ghost use Rattle.rules.specs.Lists.{All, over};
 ghost use Rattle.stores.specs.StoredRules.{StoredRule, StoredRules};
@@ -169,6 +169,20 @@ pub fn first_broken(care: &[u64], want: &[u64], set: u64) -> usize
         i += 1;
     }
     i
+}
+
+// The number of a rule that is broken at `set`, or the number of rules; rule `first` is looked at first.
+pub fn some_broken(care: &[u64], want: &[u64], set: u64, first: usize) -> usize
+    requires { ⌜ length (now want) ≡ length (now care) ⌝ }
+    ensures { λ r. ⌜ eqb r (length (now (care .entry))) ≡ modelM (now (care .entry)) (now (want .entry)) set ⌝ }
+    ensures { λ r. ⌜ r ≤ length (now (care .entry)) ⌝ }
+{
+    if first < care.len() {
+        if set & care[first] == want[first] {
+            return first;
+        }
+    }
+    first_broken(care, want, set)
 }
 
 // Puts an atom into the mask of its class; answers its bit where it is fixed.

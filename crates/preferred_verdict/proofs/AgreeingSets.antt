@@ -127,9 +127,9 @@ module _ (m : ℕ) (ks : List ℕ) where
 
 -- a set that beats another: the classes first, then the rules
 
-pub beats-model : (cs ws ks : List ℕ) (m s r : ℕ) (p : Bool) → p ≡ sparesM m s ks → p ≡ true → r ≡ firstM s cs ws → eqb r (length cs) ≡ beatsM cs ws ks m s
-unfolding beatsM modelM
-beats-model cs ws ks m s r p e t f = rw (sym e ∙ t, f)
+pub beats-model : (cs ws ks : List ℕ) (m s r : ℕ) (p : Bool) → p ≡ sparesM m s ks → p ≡ true → eqb r (length cs) ≡ modelM cs ws s → eqb r (length cs) ≡ beatsM cs ws ks m s
+unfolding beatsM
+beats-model cs ws ks m s r p e t f = f ∙ rw (sym e ∙ t)
 
 pub beats-not : (cs ws ks : List ℕ) (m s : ℕ) (p : Bool) → p ≡ sparesM m s ks → p ≡ false → false ≡ beatsM cs ws ks m s
 unfolding beatsM

@@ -8,10 +8,11 @@ use masks::masks::Sizes;
 use masks::masks::fill_masks;
 use masks::masks::first_broken;
 use masks::masks::least;
+use masks::masks::some_broken;
 use places::turning::turned;
 use walks::answers::Verdict;
 ghost use mathlib.Core.Path.{_≡_};
-ghost use Prim.Native.Nat.{_+_, _<_, _≤_, _^_};
+ghost use Prim.Native.Nat.{_+_, _≤_, _^_};
 ghost use lib.Count.{ones};
 ghost use lib.ListN.{length};
 ghost use Rattle.kinds.specs.Limits.{walkAtoms};
@@ -39,7 +40,7 @@ fn spares(classes: &[u64], set: u64, of: u64) -> bool
 }
 
 // The atoms that `of` lacks, class by class up to the first of which it has any: a set that has one of them does not beat it.
-fn lacking(classes: &[u64], of: u64) -> u64
+pub fn lacking(classes: &[u64], of: u64) -> u64
     ensures { λ r. ⌜ r ≡ lackingM of (now (classes .entry)) ⌝ }
 {
     let mut lacked: u64 = 0;
@@ -55,19 +56,43 @@ fn lacking(classes: &[u64], of: u64) -> u64
     lacked
 }
 
-// Whether `set`, which agrees with `of` on the fixed atoms, beats it.
-fn beats(care: &[u64], want: &[u64], classes: &[u64], lacked: u64, set: u64, of: u64) -> bool
+// Whether a set that was tried is better, and the rule that one was last seen to break.
+struct Tried {
+    better: bool,
+    broken: usize,
+}
+
+// Whether `set`, which agrees with `of` on the fixed atoms, beats it. Rule `broken` is looked at first: mostly the next set breaks it too.
+fn try_set(
+    care: &[u64],
+    want: &[u64],
+    classes: &[u64],
+    lacked: u64,
+    set: u64,
+    of: u64,
+    broken: usize,
+) -> Tried
     requires { ⌜ length (now want) ≡ length (now care) ⌝ }
     requires { ⌜ lacked ≡ lackingM of (now classes) ⌝ }
-    ensures { λ r. ⌜ r ≡ beatsM (now (care .entry)) (now (want .entry)) (now (classes .entry)) of set ⌝ }
+    ensures { λ r. ⌜ r .better ≡ beatsM (now (care .entry)) (now (want .entry)) (now (classes .entry)) of set ⌝ }
 {
     if set & lacked != 0 {
-        return false;
+        return Tried {
+            better: false,
+            broken: broken,
+        };
     }
     if spares(classes, set, of) {
-        return first_broken(care, want, set) == care.len();
+        let found = some_broken(care, want, set, broken);
+        return Tried {
+            better: found == care.len(),
+            broken: found,
+        };
     }
-    false
+    Tried {
+        better: false,
+        broken: broken,
+    }
 }
 
 // The walk over the sets that agree with `set` on the fixed atoms; `free` atoms are not fixed.
@@ -76,12 +101,14 @@ pub fn preferred_walk(
     care: &[u64],
     want: &[u64],
     classes: &[u64],
+    lacked: u64,
     fixed: u64,
     free: u32,
     set: u64,
     budget: u64,
 ) -> Verdict
     requires { ⌜ length (now want) ≡ length (now care) ⌝ }
+    requires { ⌜ lacked ≡ lackingM set (now classes) ⌝ }
     requires { ⌜ free + ones fixed ≤ 60 ⌝ }
     requires { ⌜ fixed + 1 ≡ 2 ^ ones fixed ⌝ }
     ensures { λ r. ⌜ r ≡ capped budget (preferredWalkM (now (care .entry)) (now (want .entry)) (now (classes .entry)) fixed (free + ones fixed) set) ⌝ }
@@ -89,17 +116,19 @@ pub fn preferred_walk(
     let total = 1u64 << free;
     let last = least(total, budget);
     let distance = fixed + 1;
-    let lacked = lacking(classes, set);
     let mut s = set & fixed;
     let mut units: u64 = 0;
+    let mut broken = 0;
     while units < last {
         units += 1;
-        if beats(care, want, classes, lacked, s, set) {
+        let tried = try_set(care, want, classes, lacked, s, set, broken);
+        if tried.better {
             return Verdict::Beaten {
                 set: s,
                 units: units,
             };
         }
+        broken = tried.broken;
         s += distance;
     }
     if units < total {
@@ -128,7 +157,8 @@ fn preferred_masks(
     }
     let fixed = sizes.fixed;
     let free = sizes.free;
-    preferred_walk(care, want, classes, fixed, free, set, budget)
+    let lacked = lacking(classes, set);
+    preferred_walk(care, want, classes, lacked, fixed, free, set, budget)
 }
 
 // The preferred verdict over the words of a checked preference store.

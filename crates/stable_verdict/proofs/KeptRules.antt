@@ -27,12 +27,13 @@ use Rattle.walks.specs.declared.answers.Verdict.{Verdict}
 use Rattle.walks.specs.declared.answers.Verdict.the-variants.{Broken}
 use Rattle.masks.specs.Masks.{maskOf, keptBy, breakable, asked, careOf, wantOf, careAt, wantAt, firstM, verdictAt, stableWalkM, gatherCare, gatherWant}
 use Rattle.masks.proofs.MaskBits.{some-mask, disjoint}
+use Rattle.masks.proofs.BrokenRules.{first-le}
 use Rattle.masks.proofs.RuleMasks.{never}
 use Rattle.masks.proofs.RulesFill.{front-of}
 use Rattle.masks.proofs.VerdictMasks.{care-mirrored, want-mirrored}
 use Rattle.masks.proofs.CheckedStore.{PlainHeader, plain-atoms, plain-few, plain-rules-are, plain-within, stable-broken, stable-walked}
 use Rattle.stable_verdict.specs.ReductMarks.{MarksMean, keeps?, marksOf, markedAt}
-use Rattle.stable_verdict.proofs.ProperSubsets.{below-60, first-le}
+use Rattle.stable_verdict.proofs.ProperSubsets.{below-60}
 use Rattle.stable_verdict.proofs.ReductFill.{bare, asked-none}
 
 pub mark-law : (m : ℕ) (rs : List (Rule ℕ)) → MarksMean m rs (marksOf m rs)

@@ -1,8 +1,8 @@
 -- What the loop of the stable walk keeps, and what follows at each way out.
-use Prim.Native.Nat.{min, ℕ, zero, suc, _+_, _-_, _*_, _%_, _^_, _≤_, _<_}
+use Prim.Native.Nat.{min, ℕ, _+_, _-_, _*_, _%_, _^_, _≤_, _<_}
 use mathlib.Core.Path.{_≡_, sym, ap, _∙_}
-use mathlib.Core.Bool.{Bool, true, false, not}
-use mathlib.Core.List.{List, [], _∷_}
+use mathlib.Core.Bool.{false}
+use mathlib.Core.List.{List}
 use native.Mathlib.Nat.{lt-of-lt-of-le}
 use native.Mathlib.Decide.{ℕ-discrete}
 use native.Mathlib.Omega.{arith}
@@ -12,10 +12,9 @@ use lib.Bits.{bitAnd, and-le-r, and-zero-l}
 use lib.Count.{ones, ones-le}
 use lib.ListN.{length, getD}
 use borrow.Author.Tests.{eq-eqb, ne-eqb}
-use Rattle.rules.specs.Rules.{countIf}
 use Rattle.rules.proofs.Booleans.{eq→eqb}
 use Rattle.walks.specs.Walk.{search, capped}
-use Rattle.masks.specs.Masks.{firstM, modelM, subsetM, stableWalkM}
+use Rattle.masks.specs.Masks.{modelM, subsetM, stableWalkM}
 use Rattle.masks.specs.Subsets.{rank, NextSub}
 use Rattle.stable_verdict.specs.SubsetWalk.{Subset, Walking}
 use Rattle.walks.specs.declared.answers.Verdict.the-variants.{Yes, Beaten, Spent}
@@ -23,6 +22,7 @@ use Rattle.walks.proofs.Filters.{upTo}
 use Rattle.masks.proofs.Steps.{walk-first, walk-none, walk-found as found, walk-next, walk-spent, capped-yes, capped-beaten}
 use Rattle.masks.proofs.Subsets.{rank-top, rank-none, rank-lt}
 use Rattle.masks.proofs.MaskLoops.{shifted}
+use Rattle.masks.proofs.BrokenRules.{broken-here}
 
 pub ones-small : (m : ℕ) → m < 2 ^ 60 → ones m ≤ 60
 ones-small m h = ones-le 60 m h
@@ -34,39 +34,6 @@ proper-is m h =
 
 pub below-60 : (n m : ℕ) → n ≤ 60 → m < 2 ^ n → m < 2 ^ 60
 below-60 n m l h = lt-of-lt-of-le h (pow-mono {i = n} {j = 60} l)
-
-pub first-le : (s : ℕ) (cs ws : List ℕ) → firstM s cs ws ≤ length cs
-unfolding firstM
-first-le s [] ws = omega arith
-first-le s (c ∷ cs) [] = omega arith
-first-le s (c ∷ cs) (w ∷ ws) = step (not (eqb (bitAnd s c) w)) (first-le s cs ws)
-  where
-    step : (b : Bool) → firstM s cs ws ≤ length cs → countIf b (firstM s cs ws) ≤ suc (length cs)
-    step true h = omega arith
-    step false h = omega arith
-
--- a broken rule is no sooner than the first
-broken-later : (s : ℕ) (cs ws : List ℕ) (i : ℕ) → i < length cs → bitAnd s (getD cs i 0) ≡ getD ws i 0 → firstM s cs ws ≤ i
-unfolding firstM
-broken-later s [] ws i l e = absurd (omega arith)
-broken-later s (c ∷ cs) [] i l e = omega arith
-broken-later s (c ∷ cs) (w ∷ ws) zero l e = let z : countIf (not (eqb (bitAnd s c) w)) (firstM s cs ws) ≡ 0 = ap (λ (t : Bool). countIf (not t) (firstM s cs ws)) (eq-eqb _ _ e) in omega arith
-broken-later s (c ∷ cs) (w ∷ ws) (suc i) l e = step (not (eqb (bitAnd s c) w)) (broken-later s cs ws i (omega arith) e)
-  where
-    step : (b : Bool) → firstM s cs ws ≤ i → countIf b (firstM s cs ws) ≤ suc i
-    step true h = omega arith
-    step false h = omega arith
-
-broken-here : (s : ℕ) (cs ws : List ℕ) (i : ℕ) → i < length cs → bitAnd s (getD cs i 0) ≡ getD ws i 0 → modelM cs ws s ≡ false
-unfolding modelM
-broken-here s cs ws i l e = ne-eqb (firstM s cs ws) (length cs) (λ q. omega (arith, broken-later s cs ws i l e))
-
-pub told-broken : (s : ℕ) (cs ws : List ℕ) (i : ℕ) → i < length cs → bitAnd s (getD cs i 0) ≡ getD ws i 0 → (eqb i (length cs) ≡ modelM cs ws s) × (i ≤ length cs)
-told-broken s cs ws i l e = (ne-eqb i (length cs) (λ q. omega arith) ∙ sym (broken-here s cs ws i l e), omega arith)
-
-pub told-first : (s : ℕ) (cs ws : List ℕ) (r : ℕ) → r ≡ firstM s cs ws → (eqb r (length cs) ≡ modelM cs ws s) × (r ≤ length cs)
-unfolding modelM
-told-first s cs ws r e = (ap (λ (x : ℕ). eqb x (length cs)) e, omega (arith, first-le s cs ws))
 
 module _ (cs ws : List ℕ) (m last : ℕ) where
   abbrev At : ℕ → ℕ → Type 0

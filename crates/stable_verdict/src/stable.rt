@@ -11,18 +11,18 @@ use masks::masks::bit_of;
 use masks::masks::first_broken;
 use masks::masks::gather;
 use masks::masks::least;
+use masks::masks::some_broken;
 use masks::masks::wide;
 use places::turning::turned;
 use walks::answers::Verdict;
 ghost use mathlib.Core.Path.{_≡_};
 ghost use Prim.Native.Nat.{_+_, _<_, _≤_, _^_};
-ghost use lib.Dec.{eqb};
 ghost use lib.ListN.{length};
 ghost use Rattle.kinds.specs.Limits.{walkAtoms};
 ghost use Rattle.kinds.specs.declared.limits.Kind.the-variants.{Plain as KindPlain};
 ghost use Rattle.stores.specs.RuleStore.{StoreOf, decode};
 ghost use Rattle.walks.specs.Walk.{capped, stableVerdict};
-ghost use Rattle.masks.specs.Masks.{modelM, stableWalkM};
+ghost use Rattle.masks.specs.Masks.{stableWalkM};
 ghost use Rattle.masks.specs.Subsets.{rank, NextSub, StepTable};
 ghost use Rattle.stable_verdict.specs.SubsetWalk.{Subset, Walking};
 ghost use Rattle.walks.specs.Answers.{stableAnswer};
@@ -57,20 +57,6 @@ fn fill_steps(set: u64, steps: &mut [u64])
         left -= atom;
         j += 1;
     }
-}
-
-// The number of a rule that is broken at `set`, or the number of rules; rule `first` is looked at first.
-fn some_broken(care: &[u64], want: &[u64], set: u64, first: usize) -> usize
-    requires { ⌜ length (now want) ≡ length (now care) ⌝ }
-    ensures { λ r. ⌜ eqb r (length (now (care .entry))) ≡ modelM (now (care .entry)) (now (want .entry)) set ⌝ }
-    ensures { λ r. ⌜ r ≤ length (now (care .entry)) ⌝ }
-{
-    if first < care.len() {
-        if set & care[first] == want[first] {
-            return first;
-        }
-    }
-    first_broken(care, want, set)
 }
 
 // The subset of `set` that follows s, by its place in the walk, whose trailing zeros tell the step.

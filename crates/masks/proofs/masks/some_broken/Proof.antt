@@ -1,7 +1,7 @@
 use borrow.Author.Needs.{needs}
-use Rattle.stable_verdict.proofs.ProperSubsets.{told-broken, told-first}
-use Rattle.stable_verdict.proofs.stable.some_broken.Statement.{statement}
-use Rattle.stable_verdict.proofs.stable.some_broken.Tie as tie
+use Rattle.masks.proofs.BrokenRules.{told-broken, told-first}
+use Rattle.masks.proofs.masks.some_broken.Statement.{statement}
+use Rattle.masks.proofs.masks.some_broken.Tie as tie
 
 mul-if2 : tie.Need-mul-if2
 mul-if2 c = search needs
