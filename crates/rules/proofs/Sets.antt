@@ -136,7 +136,7 @@ has-below n x i l h = step (decLt i n)
 pub set-ext : (x y : ℕ) → ((i : ℕ) → has x i ≡ has y i) → x ≡ y
 set-ext x y h = same-set (x + y) x y (omega (arith, lt-pow (x + y))) (omega (arith, lt-pow (x + y))) (λ i l. h i)
 
--- a proper subset has a smaller number: the walk by rising number meets it before m
+-- a subset has no greater number
 pub subset-le : (k x m : ℕ) → x < 2 ^ k → ((i : ℕ) → T (has x i) → T (has m i)) → x ≤ m
 subset-le zero x m l h = omega arith
 subset-le (suc k) x m l h =
