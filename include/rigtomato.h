@@ -21,6 +21,9 @@
  *   order.
  * - Of two sets, the earlier is the one lacking the first declared atom on which they differ. A
  *   set's place in this order, from 0, is the sum of 2^(n-1-i) over its atoms i: rigtomato_place.
+ * - A walk decides the atoms one after another in declared order, out before in, and goes no deeper
+ *   once some rule has all its body in and all its head out. So it meets sets in this order. A unit
+ *   is one partial choice visited, the empty one and each final one included.
  *
  * Memory. A pointer and the length after it, in elements and not in bytes, are one array. The
  * library reads only inside the arrays that it is handed and writes only inside the outputs that
@@ -110,7 +113,7 @@ struct rigtomato_text_answer rigtomato_translate(const uint16_t *rules, size_t r
 /* The kind of an answer, and what its value and units then are (0 where nothing is said). */
 #define RIGTOMATO_YES 0     /* preferred, or stable; units: those the walk took */
 #define RIGTOMATO_BROKEN 1  /* no model; value: the number, from 0, of the first broken rule */
-#define RIGTOMATO_BEATEN 2  /* value: the first better set; units: the sets tried, it included */
+#define RIGTOMATO_BEATEN 2  /* value: the first better set; units: choices visited, it included */
 #define RIGTOMATO_SPENT 3   /* more units needed than the budget; units: the budget */
 #define RIGTOMATO_REFUSED 4 /* value: the refusal's number: 10, 11, 12 or 13 */
 
@@ -124,18 +127,19 @@ struct rigtomato_verdict {
     uint64_t units;
 };
 
-/* Is the set preferred in this preference store? The walk goes over all sets that agree with it on
- * the fixed atoms, the earlier first, one unit each. */
+/* Is the set preferred in this preference store? In the walk fixed atoms, in their turn, take only
+ * the set's value. */
 struct rigtomato_verdict rigtomato_preferred(const uint16_t *rules, size_t rules_len,
                                              uint64_t set, uint64_t budget);
 
-/* Is the set stable in this plain store? The walk goes over the set's proper subsets, the earlier
- * first, one unit each. */
+/* Is the set stable in this plain store? In the walk atoms outside the set are only out, and the
+ * rules are the reduct's; the set itself, a final choice, is neither visited nor counted. */
 struct rigtomato_verdict rigtomato_stable(const uint16_t *rules, size_t rules_len,
                                           uint64_t set, uint64_t budget);
 
 /* The first preferred set at or after the start. The start is a place, from 0 to 2^n; the answer is
- * a set's number. Each candidate costs one unit and, if it is a model, the units of its verdict.
+ * a set's number. In the walk fixed atoms are free, and no choice lying wholly before the start is
+ * visited; a final choice that is a model costs its one unit and the units of its verdict.
  * Starting from 0, then from rigtomato_place of each answer plus one, until RIGTOMATO_NONE, gives
  * every preferred set once, the earlier first. */
 struct rigtomato_verdict rigtomato_next_state(const uint16_t *rules, size_t rules_len,

@@ -1,4 +1,5 @@
-//! Compiles the hand-written C with gcc -O3.
+//! Compiles the hand-written C with gcc -O3, its functions aligned as the binding aligns the
+//! engine's.
 
 use std::process::Command;
 
@@ -17,9 +18,8 @@ fn main() {
     println!("cargo:rerun-if-changed={source}");
     let object = format!("{out}/walks.o");
     run(Command::new("gcc")
-        .args([
-            "-std=c11", "-O3", "-Wall", "-Wextra", "-Werror", "-fPIC", "-c",
-        ])
+        .args(["-std=c11", "-O3", "-falign-functions=64"])
+        .args(["-Wall", "-Wextra", "-Werror", "-fPIC", "-c"])
         .args([&source, "-o", &object]));
     run(Command::new("ar").args(["rcs", &format!("{out}/libwalks.a"), &object]));
     println!("cargo:rustc-link-search=native={out}");

@@ -1,5 +1,5 @@
-/* Document 01's sheet for file A, with places, order and units by document 02, W-206, through the C
- * interface. Prints what fails and ends with status 1 then. Compile with
+/* Document 01's sheet for file A, with places and order by document 02, W-206, and units by W-207,
+ * through the C interface. Prints what fails and ends with status 1 then. Compile with
  *     gcc -Wall -Wextra -Werror -Iinclude tests/c/sheet.c target/staticlib/librigtomato.a */
 #include "rigtomato.h"
 
@@ -67,6 +67,11 @@ static struct rigtomato_verdict preferred(uint64_t set, uint64_t budget)
     return rigtomato_preferred(file.rules, file.rules_len, set, budget);
 }
 
+static struct rigtomato_verdict stable(uint64_t set, uint64_t budget)
+{
+    return rigtomato_stable(file.rules, file.rules_len, set, budget);
+}
+
 static struct rigtomato_verdict next_state(uint64_t start, uint64_t budget)
 {
     return rigtomato_next_state(file.rules, file.rules_len, start, budget);
@@ -110,23 +115,22 @@ static void file_a(void)
     CHECK(file.names_len == sizeof names - 1);
     CHECK(memcmp(file.names, names, sizeof names - 1) == 0);
 
-    CHECK(is(preferred(6, most), RIGTOMATO_YES, 0, 8));
-    CHECK(is(preferred(1, most), RIGTOMATO_BEATEN, 6, 4));
+    CHECK(is(preferred(6, most), RIGTOMATO_YES, 0, 13));
+    CHECK(is(preferred(1, most), RIGTOMATO_BEATEN, 6, 6));
     CHECK(is(preferred(0, most), RIGTOMATO_BROKEN, 0, 0));
     CHECK(is(preferred(2, most), RIGTOMATO_BROKEN, 1, 0));
-    CHECK(is(preferred(1, 3), RIGTOMATO_SPENT, 0, 3));
-    CHECK(is(preferred(1, 4), RIGTOMATO_BEATEN, 6, 4));
+    CHECK(is(preferred(1, 5), RIGTOMATO_SPENT, 0, 5));
+    CHECK(is(preferred(1, 6), RIGTOMATO_BEATEN, 6, 6));
     CHECK(is(preferred(8, most), RIGTOMATO_REFUSED, RIGTOMATO_SET_TOO_LARGE, 0));
     CHECK(is(preferred(7, most + 1), RIGTOMATO_REFUSED, RIGTOMATO_BUDGET_TOO_LARGE, 0));
-    CHECK(is(next_state(0, most), RIGTOMATO_STATE, 6, 12));
-    CHECK(is(next_state(0, 11), RIGTOMATO_SPENT, 0, 11));
-    CHECK(is(next_state(3, most), RIGTOMATO_STATE, 6, 9));
-    CHECK(is(next_state(4, most), RIGTOMATO_NONE, 0, 16));
-    CHECK(is(next_state(4, 15), RIGTOMATO_SPENT, 0, 15));
+    CHECK(is(next_state(0, most), RIGTOMATO_STATE, 6, 19));
+    CHECK(is(next_state(0, 18), RIGTOMATO_SPENT, 0, 18));
+    CHECK(is(next_state(3, most), RIGTOMATO_STATE, 6, 17));
+    CHECK(is(next_state(4, most), RIGTOMATO_NONE, 0, 26));
+    CHECK(is(next_state(4, 25), RIGTOMATO_SPENT, 0, 25));
     CHECK(is(next_state(8, 0), RIGTOMATO_NONE, 0, 0));
     CHECK(is(next_state(9, 0), RIGTOMATO_REFUSED, RIGTOMATO_SET_TOO_LARGE, 0));
-    CHECK(is(rigtomato_stable(file.rules, file.rules_len, 0, 0), RIGTOMATO_REFUSED,
-             RIGTOMATO_RULE_STORE, 0));
+    CHECK(is(stable(0, 0), RIGTOMATO_REFUSED, RIGTOMATO_RULE_STORE, 0));
     CHECK(states_are(1, (const uint64_t[]){6}));
 }
 
@@ -138,7 +142,7 @@ static void file_a_declared_otherwise(void)
     CHECK(states_are(2, (const uint64_t[]){2, 6}));
     read_declared("(min sensor)\n(min lamp)\n(vary)\n(fix dark)\n");
     CHECK(states_are(2, (const uint64_t[]){6, 1}));
-    CHECK(is(preferred(1, RIGTOMATO_BUDGET_LIMIT), RIGTOMATO_YES, 0, 4));
+    CHECK(is(preferred(1, RIGTOMATO_BUDGET_LIMIT), RIGTOMATO_YES, 0, 10));
 }
 
 /* Reads a preference file of so many fixed atoms and no rule. */
@@ -230,6 +234,23 @@ static void small_files(void)
                44);
 }
 
+static void stable_sets(void)
+{
+    const uint64_t most = RIGTOMATO_BUDGET_LIMIT;
+    const char *plain = "(atoms a b c)\n(rule (head a b) (body) (not c))\n"
+                        "(rule (head b) (body a) (not))\n";
+    CHECK(read_text(plain, strlen(plain)).refusal == 0);
+    CHECK(is(stable(2, most), RIGTOMATO_YES, 0, 4));
+    CHECK(is(stable(2, 4), RIGTOMATO_YES, 0, 4));
+    CHECK(is(stable(2, 3), RIGTOMATO_SPENT, 0, 3));
+    CHECK(is(stable(3, most), RIGTOMATO_BEATEN, 2, 5));
+    CHECK(is(stable(4, most), RIGTOMATO_BEATEN, 0, 4));
+    CHECK(is(stable(0, 0), RIGTOMATO_BROKEN, 0, 0));
+    CHECK(is(stable(1, 0), RIGTOMATO_BROKEN, 1, 0));
+    CHECK(read_text("(atoms)\n", 8).refusal == 0);
+    CHECK(is(stable(0, 0), RIGTOMATO_YES, 0, 0));
+}
+
 static void refusals(void)
 {
     struct rigtomato_read_answer answer = rigtomato_read(NULL, 0, NULL, 0, NULL, 0);
@@ -238,13 +259,7 @@ static void refusals(void)
     CHECK(answer.refusal == RIGTOMATO_DECLARED_TWICE && answer.line == 2);
     CHECK(answer.words == 0 && answer.bytes == 0);
     CHECK(is(rigtomato_preferred(NULL, 0, 0, 0), RIGTOMATO_REFUSED, RIGTOMATO_RULE_STORE, 0));
-    /* A plain program: `a` if not `b`, `b` if not `a`. */
-    const char *plain = "(atoms a b)\n(rule (head a) (body) (not b))\n"
-                        "(rule (head b) (body) (not a))\n";
-    CHECK(read_text(plain, strlen(plain)).refusal == 0);
-    CHECK(is(rigtomato_stable(file.rules, file.rules_len, 1, 1), RIGTOMATO_YES, 0, 1));
-    CHECK(is(rigtomato_stable(file.rules, file.rules_len, 3, 1), RIGTOMATO_BEATEN, 0, 1));
-    CHECK(is(rigtomato_stable(file.rules, file.rules_len, 0, 1), RIGTOMATO_BROKEN, 0, 0));
+    CHECK(read_text("(atoms a)\n", 10).refusal == 0);
     CHECK(is(preferred(0, 0), RIGTOMATO_REFUSED, RIGTOMATO_RULE_STORE, 0));
 }
 
@@ -292,6 +307,7 @@ int main(void)
     written("(min sensor)\n(min lamp)\n(vary dark)\n(fix)\n"
             "(rule (head sensor lamp) (body) (not))\n(rule (head dark) (body lamp) (not))\n");
     small_files();
+    stable_sets();
     refusals();
     names();
     sizes();

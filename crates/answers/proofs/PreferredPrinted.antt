@@ -11,7 +11,8 @@ use Rattle.rules.specs.Lists.{flat}
 use Rattle.stores.specs.Program.{Program}
 use Rattle.places.specs.Places.{place}
 use Rattle.places.proofs.Places.{place-lt}
-use Rattle.walks.specs.Walk.{nextVerdict, preferredSets}
+use Rattle.walks.specs.Order.{preferredSets}
+use Rattle.walks.specs.Walk.{nextVerdict}
 use Rattle.walks.specs.Listings.{listed, goOn, Whole, stepAfter, CutShort}
 use Rattle.walks.specs.declared.answers.NextState.{NextState}
 use Rattle.walks.specs.declared.answers.NextState.the-variants.{State, Nothing, Spent, Refused}

@@ -8,7 +8,7 @@ use Rattle.kinds.specs.Limits.{budgetLimit}
 use Rattle.kinds.specs.declared.limits.Kind.the-variants.{Preference}
 use Rattle.rules.specs.Lists.{flat}
 use Rattle.stores.specs.Program.{Program, ProgramForm}
-use Rattle.walks.specs.Walk.{preferredSets}
+use Rattle.walks.specs.Order.{preferredSets}
 use Rattle.walks.specs.Listings.{Whole, CutShort}
 use Rattle.answers.specs.Printed.{stateLine, totalLine, spentLine}
 use Rattle.answers.specs.Listed.{wholeListing}

@@ -1,2 +1,5 @@
 -- The laws of the next state.
-pub mod Candidates
+pub mod FromStart
+pub mod NextStates
+pub mod FilledNext
+pub mod NextInside

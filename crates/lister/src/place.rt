@@ -17,7 +17,7 @@ fn place_of(words: &[u16], set: u64) -> u64
     requires { ⌜ decode (now words) .atoms ≤ walkAtoms ⌝ }
     ensures { λ r. ⌜ r ≡ placeIn (decode (now (words .entry)) .atoms) set ⌝ }
 {
-    let atoms = words[1] as u32;
+    let atoms = words[1] as usize;
     turned(set, atoms)
 }
 

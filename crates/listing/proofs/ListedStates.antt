@@ -29,9 +29,9 @@ use Rattle.output.specs.Emitted.{Emitted, InRange}
 use Rattle.output.proofs.Emitting.{none, then, renamed, same-length}
 use Rattle.places.specs.Places.{place}
 use Rattle.places.proofs.Places.{turned-twice}
-use Rattle.masks.specs.FilledMasks.{nextMasks, nextAt}
-use Rattle.masks.specs.declared.masks.Sizes.{Sizes}
-use Rattle.masks.proofs.FilledMasks.{next-between}
+use Rattle.masks.specs.AnswersAt.{nextAt}
+use Rattle.lister.specs.NextMasks.{nextM}
+use Rattle.lister.proofs.NextInside.{next-between}
 use Rattle.walks.specs.declared.answers.NextState.{NextState}
 use Rattle.walks.specs.declared.answers.NextState.the-variants.{State, Nothing, Spent, Refused}
 use Rattle.walks.proofs.answers.NextState.{the-type}
@@ -90,8 +90,8 @@ module _ {n : ℕ} {names starts : List ℕ} (h : ListedNames n names starts) wh
   pub state-range : (at s : ℕ) → at ≤ streamLimit → InRange at (stateLine (storedNames names starts) s)
   state-range at s l = record { below = omega (arith, state-short (storedNames names starts) all-short s (omega (arith, few-starts, length-decode (length starts) names))) }
 
-pub between : (care want classes : List ℕ) (z : Sizes) → Inside (λ p. p) (λ t. nextMasks care want classes z t budgetLimit) (2 ^ z .atoms)
-between care want classes z t p u l e = next-between care want classes z t budgetLimit p u l e
+pub between : (care want groups classes : List ℕ) (fixed n : ℕ) → Inside (λ p. p) (λ t. nextM care want groups classes fixed n t budgetLimit) (2 ^ n)
+between care want groups classes fixed n t p u l e = next-between care want groups classes fixed n t budgetLimit p u e
 
 -- the states up to the start are written, `count` of them
 pub record Listing (next : ℕ → NextState) (n : ℕ) (names : List (List ℕ)) (before now : List ℕ) (at start count : ℕ) : Type 0 where

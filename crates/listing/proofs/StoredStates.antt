@@ -24,27 +24,45 @@ use Rattle.walks.specs.Walk.{nextVerdict}
 use Rattle.walks.specs.declared.answers.NextState.{NextState}
 use Rattle.masks.specs.FilledMasks.{MasksOf}
 use Rattle.masks.specs.declared.masks.Sizes.{Sizes}
-use Rattle.masks.proofs.FilledMasks.{masks-fit, next-filled}
+use Rattle.groups.specs.Groups.{GroupsOf}
+use Rattle.groups.specs.Plans.{startsIn, careIn, wantIn, TablesOf}
+use Rattle.descent.proofs.FilledGroups.{same-length, rules-fit, masks-small}
+use Rattle.lister.proofs.FilledNext.{next-filled}
+use Rattle.printing.specs.Parts.{Shown}
+use Rattle.printing.proofs.PrintedLines.{shown-renamed}
 use Rattle.answers.specs.Printed.{refusedText}
 use Rattle.answers.specs.Listed.{listing, wholeListing, streamed, statesOf}
-use Rattle.listing.specs.ListedMasks.{ListedNames, ListedStores, ListedMasks, masksListing}
+use Rattle.listing.specs.ListedMasks.{ListedNames, ListedStores, SortableMasks, SortedListing, masksListing, planListing}
+
+-- the listing by a plan
+pub listing-sorted : {cs ws ks p : List ℕ} {fixed n : ℕ} {names : List (List ℕ)} {before after : List ℕ} {size : ℕ} → TablesOf cs ws ks p → Shown (streamed (planListing p fixed n names)) before after size → SortedListing cs ws ks fixed n names before after size
+listing-sorted {cs} {ws} {ks} {p} {fixed} {n} {names} t s = record {
+  care = careIn p;
+  want = wantIn p;
+  groups = startsIn p;
+  sorted = t .groups;
+  shown = shown-renamed (ap (λ (x : List ℕ). streamed (masksListing (careIn p) (wantIn p) (startsIn p) x fixed n names)) (t .classes-are)) s;
+}
 
 -- the masks of a store, as the code hands them on
 module _ {rules names starts care want classes : List ℕ} {z : Sizes} (h : ListedStores rules names starts) (d : MasksOf (decode rules) care want classes z) where
   abbrev program : Program
   program = decode rules
 
-  pub masks-listed : ListedMasks (take (z .rules) care) (take (z .rules) want) (take (z .classes) classes) z names starts
-  masks-listed = record { fit = masks-fit d; named = subst (λ (n : ℕ). ListedNames n names starts) (sym (d .atoms-are)) (h .named) }
+  pub masks-sortable : SortableMasks (take (z .rules) care) (take (z .rules) want)
+  masks-sortable = record { same-length = same-length d; rules-fit = rules-fit d; small = masks-small d }
 
-  pub same-listing : masksListing (take (z .rules) care) (take (z .rules) want) (take (z .classes) classes) z (storedNames names starts) ≡ wholeListing program (storedNames names starts)
+  pub names-listed : ListedNames (z .atoms) names starts
+  names-listed = subst (λ (n : ℕ). ListedNames n names starts) (sym (d .atoms-are)) (h .named)
+
+  same-listing : {c w g : List ℕ} → GroupsOf (take (z .rules) care) (take (z .rules) want) c w g → masksListing c w g classes (z .fixed) (z .atoms) (storedNames names starts) ≡ wholeListing program (storedNames names starts)
   unfolding wholeListing
-  same-listing =
-      ap (λ (next : ℕ → NextState). listing (place (z .atoms)) next (suc (2 ^ z .atoms)) (storedNames names starts) 0 0) (fun-ext (λ t. next-filled d t budgetLimit))
+  same-listing g =
+      ap (λ (next : ℕ → NextState). listing (place (z .atoms)) next (suc (2 ^ z .atoms)) (storedNames names starts) 0 0) (fun-ext (λ t. next-filled d g t budgetLimit))
       ∙ ap (λ (n : ℕ). listing (place n) (λ t. nextVerdict (program .words) (program .rules) t budgetLimit) (suc (2 ^ n)) (storedNames names starts) 0 0) (d .atoms-are)
 
-  pub same-streamed : streamed (masksListing (take (z .rules) care) (take (z .rules) want) (take (z .classes) classes) z (storedNames names starts)) ≡ streamed (wholeListing program (storedNames names starts))
-  same-streamed = ap streamed same-listing
+  pub listing-shown : {before after : List ℕ} {size : ℕ} → SortedListing (take (z .rules) care) (take (z .rules) want) classes (z .fixed) (z .atoms) (storedNames names starts) before after size → Shown (streamed (wholeListing program (storedNames names starts))) before after size
+  listing-shown s = shown-renamed (ap streamed (same-listing (s .sorted))) (s .shown)
 
 -- two stores of the form
 module _ {rules names : List ℕ} (s : StoreOf rules (decode rules)) (k : decode rules .kind ≡ Preference) (m : NamesOf names Preference (decode rules .atoms) (decodeNames (decode rules .atoms) names)) where

@@ -1,10 +1,11 @@
 // The lister: every preferred state, then their number (document 01, "Sheets of known states").
+use groups::grouping::fill_tables;
+use groups::plan::Plan;
 use kinds::limits::Kind;
 use kinds::limits::Preference;
 use kinds::limits::Walk;
 use kinds::refusals::Refusal;
-use lister::next::next_masks;
-use masks::masks::Sizes;
+use lister::candidates::next_masks;
 use masks::masks::fill_masks;
 use output::bytes::emit;
 use places::turning::turned;
@@ -22,7 +23,7 @@ ghost use Rattle.output.specs.Emitted.{Emitted, InRange};
 ghost use Rattle.text.specs.Items.{storedNames};
 ghost use Rattle.printing.specs.Parts.{Shown};
 ghost use Rattle.answers.specs.Listed.{wholeListing, streamed, statesOf};
-ghost use Rattle.listing.specs.ListedMasks.{ListedStores, ListedMasks, Limited, lastLine, masksListing};
+ghost use Rattle.listing.specs.ListedMasks.{ListedNames, ListedStores, ListedMasks, SortableMasks, SortedListing, Limited, lastLine, planListing};
 
 // What stands after the states.
 fn emit_last(found: NextState, count: u64, out: &mut [u8], at: usize) -> usize
@@ -37,25 +38,23 @@ fn emit_last(found: NextState, count: u64, out: &mut [u8], at: usize) -> usize
     }
 }
 
-// The listing over filled masks; it stops where it passes the size of an output.
+// The listing over sorted masks; it stops where it passes the size of an output.
 fn emit_listing(
-    care: &[u64],
-    want: &[u64],
-    classes: &[u64],
-    sizes: Sizes,
+    plan: &mut [u64; Plan::WORDS],
+    fixed: u64,
+    atoms: usize,
     names: &[u8],
     starts: &[u16],
     out: &mut [u8],
 ) -> usize
-    requires { ⌜ ListedMasks (now care) (now want) (now classes) sizes (now names) (now starts) ⌝ }
-    ensures { λ r. ⌜ Limited (masksListing (now (care .entry)) (now (want .entry)) (now (classes .entry)) sizes (storedNames (now (names .entry)) (now (starts .entry)))) (now (out .entry)) (now (out .exit)) r ⌝ }
+    requires { ⌜ ListedMasks (now plan) atoms (now names) (now starts) ⌝ }
+    ensures { λ r. ⌜ Limited (planListing (now (plan .entry)) fixed atoms (storedNames (now (names .entry)) (now (starts .entry)))) (now (out .entry)) (now (out .exit)) r ⌝ }
 {
-    let atoms = sizes.atoms;
     let mut next: usize = 0;
     let mut start: u64 = 0;
     let mut count: u64 = 0;
     while next <= Kind::STREAM {
-        let found = next_masks(care, want, classes, sizes, start, Walk::BUDGET);
+        let found = next_masks(plan, fixed, atoms, start, Walk::BUDGET);
         let NextState::State { set: place, units } = found else {
             return emit_last(found, count, out, next);
         };
@@ -69,23 +68,42 @@ fn emit_listing(
 
 // The listing, or refusal 9 where it passes the size of an output.
 fn show_listing(
-    care: &[u64],
-    want: &[u64],
-    classes: &[u64],
-    sizes: Sizes,
+    plan: &mut [u64; Plan::WORDS],
+    fixed: u64,
+    atoms: usize,
     names: &[u8],
     starts: &[u16],
     out: &mut [u8],
 ) -> usize
-    requires { ⌜ ListedMasks (now care) (now want) (now classes) sizes (now names) (now starts) ⌝ }
-    ensures { λ r. ⌜ Shown (streamed (masksListing (now (care .entry)) (now (want .entry)) (now (classes .entry)) sizes (storedNames (now (names .entry)) (now (starts .entry))))) (now (out .entry)) (now (out .exit)) r ⌝ }
+    requires { ⌜ ListedMasks (now plan) atoms (now names) (now starts) ⌝ }
+    ensures { λ r. ⌜ Shown (streamed (planListing (now (plan .entry)) fixed atoms (storedNames (now (names .entry)) (now (starts .entry))))) (now (out .entry)) (now (out .exit)) r ⌝ }
 {
     let mut scratch = [0u8; Kind::STREAM];
-    let size = emit_listing(care, want, classes, sizes, names, starts, &mut scratch);
+    let size = emit_listing(plan, fixed, atoms, names, starts, &mut scratch);
     if Kind::STREAM < size {
         return show_refused(Refusal::Output, 0, out);
     }
     show(&scratch[0..size], out)
+}
+
+// The listing by the rules with these masks, sorted once.
+fn show_sorted(
+    care: &[u64],
+    want: &[u64],
+    classes: &[u64; Preference::CLASSES],
+    fixed: u64,
+    atoms: usize,
+    names: &[u8],
+    starts: &[u16],
+    out: &mut [u8],
+) -> usize
+    requires { ⌜ SortableMasks (now care) (now want) ⌝ }
+    requires { ⌜ ListedNames atoms (now names) (now starts) ⌝ }
+    ensures { λ r. ⌜ SortedListing (now (care .entry)) (now (want .entry)) (now (classes .entry)) fixed atoms (storedNames (now (names .entry)) (now (starts .entry))) (now (out .entry)) (now (out .exit)) r ⌝ }
+{
+    let mut plan = [0u64; Plan::WORDS];
+    fill_tables(care, want, classes, &mut plan);
+    show_listing(&mut plan, fixed, atoms, names, starts, out)
 }
 
 // The listing of a preference store; its masks are filled once. `starts` has the place of each name.
@@ -98,12 +116,14 @@ fn show_store(rules: &[u16], names: &[u8], starts: &[u16], out: &mut [u8]) -> us
     let mut classes = [0u64; Preference::CLASSES];
     let sizes = fill_masks(rules, &mut care, &mut want, &mut classes);
     let count = sizes.rules;
-    let k = sizes.classes;
-    show_listing(
+    let fixed = sizes.fixed;
+    let atoms = sizes.atoms;
+    show_sorted(
         &care[..count],
         &want[..count],
-        &classes[..k],
-        sizes,
+        &classes,
+        fixed,
+        atoms,
         names,
         starts,
         out,

@@ -1,19 +1,14 @@
 -- What a checked store gives the functions that read it.
-use Prim.Native.Nat.{ℕ, _+_, _-_, _^_, _≤_, _<_}
+use Prim.Native.Nat.{ℕ, _+_, _-_, _≤_, _<_}
 use mathlib.Core.Path.{_≡_, sym, ap, ap₂, _∙_, subst}
-use mathlib.Core.Bool.{Bool, true, false, cond}
 use mathlib.Core.List.{List, _++_, map}
 use native.Mathlib.Omega.{arith}
-use lib.Count.{ones, ones-le}
 use lib.ListN.{length, getD, take, drop, length-append, length-drop, length-map}
-use lib.Dec.{eqb}
-use borrow.Author.Tests.{ne-eqb, eq-eqb}
 use Rattle.kinds.specs.Limits.{ruleLimit, classLimit, walkAtoms, fixed}
 use Rattle.kinds.specs.declared.limits.Kind.{Kind}
 use Rattle.kinds.specs.declared.limits.Kind.the-variants.{Plain, Preference}
 use Rattle.rules.specs.Lists.{All, flat, over}
-use Rattle.rules.specs.Sets.{has}
-use Rattle.rules.specs.Rules.{Rule, reduct, model?, firstBroken, rename}
+use Rattle.rules.specs.Rules.{Rule}
 use Rattle.rules.specs.Renumbering.{Within}
 use Rattle.rules.specs.Preferred.{ofClass}
 use Rattle.rules.proofs.Lists.{part-sized, part-rest}
@@ -22,18 +17,10 @@ use Rattle.stores.specs.RuleStore.{ruleWords, encode, StoreOf, wordCount, rules
 use Rattle.stores.specs.StoredRules.{StoredRules}
 use Rattle.stores.proofs.RuleStores.{words-count}
 use Rattle.stores.proofs.StoredRules.{stored-rules}
-use Rattle.places.specs.Places.{mirror, place}
-use Rattle.places.proofs.Places.{place-atoms}
-use Rattle.walks.specs.Walk.{search, capped, stableWalk, stableNeeds, stableVerdict}
-use Rattle.walks.specs.declared.answers.Verdict.{Verdict}
-use Rattle.walks.specs.declared.answers.Verdict.the-variants.{Broken}
-use Rattle.masks.specs.Masks.{placeMask, careAt, wantAt, classMasks, firstM, modelM, verdictAt, stableWalkM, gatherCare, gatherWant}
+use Rattle.masks.specs.Masks.{placeMask, careAt, wantAt, classMasks}
 use Rattle.masks.specs.FilledMasks.{MasksOf}
-use Rattle.masks.proofs.RuleMasks.{SameNots, same-nots}
-use Rattle.masks.proofs.VerdictMasks.{first-at, model-at, stable-walk-at, capped-at, gather-walk}
 use Rattle.masks.proofs.RulesFill.{front-of}
-use Rattle.masks.proofs.LowestBits.{class-mask-lt}
-use Rattle.masks.proofs.FilledMasks.{first-classes, rules-within}
+use Rattle.masks.proofs.FilledMasks.{rules-within}
 
 -- the words of a store, by its program
 
@@ -45,10 +32,6 @@ module _ (ws : List ℕ) (p : Program) (s : StoreOf ws p) where
   pub atoms-word : getD ws 1 0 ≡ p .atoms
   unfolding encode
   atoms-word = ap (λ (l : List ℕ). getD l 1 0) (sym (s .words))
-
-  pub classes-word : getD ws 2 0 ≡ p .classes
-  unfolding encode
-  classes-word = ap (λ (l : List ℕ). getD l 2 0) (sym (s .words))
 
   pub rules-word : getD ws 3 0 ≡ length (p .rules)
   unfolding encode
@@ -71,15 +54,14 @@ module _ (ws : List ℕ) (p : Program) (s : StoreOf ws p) where
 
 -- a checked preference store, with the words of its header as they were read
 
-pub record PreferenceHeader (ws : List ℕ) (n k r : ℕ) : Type 0 where
+pub record PreferenceHeader (ws : List ℕ) (n r : ℕ) : Type 0 where
   pub store : StoreOf ws (decode ws)
   pub few : decode ws .atoms ≤ walkAtoms
   pub is-preference : decode ws .kind ≡ Preference
   pub atoms-read : n ≡ getD ws 1 0
-  pub classes-read : k ≡ getD ws 2 0
   pub rules-read : r ≡ getD ws 3 0
 
-module _ (ws : List ℕ) (n k r : ℕ) (h : PreferenceHeader ws n k r) where
+module _ (ws : List ℕ) (n r : ℕ) (h : PreferenceHeader ws n r) where
   -- the class words and the words of the rules, as the code takes them
   abbrev classPart : List ℕ
   classPart = take (4 + n - 4) (drop 4 ws)
@@ -92,9 +74,6 @@ module _ (ws : List ℕ) (n k r : ℕ) (h : PreferenceHeader ws n k r) where
 
   n-is : n ≡ decode ws .atoms
   n-is = h .atoms-read ∙ atoms-word ws (decode ws) (h .store)
-
-  k-is : k ≡ decode ws .classes
-  k-is = h .classes-read ∙ classes-word ws (decode ws) (h .store)
 
   r-is : r ≡ length (decode ws .rules)
   r-is = h .rules-read ∙ rules-word ws (decode ws) (h .store)
@@ -140,33 +119,24 @@ module _ (ws : List ℕ) (n k r : ℕ) (h : PreferenceHeader ws n k r) where
     fixed-mask : f ≡ placeMask (length (decode ws .words)) (ofClass (decode ws .words) fixed)
     fixed-mask = fixed-read ∙ ap (λ (x : List ℕ). placeMask (length x) (ofClass x fixed)) words-are
 
-    pub free-fits : ones f ≤ n
-    free-fits =
-        let l : placeMask (length (decode ws .words)) (ofClass (decode ws .words) fixed) < 2 ^ length (decode ws .words) = class-mask-lt (decode ws .words) fixed in
-        let z : 2 ^ length (decode ws .words) ≡ 2 ^ n = ap (λ (x : ℕ). 2 ^ x) words-length in
-        let e = fixed-mask in
-        ones-le n f (omega arith)
-
     rules-front : (g : Rule ℕ → ℕ) (d l : List ℕ) → l ≡ over (map g (rulesFrom r rulePart)) d → take r l ≡ map g (decode ws .rules)
     rules-front g d l e =
         ap (take r) (e ∙ ap (λ (x : List (Rule ℕ)). over (map g x) d) rules-are)
         ∙ front-of (map g (decode ws .rules)) d r (length-map (decode ws .rules) g ∙ sym r-is)
 
     pub masks-filled : (ks cs wants c₀ w₀ : List ℕ) → ks ≡ classMasks classPart 1 classLimit
-        → (cs ≡ over (map (careAt n 0) (rulesFrom r rulePart)) c₀) × (wants ≡ over (map (wantAt n 0) (rulesFrom r rulePart)) w₀)
-        → MasksOf (decode ws) cs wants ks (record { atoms = n; classes = k; rules = r; fixed = f; free = n - ones f })
+        → (cs ≡ over (map (careAt n) (rulesFrom r rulePart)) c₀) × (wants ≡ over (map (wantAt n) (rulesFrom r rulePart)) w₀)
+        → MasksOf (decode ws) cs wants ks (record { atoms = n; rules = r; fixed = f })
     masks-filled ks cs wants c₀ w₀ e q = record {
       form = h .store .form;
       is-preference = h .is-preference;
       few = h .few;
       atoms-are = n-is;
-      classes-are = k-is;
       rules-are = r-is;
       fixed-is = fixed-mask;
-      free-is = let l = free-fits in omega arith;
-      care-front = rules-front (careAt n 0) c₀ cs (q .0) ∙ ap (λ (x : ℕ). map (careAt x 0) (decode ws .rules)) n-is;
-      want-front = rules-front (wantAt n 0) w₀ wants (q .1) ∙ ap (λ (x : ℕ). map (wantAt x 0) (decode ws .rules)) n-is;
-      class-front = ap (take k) (e ∙ ap (λ (x : List ℕ). classMasks x 1 classLimit) words-are) ∙ first-classes (decode ws .words) k (let a = k-is in let l = forms .0 in omega arith) ∙ ap (classMasks (decode ws .words) 1) k-is;
+      care-front = rules-front (careAt n) c₀ cs (q .0) ∙ ap (λ (x : ℕ). map (careAt x) (decode ws .rules)) n-is;
+      want-front = rules-front (wantAt n) w₀ wants (q .1) ∙ ap (λ (x : ℕ). map (wantAt x) (decode ws .rules)) n-is;
+      class-masks = e ∙ ap (λ (x : List ℕ). classMasks x 1 classLimit) words-are;
     }
 
 -- a checked plain store
@@ -215,42 +185,3 @@ module _ (ws : List ℕ) (n r : ℕ) (h : PlainHeader ws n r) where
 
   pub plain-within : All (Within (λ a. a < n)) (decode ws .rules)
   plain-within = subst (λ (x : ℕ). All (Within (λ a. a < x)) (decode ws .rules)) (sym plain-atoms) (rules-within (h .store .form))
-
--- the stable verdict on m by the masks of all rules, of the reduct by m's place
-module _ (n : ℕ) (rs : List (Rule ℕ)) (below : All (Within (λ a. a < n)) rs) (m : ℕ) where
-  abbrev q : ℕ
-  q = place n m
-
-  abbrev care : List ℕ
-  care = map (careAt n q) rs
-
-  abbrev want : List ℕ
-  want = map (wantAt n q) rs
-
-  all-same : All (SameNots q q) (map (rename (mirror n)) rs)
-  all-same = same-nots q (map (rename (mirror n)) rs)
-
-  first-is : firstM q care want ≡ firstBroken rs (has m)
-  first-is = first-at n rs below q m q (place-atoms n m) all-same
-
-  model-is : eqb (firstM q care want) (length care) ≡ model? rs (has m)
-  unfolding modelM
-  model-is = model-at n rs below q m q (place-atoms n m) all-same
-
-  count : length care ≡ length rs
-  count = length-map rs (careAt n q)
-
-  pub stable-broken : (b i : ℕ) → i ≡ firstM q care want → (i ≡ length rs → ⊥) → Broken i ≡ stableVerdict n rs m b
-  unfolding stableVerdict stableNeeds capped
-  stable-broken b i e ne =
-      let z : model? rs (has m) ≡ false = sym model-is ∙ ne-eqb (firstM q care want) (length care) (λ x. ne (e ∙ x ∙ count)) in
-      rw (e ∙ first-is, z)
-
-  pub stable-walked : (b : ℕ) (v : Verdict) → m < 2 ^ n → firstM q care want ≡ length rs → v ≡ capped b (stableWalkM (gatherCare care want) (gatherWant care want) q) → verdictAt n v ≡ stableVerdict n rs m b
-  unfolding stableVerdict stableNeeds
-  stable-walked b v inside e h =
-      let z : model? rs (has m) ≡ true = sym model-is ∙ eq-eqb (firstM q care want) (length care) (e ∙ sym count) in
-      ap (verdictAt n) (h ∙ ap (capped b) (gather-walk care want q (length-map rs (wantAt n q) ∙ sym count)))
-      ∙ sym (capped-at n b (stableWalkM care want q))
-      ∙ ap (capped b) (sym (stable-walk-at n rs below m inside))
-      ∙ ap (λ (p : Bool). capped b (cond p (search (λ s. model? (reduct rs (has m)) (has s)) (stableWalk n m) 0) (Broken (firstBroken rs (has m))))) (sym z)

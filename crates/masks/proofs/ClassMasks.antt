@@ -3,7 +3,7 @@ use Prim.Native.Nat.{ℕ, zero, suc, _+_, _-_, _≤_, _<_}
 use mathlib.Core.Path.{_≡_, refl, sym, ap, ap₂, _∙_, subst}
 use mathlib.Core.Logic.{_↔_}
 use mathlib.Core.Bool.{Bool, true, false, not, cond, _&&_, _||_}
-use mathlib.Core.List.{List, [], _∷_, map}
+use mathlib.Core.List.{List, [], map}
 use native.Mathlib.Omega.{arith}
 use lib.Dec.{T, eqb, eqb→eq}
 use lib.ListN.{length, getD}
@@ -14,6 +14,7 @@ use Rattle.rules.specs.Preferred.{ofClass, same?, agree?, within?, spares?}
 use Rattle.rules.proofs.Booleans.{bool-ext, T-imp, T-imp-out}
 use Rattle.rules.specs.Renumbering.{SameAtoms}
 use Rattle.rules.proofs.Lists.{all-imp, all-at}
+use Rattle.rules.proofs.MappedLists.{every-map}
 use Rattle.rules.proofs.Preferred.{all-of-class}
 use Rattle.places.specs.Places.{mirror}
 use Rattle.stores.specs.Program.{roleOf, RoleForm}
@@ -42,18 +43,13 @@ within-mask xs s m =
     let r = part-of s m (maskOf xs) in
     bool-ext (within? xs s m) _ (λ h. r .1 (λ i t. T-imp-out (has s i) (has m i) (q .0 h i t))) (λ h. q .1 (λ i t. T-imp (has s i) (has m i) (r .0 h i t)))
 
--- a test of every atom, each at its bit
-every-at : (f : ℕ → ℕ) (t u : ℕ → Bool) (xs : List ℕ) → All (λ a. t (f a) ≡ u a) xs → every t (map f xs) ≡ every u xs
-every-at f t u [] h = refl
-every-at f t u (a ∷ xs) h = ap₂ (λ (x y : Bool). x && y) (h .0) (every-at f t u xs (h .1))
-
 pub class-below : (ws : List ℕ) (w : ℕ) → All (λ a. a < length ws) (ofClass ws w)
 class-below ws w = all-of-class ws w (λ a. a < length ws) .1 (λ a c. c .0)
 
 -- s and m at their places p and q
 module _ (n s m p q : ℕ) (same-s : SameAtoms (mirror n) n s p) (same-m : SameAtoms (mirror n) n m q) where
   moved : (t : Bool → Bool → Bool) (xs : List ℕ) → All (λ a. a < n) xs → every (λ a. t (has s a) (has m a)) xs ≡ every (λ a. t (has p a) (has q a)) (map (mirror n) xs)
-  moved t xs h = sym (every-at (mirror n) (λ a. t (has p a) (has q a)) (λ a. t (has s a) (has m a)) xs (all-imp (λ a. a < n) _ (λ a l. ap₂ t (same-s a l) (same-m a l)) xs h))
+  moved t xs h = sym (every-map (mirror n) (λ a. t (has p a) (has q a)) (λ a. t (has s a) (has m a)) xs (all-imp (λ a. a < n) _ (λ a l. ap₂ t (same-s a l) (same-m a l)) xs h))
 
   pub agree-at : (xs : List ℕ) → All (λ a. a < n) xs → agree? xs s m ≡ agreeM q p (placeMask n xs)
   agree-at xs h = moved same? xs h ∙ agree-mask (map (mirror n) xs) p q

@@ -94,11 +94,12 @@ module _ (kind : Kind) (ws : List ℕ) (number extra budget : ℕ) where
 
 -- what the check tells of an answer
 
-pub record Passes (kind : Kind) (ws : List ℕ) (number extra : ℕ) : Type 0 where
+pub record Passes (kind : Kind) (ws : List ℕ) (number extra budget : ℕ) : Type 0 where
   pub store : StoreOf ws (decode ws)
   pub is-kind : decode ws .kind ≡ kind
   pub few : decode ws .atoms ≤ walkAtoms
   pub inside : number < 2 ^ decode ws .atoms + extra
+  pub allowed : budget ≤ budgetLimit
 
 -- the four tests in their order
 abbrev tests : {A : Type 0} → (Refusal → A) → A → Bool → Bool → Bool → Bool → A
@@ -135,11 +136,11 @@ module _ {A : Type 0} (refuse : Refusal → A) (kind : Kind) (ws : List ℕ) (in
     all-four : (isOf kind (ruleStore ws) ≡ true) × (leb (decode ws .atoms) walkAtoms ≡ true) × (ltb number (2 ^ decode ws .atoms + extra) ≡ true) × (leb budget budgetLimit ≡ true)
     all-four = all-pass (isOf kind (ruleStore ws)) (leb (decode ws .atoms) walkAtoms) (ltb number (2 ^ decode ws .atoms + extra)) (leb budget budgetLimit) (sym e ∙ q)
 
-    pub call-passes : Passes kind ws number extra
+    pub call-passes : Passes kind ws number extra budget
     call-passes =
         let t = all-four in
         let k = of-kind ws kind (is-of-kind kind (ruleStore ws) (t .0)) in
-        record { store = k .0; is-kind = k .1; few = leb-true (decode ws .atoms) walkAtoms (t .1); inside = ltb-true number (2 ^ decode ws .atoms + extra) (t .2) }
+        record { store = k .0; is-kind = k .1; few = leb-true (decode ws .atoms) walkAtoms (t .1); inside = ltb-true number (2 ^ decode ws .atoms + extra) (t .2); allowed = leb-true budget budgetLimit (t .3) }
 
     pub answer-told : (v : A) → v ≡ answer → v ≡ guarded refuse kind ws inside budget answer
     answer-told v h =
@@ -155,8 +156,5 @@ below-top number p = ap (ltb number) (add-zero p)
 pub up-to-top : (number p : ℕ) → ltb number (p + 1) ≡ leb number p
 up-to-top number p = ap (ltb number) (add-one p) ∙ leb·suc-suc number p
 
-pub start-inside : {kind : Kind} {ws : List ℕ} {start : ℕ} → Passes kind ws start 1 → start ≤ 2 ^ decode ws .atoms
-start-inside h = let l = h .inside in omega arith
-
-pub set-inside : {kind : Kind} {ws : List ℕ} {set : ℕ} → Passes kind ws set 0 → set < 2 ^ decode ws .atoms
+pub set-inside : {kind : Kind} {ws : List ℕ} {set budget : ℕ} → Passes kind ws set 0 budget → set < 2 ^ decode ws .atoms
 set-inside h = let l = h .inside in omega arith

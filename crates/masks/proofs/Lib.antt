@@ -1,17 +1,15 @@
--- The laws of masks, of subsets, and of a call's checks.
+-- The laws of masks, and of a call's checks.
 pub mod Bits
 pub mod MaskBits
 pub mod RuleMasks
 pub mod ClassMasks
-pub mod LowestBits
+pub mod MaskSizes
 pub mod MaskLoops
 pub mod BrokenRules
 pub mod RulesFill
 pub mod ClassFill
-pub mod Subsets
-pub mod Steps
-pub mod VerdictMasks
+pub mod AnswersAt
+pub mod RulesAt
 pub mod CheckedStore
 pub mod FilledMasks
 pub mod Guarding
-pub mod AnswersAt

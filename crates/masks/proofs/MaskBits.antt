@@ -1,19 +1,19 @@
 -- Masks by their members: what the tests of two masks say of atoms, and the mask of a list.
-use Prim.Native.Nat.{ℕ, zero, suc, _/_, _%_, _^_, min, max}
+use Prim.Native.Nat.{ℕ, zero, suc, _+_, _-_, _/_, _%_, _^_, min, max}
 use mathlib.Core.Path.{_≡_, refl, sym, ap, _∙_, subst}
 use mathlib.Core.Logic.{_⊎_, inl, inr, _↔_}
-use mathlib.Core.Bool.{Bool, true, false, not, _&&_, _||_}
+use mathlib.Core.Bool.{Bool, true, false, not, cond, _&&_, _||_}
 use mathlib.Core.List.{List, [], _∷_}
 use native.Mathlib.Nat.{pow-suc, mul-div-cancel, mul-mod-left, zero-lt-suc}
 use native.Mathlib.Omega.{arith}
 use lib.Dec.{T, eqb, eqb→eq}
-use lib.Bits.{bitAnd, bitOr}
+use lib.Bits.{bitAnd, bitOr, bitXor}
 use Rattle.rules.specs.Lists.{every, some}
 use Rattle.rules.specs.Sets.{has}
 use Rattle.rules.proofs.Booleans.{bool-ext, eq→eqb, T-of, T-and, T-and-l, T-and-r, T-or, T-or-out, T-not-in, T-not-out}
 use Rattle.rules.proofs.Sets.{set-ext}
 use Rattle.masks.specs.Masks.{maskOf}
-use Rattle.masks.proofs.Bits.{bit, bit-zero, bit-suc, bit-lt, bit-of-zero, bit-and, bit-or, below-two}
+use Rattle.masks.proofs.Bits.{bit, bit-zero, bit-suc, bit-lt, bit-of-zero, bit-and, bit-or, bit-xor, below-two}
 
 -- the bit operations, member by member
 
@@ -34,6 +34,15 @@ has-and a b i = ap (λ (y : ℕ). eqb y 1) (bit-and a b i) ∙ min-test (bit a i
 
 pub has-or : (a b i : ℕ) → has (bitOr a b) i ≡ (has a i || has b i)
 has-or a b i = ap (λ (y : ℕ). eqb y 1) (bit-or a b i) ∙ max-test (bit a i) (bit b i) (below-two (bit a i) (bit-lt a i)) (below-two (bit b i) (bit-lt b i))
+
+xor-test : (x y : ℕ) → (x ≡ 0) ⊎ (x ≡ 1) → (y ≡ 0) ⊎ (y ≡ 1) → eqb ((x - y) + (y - x)) 1 ≡ cond (eqb x 1) (not (eqb y 1)) (eqb y 1)
+xor-test x y (inl e) (inl f) = rw (e, f)
+xor-test x y (inl e) (inr f) = rw (e, f)
+xor-test x y (inr e) (inl f) = rw (e, f)
+xor-test x y (inr e) (inr f) = rw (e, f)
+
+pub has-xor : (a b i : ℕ) → has (bitXor a b) i ≡ cond (has a i) (not (has b i)) (has b i)
+has-xor a b i = ap (λ (y : ℕ). eqb y 1) (bit-xor a b i) ∙ xor-test (bit a i) (bit b i) (below-two (bit a i) (bit-lt a i)) (below-two (bit b i) (bit-lt b i))
 
 pub none-in-zero : (i : ℕ) → T (has 0 i) → ⊥
 none-in-zero i h = let e : bit 0 i ≡ 1 = eqb→eq (bit 0 i) 1 h in omega (arith, bit-of-zero i)
@@ -107,6 +116,12 @@ disjoint s h = let r = same-members (bitAnd s h) 0 in (
       (λ t. let b = T-of (has-and s h i) t in absurd (f i (T-and-r (has s i) (has h i) b) (T-and-l (has s i) (has h i) b)))
       (λ t. absurd (none-in-zero i t))),
 )
+
+-- the mask of one atom tells whether it is in m
+pub bit-test : (m a : ℕ) → eqb (bitAnd m (2 ^ a)) 0 ≡ not (has m a)
+bit-test m a = bool-ext (eqb (bitAnd m (2 ^ a)) 0) (not (has m a))
+    (λ t. T-not-in (has m a) (λ k. disjoint m (2 ^ a) .0 t a (has-own a) k))
+    (λ t. disjoint m (2 ^ a) .1 (λ i h k. T-not-out (has m a) t (subst (λ (x : ℕ). T (has m x)) (has-only a i h) k)))
 
 -- s and m have the same of c
 pub agrees : (s m c : ℕ) → T (eqb (bitAnd s c) (bitAnd m c)) ↔ ((i : ℕ) → T (has c i) → has s i ≡ has m i)

@@ -1,22 +1,22 @@
 -- What the loops over masks keep.
 use Prim.Native.Nat.{ℕ, suc, _+_, _-_, _*_, _%_, _^_, _≤_, _<_, max}
-use mathlib.Core.Path.{_≡_, refl, sym, ap, ap₂, _∙_, subst}
+use mathlib.Core.Path.{_≡_, sym, ap, ap₂, _∙_, subst}
 use mathlib.Core.Bool.{Bool, false, not, cond}
-use mathlib.Core.List.{List, [], _∷_, _++_, append-nil}
-use native.Mathlib.Nat.{add-zero, sub-zero, mod-eq-of-lt, one-mul}
+use mathlib.Core.List.{List, []}
+use native.Mathlib.Nat.{mod-eq-of-lt, one-mul}
 use native.Mathlib.Numerals.{add-one}
 use native.Mathlib.Omega.{arith}
 use lib.Dec.{eqb}
 use lib.Pow.{pow-lt, pow-pos}
 use lib.Bits.{bitAnd, bitOr, or-zero-l, or-zero-r}
-use lib.ListN.{length, getD, take, drop, set, length-set, drop-of-length-le}
-use lib.Seq.{drop-cons, drop-drop, getD-drop, drop-set-lt, take-suc-set, append-snoc}
+use lib.ListN.{length, getD, drop, drop-of-length-le}
+use lib.Seq.{drop-cons}
 use borrow.Author.Tests.{ne-eqb, eq-eqb}
 use Rattle.rules.specs.Lists.{All, keep}
 use Rattle.rules.proofs.Lists.{all-at}
 use Rattle.rules.specs.Rules.{countIf}
 use Rattle.places.specs.Places.{mirror}
-use Rattle.masks.specs.Masks.{maskOf, placeMask, firstM, agreeM, withinM, sparesM, gatherCare, gatherWant}
+use Rattle.masks.specs.Masks.{maskOf, placeMask, firstM, agreeM, withinM, sparesM}
 use Rattle.masks.proofs.Bits.{bit, bit-or, ext}
 
 -- 1 << n in a u64
@@ -104,114 +104,3 @@ module _ (m s : ℕ) (ks : List ℕ) where
   spares-more i h e f =
       rw (add-one i)
       (e ∙ spares-cons i h ∙ ap (λ (t : Bool). cond t (sparesM m s (drop (suc i) ks)) (withinM m s (getD ks i 0))) (eq-eqb _ _ f))
-
--- gathering in place: `kept` entries of the first j stand in front, and the entries from j on are as they were
-
-next-entry : (l : List ℕ) (rules j : ℕ) → j < rules → rules ≤ length l → take (rules - j) (drop j l) ≡ getD l j 0 ∷ take (rules - (j + 1)) (drop (j + 1) l)
-next-entry l rules j h g =
-    let e : rules - j ≡ suc (rules - (j + 1)) = omega arith in
-    let k : j < length l = omega arith in
-    let n : suc j ≡ j + 1 = omega arith in
-    ap₂ take e (drop-cons l j 0 k) ∙ ap (λ (i : ℕ). getD l j 0 ∷ take (rules - (j + 1)) (drop i l)) n
-
-same-entry : (l m : List ℕ) (j : ℕ) → drop j l ≡ drop j m → getD l j 0 ≡ getD m j 0
-same-entry l m j e = ap (λ (i : ℕ). getD l i 0) (sym (add-zero j)) ∙ sym (getD-drop j l 0 0) ∙ ap (λ (x : List ℕ). getD x 0 0) e ∙ getD-drop j m 0 0 ∙ ap (λ (i : ℕ). getD m i 0) (add-zero j)
-
-drop-more : (l m : List ℕ) (j : ℕ) → drop j l ≡ drop j m → drop (j + 1) l ≡ drop (j + 1) m
-drop-more l m j e = sym (drop-drop 1 j l) ∙ ap (drop 1) e ∙ drop-drop 1 j m
-
-put-front : (l r : List ℕ) (k v : ℕ) → k < length l → take k l ++ (v ∷ r) ≡ take (k + 1) (set l k v) ++ r
-put-front l r k v h =
-    sym (append-snoc (take k l) v r) ∙ ap (λ (x : List ℕ). x ++ r) (sym (take-suc-set l k v h))
-    ∙ ap (λ (i : ℕ). take i (set l k v) ++ r) (sym (add-one k))
-
-module _ (c₀ w₀ : List ℕ) (rules : ℕ) where
-  pub record Gathered (cs ws : List ℕ) (kept j : ℕ) : Type 0 where
-    pub few : kept ≤ j
-    pub inside : j ≤ rules
-    pub cares : gatherCare (take rules c₀) (take rules w₀) ≡ take kept cs ++ gatherCare (take (rules - j) (drop j c₀)) (take (rules - j) (drop j w₀))
-    pub wants : gatherWant (take rules c₀) (take rules w₀) ≡ take kept ws ++ gatherWant (take (rules - j) (drop j c₀)) (take (rules - j) (drop j w₀))
-    pub rest-cares : drop j cs ≡ drop j c₀
-    pub rest-wants : drop j ws ≡ drop j w₀
-    pub same-cares : length cs ≡ length c₀
-    pub same-wants : length ws ≡ length w₀
-
-  pub gather-begins : Gathered c₀ w₀ 0 0
-  gather-begins = record {
-    few = omega arith;
-    inside = omega arith;
-    cares = ap (λ (k : ℕ). gatherCare (take k c₀) (take k w₀)) (sym (sub-zero rules));
-    wants = ap (λ (k : ℕ). gatherWant (take k c₀) (take k w₀)) (sym (sub-zero rules));
-    rest-cares = refl;
-    rest-wants = refl;
-    same-cares = refl;
-    same-wants = refl;
-  }
-
-  module _ (cs ws : List ℕ) (kept j : ℕ) (g : Gathered cs ws kept j) (l : j < rules) (long : (rules ≤ length c₀) × (rules ≤ length w₀)) where
-    abbrev C : ℕ
-    C = getD cs j 0
-
-    abbrev W : ℕ
-    W = getD ws j 0
-
-    cares-left : gatherCare (take (rules - j) (drop j c₀)) (take (rules - j) (drop j w₀)) ≡ keep (eqb (bitAnd W C) W) C (gatherCare (take (rules - (j + 1)) (drop (j + 1) c₀)) (take (rules - (j + 1)) (drop (j + 1) w₀)))
-    unfolding gatherCare
-    cares-left = rw (next-entry c₀ rules j l (long .0), next-entry w₀ rules j l (long .1), same-entry cs c₀ j (g .rest-cares), same-entry ws w₀ j (g .rest-wants))
-
-    wants-left : gatherWant (take (rules - j) (drop j c₀)) (take (rules - j) (drop j w₀)) ≡ keep (eqb (bitAnd W C) W) W (gatherWant (take (rules - (j + 1)) (drop (j + 1) c₀)) (take (rules - (j + 1)) (drop (j + 1) w₀)))
-    unfolding gatherWant
-    wants-left = rw (next-entry c₀ rules j l (long .0), next-entry w₀ rules j l (long .1), same-entry cs c₀ j (g .rest-cares), same-entry ws w₀ j (g .rest-wants))
-
-    abbrev CareRest : List ℕ
-    CareRest = gatherCare (take (rules - (j + 1)) (drop (j + 1) c₀)) (take (rules - (j + 1)) (drop (j + 1) w₀))
-
-    abbrev WantRest : List ℕ
-    WantRest = gatherWant (take (rules - (j + 1)) (drop (j + 1) c₀)) (take (rules - (j + 1)) (drop (j + 1) w₀))
-
-    pub gather-keeps : bitAnd W C ≡ W → Gathered (set cs kept C) (set ws kept W) (kept + 1) (j + 1)
-    gather-keeps e =
-        let f = g .few in
-        let a = g .same-cares in
-        let b = g .same-wants in
-        record {
-          few = omega arith;
-          inside = omega arith;
-          cares = g .cares ∙ ap (λ (x : List ℕ). take kept cs ++ x) (cares-left ∙ ap (λ (p : Bool). keep p C CareRest) (eq-eqb (bitAnd W C) W e)) ∙ put-front cs CareRest kept C (omega arith);
-          wants = g .wants ∙ ap (λ (x : List ℕ). take kept ws ++ x) (wants-left ∙ ap (λ (p : Bool). keep p W WantRest) (eq-eqb (bitAnd W C) W e)) ∙ put-front ws WantRest kept W (omega arith);
-          rest-cares = drop-set-lt (j + 1) cs kept C (omega arith) ∙ drop-more cs c₀ j (g .rest-cares);
-          rest-wants = drop-set-lt (j + 1) ws kept W (omega arith) ∙ drop-more ws w₀ j (g .rest-wants);
-          same-cares = length-set cs kept C ∙ a;
-          same-wants = length-set ws kept W ∙ b;
-        }
-
-    pub gather-skips : (bitAnd W C ≡ W → ⊥) → Gathered cs ws kept (j + 1)
-    gather-skips e =
-        let f = g .few in
-        record {
-          few = omega arith;
-          inside = omega arith;
-          cares = g .cares ∙ ap (λ (x : List ℕ). take kept cs ++ x) (cares-left ∙ ap (λ (p : Bool). keep p C CareRest) (ne-eqb (bitAnd W C) W e));
-          wants = g .wants ∙ ap (λ (x : List ℕ). take kept ws ++ x) (wants-left ∙ ap (λ (p : Bool). keep p W WantRest) (ne-eqb (bitAnd W C) W e));
-          rest-cares = drop-more cs c₀ j (g .rest-cares);
-          rest-wants = drop-more ws w₀ j (g .rest-wants);
-          same-cares = g .same-cares;
-          same-wants = g .same-wants;
-        }
-
-  -- where the entries to write lie
-  pub gather-room : (cs ws : List ℕ) (kept j : ℕ) → Gathered cs ws kept j → j < rules → (rules ≤ length c₀) × (rules ≤ length w₀) → (kept < length cs) × (kept < length ws)
-  gather-room cs ws kept j g l long = let f = g .few in let a = g .same-cares in let b = g .same-wants in (omega arith, omega arith)
-
-  nothing-left : (l : List ℕ) (j : ℕ) → rules ≤ j → take (rules - j) (drop j l) ≡ []
-  nothing-left l j h = let e : rules - j ≡ 0 = omega arith in ap (λ (k : ℕ). take k (drop j l)) e
-
-  pub gather-ends : (cs ws : List ℕ) (kept j : ℕ) → Gathered cs ws kept j → rules ≤ j
-      → (take kept cs ≡ gatherCare (take rules c₀) (take rules w₀)) × ((take kept ws ≡ gatherWant (take rules c₀) (take rules w₀)) × (kept ≤ rules))
-  unfolding gatherCare gatherWant
-  gather-ends cs ws kept j g h =
-      let f = g .few in
-      let i = g .inside in (
-        sym (g .cares ∙ ap₂ (λ (x y : List ℕ). take kept cs ++ gatherCare x y) (nothing-left c₀ j h) (nothing-left w₀ j h) ∙ append-nil (take kept cs)),
-        (sym (g .wants ∙ ap₂ (λ (x y : List ℕ). take kept ws ++ gatherWant x y) (nothing-left c₀ j h) (nothing-left w₀ j h) ∙ append-nil (take kept ws)), omega arith),
-      )

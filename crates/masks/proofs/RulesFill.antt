@@ -1,7 +1,7 @@
 -- The rules of a store, read one after another.
 use Prim.Native.Nat.{ℕ, zero, suc, _+_, _-_, _≤_, _<_}
 use mathlib.Core.Path.{_≡_, refl, sym, ap, ap₂, _∙_, subst}
-use mathlib.Core.Bool.{Bool, true, false, cond, _&&_}
+use mathlib.Core.Bool.{Bool, true, false, cond}
 use mathlib.Core.List.{List, [], _∷_, _++_, map}
 use native.Mathlib.Nat.{sub-zero}
 use native.Mathlib.Numerals.{add-one}
@@ -15,7 +15,7 @@ use Rattle.rules.proofs.Lists.{part-sized, part-rest}
 use Rattle.stores.specs.RuleStore.{heads, bodies, nots, places, ruleAt, rulesFrom}
 use Rattle.stores.specs.StoredRules.{StoredRule, StoredRules}
 use Rattle.stores.proofs.RuleStores.{rules-count}
-use Rattle.masks.specs.Masks.{placeMask, keptBy, breakable, careOf, wantOf, careAt, wantAt}
+use Rattle.masks.specs.Masks.{placeMask, breakable, careOf, wantOf, careAt, wantAt}
 
 -- one rule, its three lists as the code takes them
 
@@ -51,37 +51,25 @@ module _ (ws : List ℕ) where
     pub nots-below : All (λ a. a < n) notPart
     nots-below = subst (All (λ a. a < n)) (sym nots-are) (h .nots)
 
-  -- its masks, and the two tests
-  module _ (n m hm bm nm : ℕ) (eh : hm ≡ placeMask n headPart) (eb : bm ≡ placeMask n bodyPart) (en : nm ≡ placeMask n notPart) (p q : Bool) (ep : p ≡ keptBy m nm) (eq : q ≡ breakable hm bm) where
-    care-is : cond (p && q) (bitOr hm bm) 0 ≡ careAt n m (ruleAt ws)
+  -- its masks, and the test
+  module _ (n hm bm : ℕ) (eh : hm ≡ placeMask n headPart) (eb : bm ≡ placeMask n bodyPart) (q : Bool) (eq : q ≡ breakable hm bm) where
+    care-is : cond q (bitOr hm bm) 0 ≡ careAt n (ruleAt ws)
     unfolding careOf
     care-is =
-        (λ i. cond (ep i && eq i) (bitOr hm bm) 0)
-        ∙ λ i. cond (keptBy m ((en ∙ ap (placeMask n) nots-are) i) && breakable ((eh ∙ ap (placeMask n) head-is) i) ((eb ∙ ap (placeMask n) body-is) i)) (bitOr ((eh ∙ ap (placeMask n) head-is) i) ((eb ∙ ap (placeMask n) body-is) i)) 0
+        (λ i. cond (eq i) (bitOr hm bm) 0)
+        ∙ λ i. cond (breakable ((eh ∙ ap (placeMask n) head-is) i) ((eb ∙ ap (placeMask n) body-is) i)) (bitOr ((eh ∙ ap (placeMask n) head-is) i) ((eb ∙ ap (placeMask n) body-is) i)) 0
 
-    want-is : cond (p && q) bm 1 ≡ wantAt n m (ruleAt ws)
+    want-is : cond q bm 1 ≡ wantAt n (ruleAt ws)
     unfolding wantOf
     want-is =
-        (λ i. cond (ep i && eq i) bm 1)
-        ∙ λ i. cond (keptBy m ((en ∙ ap (placeMask n) nots-are) i) && breakable ((eh ∙ ap (placeMask n) head-is) i) ((eb ∙ ap (placeMask n) body-is) i)) ((eb ∙ ap (placeMask n) body-is) i) 1
+        (λ i. cond (eq i) bm 1)
+        ∙ λ i. cond (breakable ((eh ∙ ap (placeMask n) head-is) i) ((eb ∙ ap (placeMask n) body-is) i)) ((eb ∙ ap (placeMask n) body-is) i) 1
 
-    never : (p && q) ≡ false → (0 ≡ careAt n m (ruleAt ws)) × (1 ≡ wantAt n m (ruleAt ws))
-    never e = (ap (λ (b : Bool). cond b (bitOr hm bm) 0) (sym e) ∙ care-is, ap (λ (b : Bool). cond b bm 1) (sym e) ∙ want-is)
+    pub read-unbreakable : q ≡ false → (0 ≡ careAt n (ruleAt ws)) × (1 ≡ wantAt n (ruleAt ws))
+    read-unbreakable e = (ap (λ (b : Bool). cond b (bitOr hm bm) 0) (sym e) ∙ care-is, ap (λ (b : Bool). cond b bm 1) (sym e) ∙ want-is)
 
-    pub read-unbreakable : q ≡ false → (0 ≡ careAt n m (ruleAt ws)) × (1 ≡ wantAt n m (ruleAt ws))
-    read-unbreakable e = never (ap (λ (b : Bool). p && b) e ∙ and-false p)
-      where
-        and-false : (b : Bool) → (b && false) ≡ false
-        and-false true = refl
-        and-false false = refl
-
-    pub read-dropped : p ≡ false → (0 ≡ careAt n m (ruleAt ws)) × (1 ≡ wantAt n m (ruleAt ws))
-    read-dropped e = never (ap (λ (b : Bool). b && q) e)
-
-    pub read-asked : p ≡ true → q ≡ true → (bitOr hm bm ≡ careAt n m (ruleAt ws)) × (bm ≡ wantAt n m (ruleAt ws))
-    read-asked e f =
-        let t : (p && q) ≡ true = ap₂ (λ (x y : Bool). x && y) e f in
-        (ap (λ (b : Bool). cond b (bitOr hm bm) 0) (sym t) ∙ care-is, ap (λ (b : Bool). cond b bm 1) (sym t) ∙ want-is)
+    pub read-breakable : q ≡ true → (bitOr hm bm ≡ careAt n (ruleAt ws)) × (bm ≡ wantAt n (ruleAt ws))
+    read-breakable e = (ap (λ (b : Bool). cond b (bitOr hm bm) 0) (sym e) ∙ care-is, ap (λ (b : Bool). cond b bm 1) (sym e) ∙ want-is)
 
 -- filling the masks of one rule after another
 
@@ -103,7 +91,7 @@ part-more d s j v hd hs e =
     ∙ ap (λ (l : List ℕ). l ++ drop (suc j) d) (sym (take-suc s j 0 hs))
     ∙ ap (λ (k : ℕ). take k s ++ drop k d) (sym (add-one j))
 
-module _ (ws : List ℕ) (rules n m : ℕ) (c₀ w₀ : List ℕ) where
+module _ (ws : List ℕ) (rules n : ℕ) (c₀ w₀ : List ℕ) where
   abbrev All-rules : List (Rule ℕ)
   All-rules = rulesFrom rules ws
 
@@ -111,8 +99,8 @@ module _ (ws : List ℕ) (rules n m : ℕ) (c₀ w₀ : List ℕ) where
     pub inside : j ≤ rules
     pub stored : StoredRules n (rules - j) (drop at ws)
     pub ends : drop j (rulesFrom rules ws) ≡ rulesFrom (rules - j) (drop at ws)
-    pub care-part : cs ≡ part c₀ (map (careAt n m) (rulesFrom rules ws)) j
-    pub want-part : wants ≡ part w₀ (map (wantAt n m) (rulesFrom rules ws)) j
+    pub care-part : cs ≡ part c₀ (map (careAt n) (rulesFrom rules ws)) j
+    pub want-part : wants ≡ part w₀ (map (wantAt n) (rulesFrom rules ws)) j
     pub same-care : length cs ≡ length c₀
     pub same-want : length wants ≡ length w₀
 
@@ -169,13 +157,13 @@ module _ (ws : List ℕ) (rules n m : ℕ) (c₀ w₀ : List ℕ) where
     rest-stored : StoredRules n (rules - (j + 1)) (drop (at + (3 + places front)) ws)
     rest-stored = subst (StoredRules n (rules - (j + 1))) (drop-drop (3 + places (drop at ws)) at ws ∙ ap (λ (x : List ℕ). drop (at + (3 + places x)) ws) (sym (part-rest at ws))) (stored-here .1)
 
-    pub fill-more : (rules ≤ length c₀) × (rules ≤ length w₀) → (c w size : ℕ) → size ≡ 3 + places front → (c ≡ careAt n m (ruleAt front)) × (w ≡ wantAt n m (ruleAt front)) → Filling (set cs j c) (set wants j w) (at + size) (j + 1)
+    pub fill-more : (rules ≤ length c₀) × (rules ≤ length w₀) → (c w size : ℕ) → size ≡ 3 + places front → (c ≡ careAt n (ruleAt front)) × (w ≡ wantAt n (ruleAt front)) → Filling (set cs j c) (set wants j w) (at + size) (j + 1)
     fill-more long c w size e r = subst (λ (x : ℕ). Filling (set cs j c) (set wants j w) (at + x) (j + 1)) (sym e) (record {
       inside = omega arith;
       stored = rest-stored;
       ends = after;
-      care-part = ap (λ (d : List ℕ). set d j c) (f .care-part) ∙ part-more c₀ (map (careAt n m) All-rules) j c (omega arith) (in-map (careAt n m)) (r .0 ∙ entry (careAt n m));
-      want-part = ap (λ (d : List ℕ). set d j w) (f .want-part) ∙ part-more w₀ (map (wantAt n m) All-rules) j w (omega arith) (in-map (wantAt n m)) (r .1 ∙ entry (wantAt n m));
+      care-part = ap (λ (d : List ℕ). set d j c) (f .care-part) ∙ part-more c₀ (map (careAt n) All-rules) j c (omega arith) (in-map (careAt n)) (r .0 ∙ entry (careAt n));
+      want-part = ap (λ (d : List ℕ). set d j w) (f .want-part) ∙ part-more w₀ (map (wantAt n) All-rules) j w (omega arith) (in-map (wantAt n)) (r .1 ∙ entry (wantAt n));
       same-care = length-set cs j c ∙ f .same-care;
       same-want = length-set wants j w ∙ f .same-want;
     })
@@ -189,11 +177,11 @@ module _ (ws : List ℕ) (rules n m : ℕ) (c₀ w₀ : List ℕ) where
       ap₂ (λ (x : List ℕ) (k : ℕ). x ++ drop k d) (take-all rules (map g All-rules) (omega arith)) (sym e)
 
   pub fill-ends : (cs wants : List ℕ) (at j : ℕ) → Filling cs wants at j → rules ≤ j
-      → (cs ≡ over (map (careAt n m) (rulesFrom rules ws)) c₀) × (wants ≡ over (map (wantAt n m) (rulesFrom rules ws)) w₀)
+      → (cs ≡ over (map (careAt n) (rulesFrom rules ws)) c₀) × (wants ≡ over (map (wantAt n) (rulesFrom rules ws)) w₀)
   fill-ends cs wants at j f l =
       let e : j ≡ rules = omega (arith, f .inside) in (
-        f .care-part ∙ ap (part c₀ (map (careAt n m) All-rules)) e ∙ whole c₀ (careAt n m),
-        f .want-part ∙ ap (part w₀ (map (wantAt n m) All-rules)) e ∙ whole w₀ (wantAt n m),
+        f .care-part ∙ ap (part c₀ (map (careAt n) All-rules)) e ∙ whole c₀ (careAt n),
+        f .want-part ∙ ap (part w₀ (map (wantAt n) All-rules)) e ∙ whole w₀ (wantAt n),
       )
 
 -- the front of what was filled

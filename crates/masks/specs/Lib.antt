@@ -1,4 +1,4 @@
--- Rules and classes as masks, and the subsets of a set by number.
+-- Rules and classes as masks, and answers over places.
 pub mod Masks
 pub mod FilledMasks
-pub mod Subsets
+pub mod AnswersAt

@@ -5,10 +5,9 @@ use walks::answers::Verdict;
 ghost use mathlib.Core.Path.{_≡_};
 ghost use Prim.Native.Nat.{_≤_};
 ghost use Rattle.kinds.specs.Limits.{walkAtoms};
-ghost use Rattle.masks.specs.Masks.{verdictAt};
-ghost use Rattle.masks.specs.FilledMasks.{nextAt};
+ghost use Rattle.masks.specs.AnswersAt.{verdictAt, nextAt};
 
-pub fn verdict_at(verdict: Verdict, atoms: u32) -> Verdict
+pub fn verdict_at(verdict: Verdict, atoms: usize) -> Verdict
     requires { ⌜ atoms ≤ walkAtoms ⌝ }
     ensures { λ r. ⌜ r ≡ verdictAt atoms verdict ⌝ }
 {
@@ -21,7 +20,7 @@ pub fn verdict_at(verdict: Verdict, atoms: u32) -> Verdict
     }
 }
 
-pub fn next_at(next: NextState, atoms: u32) -> NextState
+pub fn next_at(next: NextState, atoms: usize) -> NextState
     requires { ⌜ atoms ≤ walkAtoms ⌝ }
     ensures { λ r. ⌜ r ≡ nextAt atoms next ⌝ }
 {

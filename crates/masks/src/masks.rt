@@ -5,13 +5,13 @@ use stores::rule_words::rule_size;
 ghost use mathlib.Core.Path.{_≡_};
 ghost use mathlib.Core.List.{map};
 ghost use mathlib.Core.Bool.{cond};
-ghost use Prim.Native.Nat.{_<_, _≤_, _^_, min};
+ghost use Prim.Native.Nat.{_<_, _≤_, _^_};
 ghost use lib.Dec.{eqb};
-ghost use lib.ListN.{length, take, replicate};
+ghost use lib.ListN.{length, replicate};
 ghost use Rattle.kinds.specs.Limits.{classLimit, walkAtoms, fixed as fixedWord, ruleLimit};
 ghost use Rattle.rules.specs.Preferred.{ofClass};
 ghost use Rattle.stores.specs.RuleStore.{rulesFrom, StoreOf, decode, ruleAt};
-ghost use Rattle.masks.specs.Masks.{placeMask, careAt, wantAt, noted, classMasks, firstM, modelM, gatherCare, gatherWant, keptBy, breakable};
+ghost use Rattle.masks.specs.Masks.{placeMask, careAt, wantAt, noted, classMasks, firstM, breakable};
 ghost use Rattle.kinds.specs.declared.limits.Kind.the-variants.{Preference as KindPreference};
 ghost use Rattle.rules.specs.Lists.{All, over};
 ghost use Rattle.stores.specs.StoredRules.{StoredRule, StoredRules};
@@ -22,28 +22,17 @@ pub struct RuleMasks {
     pub want: u64,
 }
 
-// How much of the masks is filled, and the mask of the fixed atoms; `free` atoms are not fixed.
+// How much of the masks is filled, and the mask of the fixed atoms.
 pub struct Sizes {
-    pub atoms: u32,
-    pub classes: usize,
+    pub atoms: usize,
     pub rules: usize,
     pub fixed: u64,
-    pub free: u32,
 }
 
 pub fn wide(x: u16) -> usize
     ensures { λ r. ⌜ r ≡ x ⌝ }
 {
     x as usize
-}
-
-pub fn least(a: u64, b: u64) -> u64
-    ensures { λ r. ⌜ r ≡ min a b ⌝ }
-{
-    if a < b {
-        return a;
-    }
-    b
 }
 
 // One bit.
@@ -69,13 +58,6 @@ fn mask_of(atoms: &[u16], n: usize) -> u64
     m
 }
 
-// Whether the reduct by `of` keeps a rule with these `not` atoms.
-fn is_kept(of: u64, nots: u64) -> bool
-    ensures { λ r. ⌜ r ≡ keptBy of nots ⌝ }
-{
-    of & nots == 0
-}
-
 // Whether some set breaks a rule with this head and body.
 fn is_breakable(head: u64, body: u64) -> bool
     ensures { λ r. ⌜ r ≡ breakable head body ⌝ }
@@ -83,21 +65,16 @@ fn is_breakable(head: u64, body: u64) -> bool
     head & body == 0
 }
 
-// The rule at the front, of the reduct by `of`, a place among n atoms.
-fn read_rule(words: &[u16], of: u64, n: usize) -> RuleMasks
+// The rule at the front, of n atoms, its `not` list left out.
+fn read_rule(words: &[u16], n: usize) -> RuleMasks
     requires { ⌜ n ≤ walkAtoms ⌝ }
     requires { ⌜ StoredRule n (now words) ⌝ }
-    ensures { λ r. ⌜ (r .care ≡ careAt n of (ruleAt (now (words .entry)))) × (r .want ≡ wantAt n of (ruleAt (now (words .entry)))) ⌝ }
+    ensures { λ r. ⌜ (r .care ≡ careAt n (ruleAt (now (words .entry)))) × (r .want ≡ wantAt n (ruleAt (now (words .entry)))) ⌝ }
 {
     let body = 3 + words[0] as usize;
     let not = body + words[1] as usize;
-    let end = not + words[2] as usize;
     let heads = mask_of(&words[3..body], n);
     let bodies = mask_of(&words[body..not], n);
-    let nots = mask_of(&words[not..end], n);
-    if !is_kept(of, nots) {
-        return RuleMasks { care: 0, want: 1 };
-    }
     if !is_breakable(heads, bodies) {
         return RuleMasks { care: 0, want: 1 };
     }
@@ -107,53 +84,24 @@ fn read_rule(words: &[u16], of: u64, n: usize) -> RuleMasks
     }
 }
 
-// Fills the two masks of each rule, of the reduct by `of`, a place among n atoms; the first rule is at the front.
-pub fn fill_rules(
-    words: &[u16],
-    rules: usize,
-    of: u64,
-    n: usize,
-    care: &mut [u64],
-    want: &mut [u64],
-)
+// Fills the two masks of each rule, of n atoms, the `not` lists left out; the first rule is at the front.
+pub fn fill_rules(words: &[u16], rules: usize, n: usize, care: &mut [u64], want: &mut [u64])
     requires { ⌜ n ≤ walkAtoms ⌝ }
     requires { ⌜ StoredRules n rules (now words) ⌝ }
     requires { ⌜ (rules ≤ length (now care)) × (rules ≤ length (now want)) ⌝ }
-    ensures { λ _. ⌜ now (care .exit) ≡ over (map (careAt n of) (rulesFrom rules (now (words .entry)))) (now (care .entry)) ⌝ }
-    ensures { λ _. ⌜ now (want .exit) ≡ over (map (wantAt n of) (rulesFrom rules (now (words .entry)))) (now (want .entry)) ⌝ }
+    ensures { λ _. ⌜ now (care .exit) ≡ over (map (careAt n) (rulesFrom rules (now (words .entry)))) (now (care .entry)) ⌝ }
+    ensures { λ _. ⌜ now (want .exit) ≡ over (map (wantAt n) (rulesFrom rules (now (words .entry)))) (now (want .entry)) ⌝ }
 {
     let mut from = 0;
     let mut j = 0;
     while j < rules {
         let size = rule_size(&words[from..]);
-        let rule = read_rule(&words[from..], of, n);
+        let rule = read_rule(&words[from..], n);
         care[j] = rule.care;
         want[j] = rule.want;
         from += size;
         j += 1;
     }
-}
-
-// Moves the rules that some set breaks to the front and answers how many they are.
-pub fn gather(care: &mut [u64], want: &mut [u64], rules: usize) -> usize
-    requires { ⌜ (rules ≤ length (now care)) × (rules ≤ length (now want)) ⌝ }
-    ensures { λ r. ⌜ take r (now (care .exit)) ≡ gatherCare (take rules (now (care .entry))) (take rules (now (want .entry))) ⌝ }
-    ensures { λ r. ⌜ take r (now (want .exit)) ≡ gatherWant (take rules (now (care .entry))) (take rules (now (want .entry))) ⌝ }
-    ensures { λ r. ⌜ r ≤ rules ⌝ }
-{
-    let mut kept = 0;
-    let mut j = 0;
-    while j < rules {
-        let c = care[j];
-        let w = want[j];
-        j += 1;
-        if w & c == w {
-            care[kept] = c;
-            want[kept] = w;
-            kept += 1;
-        }
-    }
-    kept
 }
 
 // The number of the first rule that is broken at `set`, or the number of rules.
@@ -169,20 +117,6 @@ pub fn first_broken(care: &[u64], want: &[u64], set: u64) -> usize
         i += 1;
     }
     i
-}
-
-// The number of a rule that is broken at `set`, or the number of rules; rule `first` is looked at first.
-pub fn some_broken(care: &[u64], want: &[u64], set: u64, first: usize) -> usize
-    requires { ⌜ length (now want) ≡ length (now care) ⌝ }
-    ensures { λ r. ⌜ eqb r (length (now (care .entry))) ≡ modelM (now (care .entry)) (now (want .entry)) set ⌝ }
-    ensures { λ r. ⌜ r ≤ length (now (care .entry)) ⌝ }
-{
-    if first < care.len() {
-        if set & care[first] == want[first] {
-            return first;
-        }
-    }
-    first_broken(care, want, set)
 }
 
 // Puts an atom into the mask of its class; answers its bit where it is fixed.
@@ -229,17 +163,13 @@ pub fn fill_masks(words: &[u16], care: &mut [u64], want: &mut [u64], classes: &m
     ensures { λ r. ⌜ MasksOf (decode (now (words .entry))) (now (care .exit)) (now (want .exit)) (now (classes .exit)) r ⌝ }
 {
     let n = wide(words[1]);
-    let k = wide(words[2]);
     let rules = wide(words[3]);
     let first = 4 + n;
     let fixed = fill_classes(&words[4..first], classes);
-    fill_rules(&words[first..], rules, 0, n, care, want);
-    let atoms = n as u32;
+    fill_rules(&words[first..], rules, n, care, want);
     Sizes {
-        atoms: atoms,
-        classes: k,
+        atoms: n,
         rules: rules,
         fixed: fixed,
-        free: atoms - u64::count_ones(fixed),
     }
 }

@@ -48,10 +48,6 @@ pub map-flat : {A B C : Type 0} (f : B → C) (g : A → List B) (l : List A) �
 map-flat f g [] = refl
 map-flat {C} f g (x ∷ l) = map-append f (g x) (flat g l) ∙ ap (λ (r : List C). map f (g x) ++ r) (map-flat f g l)
 
-pub map-keep : {A B : Type 0} (f : A → B) (b : Bool) (x : A) (l : List A) → map f (keep b x l) ≡ keep b (f x) (map f l)
-map-keep f true x l = refl
-map-keep f false x l = refl
-
 pub all-each : {A : Type 0} (P : A → Type 0) → ((a : A) → P a) → (l : List A) → All P l
 all-each P f [] = tt
 all-each P f (x ∷ l) = (f x, all-each P f l)

@@ -3,15 +3,15 @@ use Prim.Native.Nat.{ℕ, zero, suc, _+_, _*_, _≤_, _<_}
 use native.Mathlib.Omega.{arith}
 use native.Mathlib.Decide.{ℕ-discrete}
 use mathlib.Core.Path.{_≡_, refl, sym, ap, _∙_}
-use mathlib.Core.List.{List, [], _∷_, map}
+use mathlib.Core.List.{List, [], _∷_}
 use mathlib.Core.Bool.{Bool, true, false, not}
 use mathlib.Core.Logic.{_⊎_, inl, inr}
 use lib.Dec.{T, eqb, eqb→eq}
 use lib.ListN.{length, length-append}
-use Rattle.rules.specs.Lists.{All, keep, filter, flat, from, sum}
+use Rattle.rules.specs.Lists.{keep, filter, flat, from, sum}
 use Rattle.rules.proofs.Booleans.{eq→eqb}
 use Rattle.rules.proofs.Sets.{digit}
-use Rattle.rules.proofs.Lists.{sum-app}
+use Rattle.rules.proofs.Lists.{sum-app, sum-eq}
 use Rattle.pairing.proofs.ListLaws.{all-each}
 
 module _ {A : Type 0} where
@@ -22,14 +22,6 @@ module _ {A : Type 0} where
   pub sum-const : (c : ℕ) (l : List A) → sum (λ a. c) l ≡ c * length l
   sum-const c [] = omega arith
   sum-const c (x ∷ l) = omega (arith, sum-const c l)
-
-  pub sum-twice : (f : A → ℕ) (l : List A) → sum (λ a. f a * 2) l ≡ 2 * sum f l
-  sum-twice f [] = refl
-  sum-twice f (x ∷ l) = omega (arith, sum-twice f l)
-
-  pub sum-eq : (f g : A → ℕ) (l : List A) → All (λ a. f a ≡ g a) l → sum f l ≡ sum g l
-  sum-eq f g [] h = refl
-  sum-eq f g (x ∷ l) h = omega (arith, h .0, sum-eq f g l (h .1))
 
   -- an entry that is kept or not
   pub length-keep : (b : Bool) (x : A) (l : List A) → length (keep b x l) ≡ digit b + length l
@@ -45,10 +37,6 @@ module _ {A : Type 0} where
   length-filter t (x ∷ l) = omega (arith, length-keep (t x) x (filter t l), length-filter t l)
 
 module _ {A B : Type 0} where
-  pub sum-map : (f : B → ℕ) (g : A → B) (l : List A) → sum f (map g l) ≡ sum (λ a. f (g a)) l
-  sum-map f g [] = refl
-  sum-map f g (x ∷ l) = omega (arith, sum-map f g l)
-
   pub sum-flat : (f : B → ℕ) (g : A → List B) (l : List A) → sum f (flat g l) ≡ sum (λ a. sum f (g a)) l
   sum-flat f g [] = refl
   sum-flat f g (x ∷ l) = omega (arith, sum-app f (g x) (flat g l), sum-flat f g l)

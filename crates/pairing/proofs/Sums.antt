@@ -13,14 +13,15 @@ use Rattle.rules.specs.Lists.{filter, from, sum}
 use Rattle.rules.specs.Rules.{Rule, occurrences, rename}
 use Rattle.rules.specs.Preferred.{ofClass}
 use Rattle.rules.proofs.Booleans.{eq→eqb}
-use Rattle.rules.proofs.Lists.{all-imp, all-from, length-from, sum-app}
+use Rattle.rules.proofs.Lists.{all-imp, all-from, length-from, sum-app, sum-eq, sum-twice}
+use Rattle.rules.proofs.MappedLists.{sum-map}
 use Rattle.rules.proofs.Sets.{digit}
 use Rattle.stores.specs.Program.{Program, ProgramForm}
 use Rattle.pairing.specs.Atoms.{Atom, original, S, originals, classWord, minimised?, unminimised?, varying?, fixed?, unfixed?, minimisedAtoms, fixedAtoms, unfixedAtoms, atomNumber}
 use Rattle.pairing.specs.Steps.{step1, step2, step3, step4, step5, step6, step7, step8, step9, step10, translation}
 use Rattle.pairing.specs.Translated.{translated, translatedRules, numbers, atomsSum, rulesSum, occurrencesSum}
 use Rattle.pairing.proofs.ListLaws.{all-each}
-use Rattle.pairing.proofs.SumLaws.{sum-add, sum-const, sum-eq, sum-map, sum-flat, sum-swap, length-flat, length-filter, length-parts, length-keep, sum-keep, sum-twice, digit-same, digit-other, met, met-not, met-once}
+use Rattle.pairing.proofs.SumLaws.{sum-add, sum-const, sum-flat, sum-swap, length-flat, length-filter, length-parts, length-keep, sum-keep, digit-same, digit-other, met, met-not, met-once}
 use Rattle.pairing.proofs.Fit.{Fit, Minimised, Inside, fit-of}
 use Rattle.pairing.proofs.Numbering.{count}
 

@@ -9,40 +9,31 @@ use native.Mathlib.Nat.{pow-suc}
 use native.Mathlib.Decide.{decLt}
 use lib.Dec.{T}
 use Rattle.rules.specs.Lists.{sum, from}
-use Rattle.rules.specs.Sets.{has, In, Out, Subset, ProperSubset}
+use Rattle.rules.specs.Sets.{has, In, Out}
 use Rattle.rules.specs.Renumbering.{Bijection, SameAtoms}
 use Rattle.rules.proofs.Booleans.{T-of}
-use Rattle.rules.proofs.Lists.{sum-app, from-append}
-use Rattle.rules.proofs.Sets.{has-suc, has-below, same-set, digit, first-digit, later-digits}
+use Rattle.rules.proofs.Lists.{all-from, sum-app, sum-eq, sum-twice, from-append}
+use Rattle.rules.proofs.MappedLists.{sum-map, from-suc}
+use Rattle.rules.proofs.Sets.{has-suc, same-set, digit, first-digit, later-digits}
 use Rattle.places.specs.Places.{Earlier, mirror, place, setAt, InPlaces}
-
-sum-shift : (f g : ℕ → ℕ) (s t c : ℕ) → ((i : ℕ) → i < c → f (s + i) ≡ g (t + i)) → sum f (from s c) ≡ sum g (from t c)
-sum-shift f g s t zero h = refl
-sum-shift f g s t (suc c) h =
-    let a : s + 0 ≡ s = omega arith in
-    let b : t + 0 ≡ t = omega arith in
-    ap₂ (λ (x y : ℕ). x + y) (sym (ap f a) ∙ h 0 (omega arith) ∙ ap g b)
-    (sum-shift f g (suc s) (suc t) c (λ i l.
-    let p : suc s + i ≡ s + suc i = omega arith in
-    let q : t + suc i ≡ suc t + i = omega arith in
-    ap f p ∙ h (suc i) (omega arith) ∙ ap g q))
 
 pub place-zero : (x : ℕ) → place 0 x ≡ 0
 unfolding place
 place-zero x = refl
 
+-- what the atoms of x weigh, one by one
+abbrev weights : ℕ → ℕ → ℕ → ℕ
+weights n x i = cond (has x i) (2 ^ mirror n i) 0
+
 pub place-suc : (n x : ℕ) → place (suc n) x ≡ cond (has x 0) (2 ^ n) 0 + place n (x / 2)
 unfolding place
 place-suc n x =
-    let z : suc n - 1 - 0 ≡ n = omega arith in
+    let z : mirror (suc n) 0 ≡ n = omega arith in
     ap₂ (λ (a b : ℕ). a + b) (ap (λ (e : ℕ). cond (has x 0) (2 ^ e) 0) z)
-    (sum-shift (λ i. cond (has x i) (2 ^ (suc n - 1 - i)) 0) (λ i. cond (has (x / 2) i) (2 ^ (n - 1 - i)) 0) 1 0 n (λ i l.
-    let p : 1 + i ≡ suc i = omega arith in
-    let q : suc n - 1 - suc i ≡ n - 1 - i = omega arith in
-    let w : 0 + i ≡ i = omega arith in
-    ap (λ (j : ℕ). cond (has x j) (2 ^ (suc n - 1 - j)) 0) p
-    ∙ ap₂ (λ (b : Bool) (e : ℕ). cond b (2 ^ e) 0) (has-suc x i) q
-    ∙ ap (λ (j : ℕ). cond (has (x / 2) j) (2 ^ (n - 1 - j)) 0) (sym w)))
+    (ap (sum (weights (suc n) x)) (from-suc 0 n) ∙ sum-map (weights (suc n) x) suc (from 0 n)
+    ∙ sum-eq (λ i. weights (suc n) x (suc i)) (weights n (x / 2)) (from 0 n) (all-from (λ i. weights (suc n) x (suc i) ≡ weights n (x / 2) i) 0 n (λ i l u.
+    let q : mirror (suc n) (suc i) ≡ mirror n i = omega arith in
+    ap₂ (λ (b : Bool) (e : ℕ). cond b (2 ^ e) 0) (has-suc x i) q)))
 
 weight-le : (b : Bool) (w : ℕ) → cond b w 0 ≤ w
 weight-le true w = omega arith
@@ -112,13 +103,9 @@ order-law n x y = (place-earlier n x y, earlier-place n x y)
 
 -- the members of a place
 
-weight : (b : Bool) (w v : ℕ) → w ≡ 2 * v → cond b w 0 ≡ 2 * cond b v 0
+weight : (b : Bool) (w v : ℕ) → w ≡ v * 2 → cond b w 0 ≡ cond b v 0 * 2
 weight true w v e = e
 weight false w v e = refl
-
-doubled : (f g : ℕ → ℕ) (s c : ℕ) → ((i : ℕ) → i < s + c → g i ≡ 2 * f i) → sum g (from s c) ≡ 2 * sum f (from s c)
-doubled f g s zero h = refl
-doubled f g s (suc c) h = let e = h s (omega arith) in let r = doubled f g (suc s) c (λ i l. h i (omega arith)) in omega arith
 
 bit-weight : (b : Bool) → cond b 1 0 ≡ digit b
 bit-weight true = refl
@@ -128,19 +115,19 @@ bit-weight false = refl
 pub place-last : (n x : ℕ) → place (suc n) x ≡ digit (has x n) + 2 * place n x
 unfolding place
 place-last n x =
-    let f : ℕ → ℕ = λ i. cond (has x i) (2 ^ (n - 1 - i)) 0 in
-    let g : ℕ → ℕ = λ i. cond (has x i) (2 ^ (suc n - 1 - i)) 0 in
     let e : suc n ≡ n + 1 = omega arith in
     let w : 0 + n ≡ n = omega arith in
-    let z : suc n - 1 - n ≡ 0 = omega arith in
-    let l : g n ≡ digit (has x n) = ap (λ (k : ℕ). cond (has x n) (2 ^ k) 0) z ∙ bit-weight (has x n) in
-    let d : sum g (from 0 n) ≡ 2 * sum f (from 0 n) = doubled f g 0 n (λ i h. weight (has x i) (2 ^ (suc n - 1 - i)) (2 ^ (n - 1 - i)) (
-    let q : suc n - 1 - i ≡ suc (n - 1 - i) = omega arith in
-    ap (λ (k : ℕ). 2 ^ k) q ∙ pow-suc 2 (n - 1 - i) ∙ (omega arith))) in
-    ap (λ (c : ℕ). sum g (from 0 c)) e
-    ∙ ap (sum g) (sym (from-append 0 n 1))
-    ∙ ap (λ (m : ℕ). sum g (from 0 n ++ from m 1)) w
-    ∙ sum-app g (from 0 n) (from n 1)
+    let z : mirror (suc n) n ≡ 0 = omega arith in
+    let last : weights (suc n) x n ≡ digit (has x n) = ap (λ (k : ℕ). cond (has x n) (2 ^ k) 0) z ∙ bit-weight (has x n) in
+    let others : sum (weights (suc n) x) (from 0 n) ≡ 2 * sum (weights n x) (from 0 n) =
+    sum-eq (weights (suc n) x) (λ i. weights n x i * 2) (from 0 n) (all-from (λ i. weights (suc n) x i ≡ weights n x i * 2) 0 n (λ i l u. weight (has x i) (2 ^ mirror (suc n) i) (2 ^ mirror n i) (
+    let q : mirror (suc n) i ≡ suc (mirror n i) = omega arith in
+    ap (λ (k : ℕ). 2 ^ k) q ∙ pow-suc 2 (mirror n i))))
+    ∙ sum-twice (weights n x) (from 0 n) in
+    ap (λ (c : ℕ). sum (weights (suc n) x) (from 0 c)) e
+    ∙ ap (sum (weights (suc n) x)) (sym (from-append 0 n 1))
+    ∙ ap (λ (m : ℕ). sum (weights (suc n) x) (from 0 n ++ from m 1)) w
+    ∙ sum-app (weights (suc n) x) (from 0 n) (from n 1)
     ∙ (omega arith)
 
 -- an atom of a set stands mirrored in its place
@@ -166,26 +153,6 @@ set-atoms n p a l =
 -- turned twice is as it was
 pub turned-twice : (n p : ℕ) → p < 2 ^ n → place n (place n p) ≡ p
 turned-twice n p l = same-set n (place n (place n p)) p (place-lt n (place n p)) l (λ a h. sym (set-atoms n (place n p) a h) ∙ place-atoms n p a h)
-
--- the place of a proper subset is a proper subset of the place
-module _ (n m p : ℕ) (m-inside : m < 2 ^ n) (p-inside : p < 2 ^ n) where
-  pub subset-turned : Subset (setAt n p) m ↔ Subset p (place n m)
-  subset-turned = (
-    λ h j t.
-        let l : j < n = has-below n p j p-inside t in
-        let i : mirror n j < n = omega arith in
-        let e : mirror n (mirror n j) ≡ j = omega arith in
-        T-of (sym (place-atoms n m (mirror n j) i) ∙ ap (has (place n m)) e) (h (mirror n j) (T-of (sym (ap (has p) e) ∙ set-atoms n p (mirror n j) i) t)),
-    λ h i t.
-        let l : i < n = has-below n (setAt n p) i (place-lt n p) t in
-        T-of (place-atoms n m i l) (h (mirror n i) (T-of (sym (set-atoms n p i l)) t)),
-  )
-
-  pub proper-turned : ProperSubset (setAt n p) m ↔ ProperSubset p (place n m)
-  proper-turned = (
-    λ h. record { subset = subset-turned .0 (h .subset); differs = λ e. h .differs (ap (setAt n) e ∙ turned-twice n m m-inside) },
-    λ h. record { subset = subset-turned .1 (h .subset); differs = λ e. h .differs (sym (turned-twice n p p-inside) ∙ ap (place n) e) },
-  )
 
 pub by-place : (n : ℕ) → Bijection (2 ^ n) (setAt n) (place n)
 by-place n = record { there = λ p l. place-lt n p; back = λ x l. place-lt n x; there-back = turned-twice n; back-there = turned-twice n }

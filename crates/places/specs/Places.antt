@@ -13,13 +13,13 @@ pub record Earlier (n x y : ℕ) : Type 0 where
   pub holds : In (has y) atom
   pub before : (i : ℕ) → i < atom → has x i ≡ has y i
 
--- the bit of a place at which atom i of n stands
+-- the bit of a place at which atom i of n stands: the first atom's is the highest
 abbrev pub mirror : ℕ → ℕ → ℕ
 mirror n i = n - 1 - i
 
 -- the place of x among n atoms: the sum of 2^(n-1-i) over its atoms i
 unfoldable pub place : ℕ → ℕ → ℕ
-place n x = sum (λ i. cond (has x i) (2 ^ (n - 1 - i)) 0) (from 0 n)
+place n x = sum (λ i. cond (has x i) (2 ^ mirror n i) 0) (from 0 n)
 
 -- the set at a place: what turns a set round turns its place back
 abbrev pub setAt : ℕ → ℕ → ℕ

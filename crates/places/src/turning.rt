@@ -5,7 +5,7 @@ ghost use Rattle.kinds.specs.Limits.{walkAtoms};
 ghost use Rattle.places.specs.Places.{place};
 
 // The place of a set of so many atoms, or the set at a place.
-pub fn turned(number: u64, atoms: u32) -> u64
+pub fn turned(number: u64, atoms: usize) -> u64
     requires { ⌜ atoms ≤ walkAtoms ⌝ }
     ensures { λ r. ⌜ r ≡ place atoms number ⌝ }
 {

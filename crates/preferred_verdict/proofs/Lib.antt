@@ -1,2 +1,2 @@
--- The laws of the walk over the sets that agree on the fixed atoms.
-pub mod AgreeingSets
+-- The verdict by filled and sorted masks.
+pub mod FilledVerdict

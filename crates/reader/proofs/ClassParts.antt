@@ -13,6 +13,7 @@ use Rattle.rules.specs.Lists.{All, Distinct, keep, filter, from}
 use Rattle.rules.specs.Preferred.{ofClass}
 use Rattle.rules.proofs.Booleans.{T-and-l}
 use Rattle.rules.proofs.Lists.{all-imp, all-keep, all-both}
+use Rattle.rules.proofs.MappedLists.{map-keep, filter-map, from-suc}
 use Rattle.kinds.specs.Limits.{classLimit, varying, fixed}
 use Rattle.stores.specs.Program.{NeverFalling, RoleForm, roleOf}
 use Rattle.stores.specs.declared.roles.Role.{Role}
@@ -33,19 +34,6 @@ abbrev pub upTo : ℕ → ℕ → Bool
 upTo w v = leb v w
 
 -- the atoms of a class, by their names
-
-from-suc : (s c : ℕ) → from (suc s) c ≡ map suc (from s c)
-from-suc s zero = refl
-from-suc s (suc c) = ap (λ l. suc s ∷ l) (from-suc (suc s) c)
-
-module _ {A B : Type 0} (f : A → B) where
-  map-keep : (b : Bool) (x : A) (l : List A) → map f (keep b x l) ≡ keep b (f x) (map f l)
-  map-keep true x l = refl
-  map-keep false x l = refl
-
-  filter-map : (q : B → Bool) (l : List A) → filter q (map f l) ≡ map f (filter (λ a. q (f a)) l)
-  filter-map q [] = refl
-  filter-map q (x ∷ l) = ap (keep (q (f x)) (f x)) (filter-map q l) ∙ sym (map-keep (q (f x)) x (filter (λ a. q (f a)) l))
 
 chosen-names : (p : ℕ → Bool) (ws : List ℕ) (names : List (List ℕ)) → length ws ≡ length names → named names (filter (λ a. p (getD ws a 0)) (from 0 (length ws))) ≡ chosen p ws names
 chosen-names p [] names e = refl

@@ -11,6 +11,7 @@ use Rattle.faults.proofs.EarliestFault.{said-accepted}
 use Rattle.reader.proofs.RoundTrip.{accepted-form}
 use Rattle.places.proofs.Places.{in-places}
 use Rattle.walks.proofs.Order.{ordered}
+use Rattle.walks.proofs.WalksAgree.{walks-agree}
 use Rattle.walks.proofs.RisingOrder.{orders-agree}
 use Rattle.walks.proofs.Listing.{lists-preferred}
 use Rattle.answers.proofs.Judged.{judges}
@@ -31,6 +32,7 @@ pub demand-2 : Demand2
 demand-2 = record {
   order = ordered;
   places = in-places;
+  walks = walks-agree;
   orders = orders-agree;
   verdicts = judges;
   lists = lists;

@@ -12,15 +12,17 @@ use Rattle.pairing.specs.Atoms.{declared}
 use Rattle.pairing.specs.Steps.{step1, step2, step3, step4, step5, step6, step7, step8, step9, step10, translation}
 use Rattle.pairing.specs.Translated.{translatedRules}
 use Rattle.places.specs.Places.{place}
-use Rattle.walks.specs.Walk.{walkOrder, preferredWalk, candidates, search, capped, preferredNeeds, preferredVerdict, firstState, cappedNext, nextVerdict, preferredSets}
+use Rattle.choices.specs.Choices.{closed?, visited}
+use Rattle.walks.specs.Order.{walkOrder, preferredSets}
+use Rattle.walks.specs.Walk.{preferredWalk, stableWalk, candidates, search, capped, preferredNeeds, stableNeeds, preferredVerdict, stableVerdict, firstState, cappedNext, nextNeeds, nextVerdict}
 use Rattle.kinds.specs.Words.{digits}
 use Rattle.answers.specs.Printed.{stateLine, totalLine}
 use Rattle.answers.specs.Listed.{listing, wholeListing, statesOf}
 use Rattle.answers.specs.Programs.{printed, statesPrinted}
-use Rattle.rigtomato.specs.Sheet.{rulesA, fileA, oneClass, lampFirst, darkFixed, nothing, emptyRule, oneRule, Sheet}
+use Rattle.rigtomato.specs.Sheet.{rulesA, fileA, oneClass, lampFirst, darkFixed, nothing, emptyRule, oneRule, plain, inverters, Sheet}
 
 pub sheet : Sheet
-unfolding rulesA fileA oneClass lampFirst darkFixed nothing emptyRule oneRule nameClass house? classNumber? allowed sameBytes listLine openText lines linesFrom lineLength items itemsFrom run span splitNames splitList declaredForm ruleForm formOf twice nameNumber declare addRule start readLines said declared step1 step2 step3 step4 step5 step6 step7 step8 step9 step10 translation translatedRules place walkOrder preferredWalk preferredSets candidates search capped preferredNeeds preferredVerdict firstState cappedNext nextVerdict digits stateLine totalLine listing wholeListing printed statesOf statesPrinted
+unfolding rulesA fileA oneClass lampFirst darkFixed nothing emptyRule oneRule plain inverters nameClass house? classNumber? allowed sameBytes listLine openText lines linesFrom lineLength items itemsFrom run span splitNames splitList declaredForm ruleForm formOf twice nameNumber declare addRule start readLines said declared step1 step2 step3 step4 step5 step6 step7 step8 step9 step10 translation translatedRules place closed? visited walkOrder preferredSets preferredWalk stableWalk candidates search capped preferredNeeds stableNeeds preferredVerdict stableVerdict firstState cappedNext nextNeeds nextVerdict digits stateLine totalLine listing wholeListing printed statesOf statesPrinted
 sheet = record {
   a-6 = refl;
   a-1 = refl;
@@ -31,7 +33,12 @@ sheet = record {
   a-listed = refl;
   a-from-0 = refl;
   a-from-4 = refl;
+  a-from-8 = refl;
   a-6-place = refl;
+  plain-2 = refl;
+  plain-3 = refl;
+  plain-4 = refl;
+  inverters-20 = refl;
   one-class = refl;
   lamp-first = refl;
   dark-fixed = refl;

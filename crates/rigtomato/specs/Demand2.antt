@@ -1,4 +1,4 @@
--- Demand 2 (document 01, "Verdicts"; document 02, W-206): unless the budget runs out, the verdicts are those of the theory, and every preferred state is listed once, in order.
+-- Demand 2 (document 01, "Verdicts"; document 02, W-206 and W-207): unless the budget runs out, the verdicts are those of the theory, and every preferred state is listed once, in order.
 use Prim.Native.Nat.{ℕ, _≤_}
 use mathlib.Core.Path.{_≡_}
 use mathlib.Core.Logic.{_⊎_}
@@ -8,10 +8,11 @@ use Rattle.kinds.specs.Limits.{streamLimit, walkAtoms}
 use Rattle.kinds.specs.declared.limits.Kind.the-variants.{Preference}
 use Rattle.stores.specs.Program.{Program}
 use Rattle.faults.specs.EarliestFault.{Accepts}
-use Rattle.walks.specs.Walk.{walkOrder, preferredSets}
+use Rattle.walks.specs.Order.{walkOrder, preferredSets}
 use Rattle.places.specs.Places.{InPlaces}
 use Rattle.walks.specs.Meanings.{Ordered}
 use Rattle.walks.specs.Listings.{ListsPreferred}
+use Rattle.walks.specs.FullWalk.{WalksAgree}
 use Rattle.walks.specs.RisingOrder.{OrdersAgree}
 use Rattle.answers.specs.Judged.{Judges}
 use Rattle.answers.specs.Listed.{wholeListing}
@@ -30,7 +31,9 @@ pub record Demand2 : Type 0 where
   -- the order of the walks has each set once, earlier ones first; a set's place says where
   pub order : (n : ℕ) → Ordered n (walkOrder n)
   pub places : (n : ℕ) → InPlaces n
-  -- where neither is spent, document 01's order gives the same verdicts and states
+  -- where neither is spent, verdict, better set and next state are those of the walk over all sets
+  pub walks : WalksAgree
+  -- and there document 01's order gives the same verdicts and states
   pub orders : OrdersAgree
   pub verdicts : (rules : List ℕ) (p : Program) (number budget : ℕ) → Judges rules p number budget
   pub lists : (text : List ℕ) (p : Program) (names : List (List ℕ)) → length text ≤ streamLimit → Accepts text p names → p .kind ≡ Preference → p .atoms ≤ walkAtoms → Lists text p names

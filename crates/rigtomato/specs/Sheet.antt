@@ -1,4 +1,4 @@
--- The marked cases of document 01's "Sheets of known states", from the bytes of the files; units and the order of states are those of document 02, W-206, the counts of translations those of W-214.
+-- The marked cases of document 01's "Sheets of known states", from the bytes of the files; the order of states is that of document 02, W-206, units are those of W-207, the counts of translations those of W-214.
 use Prim.Native.Nat.{ℕ}
 use mathlib.Core.Path.{_≡_}
 use mathlib.Core.List.{List, [], _∷_, _++_}
@@ -12,8 +12,11 @@ use Rattle.walks.specs.declared.answers.Verdict.{Verdict}
 use Rattle.walks.specs.declared.answers.Verdict.the-variants.{Yes, Broken, Beaten, Spent, Refused}
 use Rattle.walks.specs.declared.answers.NextState.{NextState}
 use Rattle.walks.specs.declared.answers.NextState.the-variants.{State, Nothing, Refused as NotSearched}
+use Rattle.walks.specs.declared.answers.Place.{Place}
+use Rattle.walks.specs.declared.answers.Place.the-variants.{At, Refused as NoPlace}
 use Rattle.places.specs.Places.{place}
-use Rattle.walks.specs.Walk.{preferredVerdict, nextVerdict, preferredSets}
+use Rattle.walks.specs.Order.{preferredSets}
+use Rattle.walks.specs.Walk.{preferredVerdict, stableVerdict, nextVerdict}
 use Rattle.pairing.specs.Translated.{translated}
 use Rattle.answers.specs.Programs.{statesPrinted}
 
@@ -49,10 +52,30 @@ emptyRule = bytes "(vary)\n(fix)\n(rule (head) (body) (not))\n"
 unfoldable pub oneRule : List ℕ
 oneRule = bytes "(min sensor)\n(vary dark)\n(fix)\n(rule (head sensor dark) (body) (not))\n"
 
+-- the plain program `a or b if not c`, `b if a`
+unfoldable pub plain : List ℕ
+plain = bytes "(atoms a b c)\n(rule (head a b) (body) (not c))\n(rule (head b) (body a) (not))\n"
+
+-- document 001's Example 1: three inverters in a row
+unfoldable pub inverters : List ℕ
+inverters =
+    bytes "(min ab1 ab2 ab3)\n(vary a b c d)\n(fix)\n(rule (head a b ab1) (body) (not))\n(rule (head ab1) (body a b) (not))\n(rule (head b c ab2) (body) (not))\n(rule (head ab2) (body b c) (not))\n"
+    ++ bytes "(rule (head c d ab3) (body) (not))\n(rule (head ab3) (body c d) (not))\n(rule (head) (body a) (not))\n(rule (head) (body d) (not))\n"
+
 -- the verdict on a set by a text's lines
 abbrev pub verdict : Said → ℕ → ℕ → Verdict
 verdict (accepted p names) set budget = preferredVerdict (p .words) (p .rules) set budget
 verdict (refused f line) set budget = Refused f
+
+-- the stable verdict
+abbrev pub stable : Said → ℕ → Verdict
+stable (accepted p names) set = stableVerdict (p .atoms) (p .rules) set budgetLimit
+stable (refused f line) set = Refused f
+
+-- a set's place
+abbrev pub placed : Said → ℕ → Place
+placed (accepted p names) set = At (place (p .atoms) set)
+placed (refused f line) set = NoPlace f
 
 -- the next state from a place on
 abbrev pub next : Said → ℕ → NextState
@@ -70,22 +93,29 @@ counts (accepted p names) = translated p .atoms ∷ length (translated p .rules)
 counts (refused f line) = []
 
 pub record Sheet : Type 0 where
-  -- A: set 6 preferred, 8 units; set 1 beaten by 6, 4 units; set 0 breaks rule 0; set 2 breaks rule 1; set 1 with budget 3 spent, with 4 not
-  pub a-6 : verdict (said fileA) 6 budgetLimit ≡ Yes 8
-  pub a-1 : verdict (said fileA) 1 budgetLimit ≡ Beaten 6 4
+  -- A: set 6 preferred, 13 units; set 1 beaten by 6, 6 units; set 0 breaks rule 0; set 2 breaks rule 1; set 1 with budget 5 spent, with 6 not
+  pub a-6 : verdict (said fileA) 6 budgetLimit ≡ Yes 13
+  pub a-1 : verdict (said fileA) 1 budgetLimit ≡ Beaten 6 6
   pub a-0 : verdict (said fileA) 0 budgetLimit ≡ Broken 0
   pub a-2 : verdict (said fileA) 2 budgetLimit ≡ Broken 1
-  pub a-1-spent : verdict (said fileA) 1 3 ≡ Spent 3
-  pub a-1-enough : verdict (said fileA) 1 4 ≡ Beaten 6 4
+  pub a-1-spent : verdict (said fileA) 1 5 ≡ Spent 5
+  pub a-1-enough : verdict (said fileA) 1 6 ≡ Beaten 6 6
   pub a-listed : statesPrinted fileA ≡ bytes "(state lamp dark)\n(total 1)\n"
-  -- A: from place 0 set 6, 12 units; from place 4 none, 16 units; set 6 stands at place 3
-  pub a-from-0 : next (said fileA) 0 ≡ State 6 12
-  pub a-from-4 : next (said fileA) 4 ≡ Nothing 16
-  pub a-6-place : place 3 6 ≡ 3
+  -- A: from place 0 set 6, 19 units; from place 4 none, 26 units; from place 8 none, without a unit; set 6 stands at place 3
+  pub a-from-0 : next (said fileA) 0 ≡ State 6 19
+  pub a-from-4 : next (said fileA) 4 ≡ Nothing 26
+  pub a-from-8 : next (said fileA) 8 ≡ Nothing 0
+  pub a-6-place : placed (said fileA) 6 ≡ At 3
+  -- the plain program: set 2 stable, 4 units; set 3 beaten by 2, 5 units; set 4 beaten by 0, 4 units
+  pub plain-2 : stable (said plain) 2 ≡ Yes 4
+  pub plain-3 : stable (said plain) 3 ≡ Beaten 2 5
+  pub plain-4 : stable (said plain) 4 ≡ Beaten 0 4
+  -- one inverter of three at fault: 4·3^3 - 1 units
+  pub inverters-20 : verdict (said inverters) 20 budgetLimit ≡ Yes 107
   pub one-class : states (said oneClass) ≡ 6 ∷ 1 ∷ 5 ∷ []
   pub lamp-first : states (said lampFirst) ≡ 2 ∷ 6 ∷ []
   pub dark-fixed : states (said darkFixed) ≡ 6 ∷ 1 ∷ []
-  pub dark-fixed-1 : verdict (said darkFixed) 1 budgetLimit ≡ Yes 4
+  pub dark-fixed-1 : verdict (said darkFixed) 1 budgetLimit ≡ Yes 10
   pub one-empty-state : states (said nothing) ≡ 0 ∷ []
   pub nothing-counts : counts (said nothing) ≡ 2 ∷ 4 ∷ 7 ∷ []
   pub no-state : states (said emptyRule) ≡ []

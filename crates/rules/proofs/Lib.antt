@@ -1,6 +1,7 @@
 -- The laws of the theory.
 pub mod Booleans
 pub mod Lists
+pub mod MappedLists
 pub mod Sets
 pub mod Rules
 pub mod Stable

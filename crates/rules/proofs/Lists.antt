@@ -1,5 +1,5 @@
 -- How All, Any, the tests and Distinct go through the lists made from lists.
-use Prim.Native.Nat.{ℕ, zero, suc, _+_, _-_, _≤_, _<_}
+use Prim.Native.Nat.{ℕ, zero, suc, _+_, _-_, _*_, _≤_, _<_}
 use mathlib.Core.Path.{_≡_, refl, sym, ap, ap₂, _∙_, subst}
 use mathlib.Core.Logic.{_⊎_, inl, inr, _↔_, _≢_}
 use mathlib.Core.List.{List, [], _∷_, _++_, map}
@@ -279,6 +279,14 @@ distinct-map f P i (x ∷ l) h d = (
 pub sum-app : {A : Type 0} (f : A → ℕ) (xs ys : List A) → sum f (xs ++ ys) ≡ sum f xs + sum f ys
 sum-app f [] ys = omega arith
 sum-app f (x ∷ xs) ys = omega (arith, sum-app f xs ys)
+
+pub sum-eq : {A : Type 0} (f g : A → ℕ) (l : List A) → All (λ a. f a ≡ g a) l → sum f l ≡ sum g l
+sum-eq f g [] h = refl
+sum-eq f g (x ∷ l) h = omega (arith, h .0, sum-eq f g l (h .1))
+
+pub sum-twice : {A : Type 0} (f : A → ℕ) (l : List A) → sum (λ a. f a * 2) l ≡ 2 * sum f l
+sum-twice f [] = refl
+sum-twice f (x ∷ l) = omega (arith, sum-twice f l)
 
 -- following numbers in two parts
 pub from-append : (s c d : ℕ) → from s c ++ from (s + c) d ≡ from s (c + d)

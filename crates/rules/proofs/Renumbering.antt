@@ -2,18 +2,20 @@
 use Prim.Native.Nat.{ℕ, _^_, _<_}
 use mathlib.Core.Path.{_≡_, refl, sym, ap, ap₂, subst, _∙_}
 use mathlib.Core.List.{List, [], _∷_, map}
-use mathlib.Core.Bool.{Bool, true, false, not, _&&_, _||_}
+use mathlib.Core.Bool.{Bool, not, _&&_, _||_}
 use mathlib.Core.Logic.{_↔_}
 use native.Mathlib.Omega.{arith}
 use lib.ListN.{length, getD, length-map}
-use Rattle.rules.specs.Lists.{All, every, some, keep, from}
-use Rattle.rules.specs.Sets.{has, In, Out, Agree}
-use Rattle.rules.specs.Rules.{Rule, rule, Holds, Model, reduct, holds?, model?, firstBroken, countIf, rename}
+use Rattle.rules.specs.Lists.{All, every, some, from}
+use Rattle.rules.specs.Sets.{has, Agree}
+use Rattle.rules.specs.Rules.{Rule, Model, holds?, model?, firstBroken, countIf, rename}
 use Rattle.rules.specs.Preferred.{OfClass, Beats, Preferred}
 use Rattle.rules.specs.CutClass.{CutClass}
 use Rattle.rules.specs.Renumbering.{Bijection, Renumbered, renumberWords, Within, SameAtoms, SamePreferred, NoneNewRenumbered}
 use Rattle.rules.proofs.Booleans.{T-of}
-use Rattle.rules.proofs.Lists.{all-imp, all-zip, any-zip, all-map, map-all, any-map, map-any, length-from, map-from-at}
+use Rattle.rules.proofs.Lists.{all-imp, length-from, map-from-at}
+use Rattle.rules.proofs.MappedLists.{every-map, some-map}
+use Rattle.rules.proofs.Rules.{model-law}
 use Rattle.rules.proofs.Sets.{same-set, set-of}
 use Rattle.rules.proofs.CutClass.{cut-none-new}
 
@@ -26,61 +28,28 @@ words-renumbered f g ws k = record {
 
 -- rules
 
-within-imp : {A : Type 0} (P Q : A → Type 0) → ((a : A) → P a → Q a) → (r : Rule A) → Within P r → Within Q r
-within-imp P Q f r h = record { head = all-imp P Q f (r .head) (h .head); body = all-imp P Q f (r .body) (h .body); nots = all-imp P Q f (r .nots) (h .nots) }
-
-holds-same : {A : Type 0} (x y : A → Bool) (r : Rule A) → Within (λ a. x a ≡ y a) r → Holds x r → Holds y r
-holds-same x y r e h b n = any-zip (λ a. x a ≡ y a) (In x) (In y) (λ a q t. T-of q t) (r .head) (e .head) (h
-    (all-zip (λ a. x a ≡ y a) (In y) (In x) (λ a q t. T-of (sym q) t) (r .body) (e .body) b)
-    (all-zip (λ a. x a ≡ y a) (Out y) (Out x) (λ a q o t. o (T-of q t)) (r .nots) (e .nots) n))
-
-holds-renamed : {A B : Type 0} (f : A → B) (m : B → Bool) (r : Rule A) → Holds m (rename f r) ↔ Holds (λ a. m (f a)) r
-holds-renamed f m r = (
-  λ h b n. map-any (In m) f (r .head) (h (all-map (In m) f (r .body) b) (all-map (Out m) f (r .nots) n)),
-  λ h b n. any-map (In m) f (r .head) (h (map-all (In m) f (r .body) b) (map-all (Out m) f (r .nots) n)),
-)
-
-module _ (f : ℕ → ℕ) (n s s′ : ℕ) (same : SameAtoms f n s s′) (rs : List (Rule ℕ)) (below : All (Within (λ a. a < n)) rs) where
-  abbrev Moved : Rule ℕ → Type 0
-  Moved r = Holds (has s′) (rename f r)
-
-  model-renumbered : Model rs (has s) ↔ Model (map (rename f) rs) (has s′)
-  model-renumbered = (
-    λ h. all-map (Holds (has s′)) (rename f) rs (all-zip (Within (λ a. a < n)) (Holds (has s)) Moved (λ r b k.
-        holds-renamed f (has s′) r .1 (holds-same (has s) (λ a. has s′ (f a)) r (within-imp (λ a. a < n) _ (λ a l. sym (same a l)) r b) k)) rs below h),
-    λ h. all-zip (Within (λ a. a < n)) Moved (Holds (has s)) (λ r b k.
-        holds-same (λ a. has s′ (f a)) (has s) r (within-imp (λ a. a < n) _ same r b) (holds-renamed f (has s′) r .0 k)) rs below (map-all (Holds (has s′)) (rename f) rs h),
-  )
-
--- the tests
 module _ (f : ℕ → ℕ) (n s s′ : ℕ) (same : SameAtoms f n s s′) where
   every-moved : (xs : List ℕ) → All (λ a. a < n) xs → every (has s′) (map f xs) ≡ every (has s) xs
-  every-moved [] h = refl
-  every-moved (a ∷ xs) h = ap₂ (λ (x y : Bool). x && y) (same a (h .0)) (every-moved xs (h .1))
+  every-moved xs h = every-map f (has s′) (has s) xs (all-imp (λ a. a < n) _ same xs h)
 
-  pub some-moved : (xs : List ℕ) → All (λ a. a < n) xs → some (has s′) (map f xs) ≡ some (has s) xs
-  some-moved [] h = refl
-  some-moved (a ∷ xs) h = ap₂ (λ (x y : Bool). x || y) (same a (h .0)) (some-moved xs (h .1))
+  some-moved : (xs : List ℕ) → All (λ a. a < n) xs → some (has s′) (map f xs) ≡ some (has s) xs
+  some-moved xs h = some-map f (has s′) (has s) xs (all-imp (λ a. a < n) _ same xs h)
 
   holds-moved : (r : Rule ℕ) → Within (λ a. a < n) r → holds? (has s′) (rename f r) ≡ holds? (has s) r
-  holds-moved r h = rw (every-moved (r .body) (h .body), some-moved (r .nots) (h .nots), some-moved (r .head) (h .head))
+  holds-moved r h = ap₂ (λ (x y : Bool). not x || y) (ap₂ (λ (x y : Bool). x && not y) (every-moved (r .body) (h .body)) (some-moved (r .nots) (h .nots))) (some-moved (r .head) (h .head))
 
-  pub model-moved : (rs : List (Rule ℕ)) → All (Within (λ a. a < n)) rs → model? (map (rename f) rs) (has s′) ≡ model? rs (has s)
-  model-moved [] h = refl
-  model-moved (r ∷ rs) h = ap₂ (λ (x y : Bool). x && y) (holds-moved r (h .0)) (model-moved rs (h .1))
+  model-moved : (rs : List (Rule ℕ)) → All (Within (λ a. a < n)) rs → model? (map (rename f) rs) (has s′) ≡ model? rs (has s)
+  model-moved rs h = every-map (rename f) (holds? (has s′)) (holds? (has s)) rs (all-imp (Within (λ a. a < n)) _ holds-moved rs h)
 
   pub first-moved : (rs : List (Rule ℕ)) → All (Within (λ a. a < n)) rs → firstBroken (map (rename f) rs) (has s′) ≡ firstBroken rs (has s)
   first-moved [] h = refl
   first-moved (r ∷ rs) h = ap₂ countIf (holds-moved r (h .0)) (first-moved rs (h .1))
 
-  pub reduct-moved : (rs : List (Rule ℕ)) → All (Within (λ a. a < n)) rs → reduct (map (rename f) rs) (has s′) ≡ map (rename f) (reduct rs (has s))
-  reduct-moved [] h = refl
-  reduct-moved (r ∷ rs) h =
-      ap₂ (λ (b : Bool) (l : List (Rule ℕ)). keep (not b) (rename f (rule (r .head) (r .body) [])) l) (some-moved (r .nots) (h .0 .nots)) (reduct-moved rs (h .1)) ∙ step (not (some (has s) (r .nots)))
-    where
-      step : (b : Bool) → keep b (rename f (rule (r .head) (r .body) [])) (map (rename f) (reduct rs (has s))) ≡ map (rename f) (keep b (rule (r .head) (r .body) []) (reduct rs (has s)))
-      step true = refl
-      step false = refl
+  model-renumbered : (rs : List (Rule ℕ)) → All (Within (λ a. a < n)) rs → Model rs (has s) ↔ Model (map (rename f) rs) (has s′)
+  model-renumbered rs h = (
+    λ m. model-law (map (rename f) rs) (has s′) .0 (T-of (sym (model-moved rs h)) (model-law rs (has s) .1 m)),
+    λ m. model-law rs (has s) .0 (T-of (model-moved rs h) (model-law (map (rename f) rs) (has s′) .1 m)),
+  )
 
 -- sets
 

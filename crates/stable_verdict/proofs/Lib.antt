@@ -1,6 +1,4 @@
--- The laws of the reduct and of the walk over the proper subsets.
-pub mod SubsetSteps
-pub mod ProperSubsets
+-- The laws of the reduct, its marks and its verdict.
 pub mod MarkLoops
 pub mod ReductFill
 pub mod KeptRules

@@ -1,11 +1,11 @@
 -- What the loops over a `not` list and over the marks keep.
 use Prim.Native.Nat.{ℕ, suc, _+_, _-_, _^_, _≤_, _<_}
-use mathlib.Core.Path.{_≡_, sym, ap, _∙_, subst}
+use mathlib.Core.Path.{_≡_, sym, ap, _∙_}
 use mathlib.Core.Bool.{Bool, true, false, not, _||_}
 use mathlib.Core.List.{List, [], _∷_}
 use native.Mathlib.Numerals.{add-one}
 use native.Mathlib.Omega.{arith}
-use lib.Dec.{T, eqb}
+use lib.Dec.{eqb}
 use lib.Bits.{bitAnd}
 use lib.ListN.{length, getD, take, drop, drop-of-length-le}
 use lib.Seq.{drop-cons}
@@ -13,24 +13,18 @@ use borrow.Author.Tests.{eq-eqb, ne-eqb, not-true, not-false}
 use Rattle.kinds.specs.Limits.{walkAtoms}
 use Rattle.rules.specs.Lists.{All, some}
 use Rattle.rules.specs.Sets.{has}
-use Rattle.rules.proofs.Booleans.{bool-ext, T-not-in, T-not-out}
 use Rattle.rules.proofs.Lists.{part-sized}
 use Rattle.stores.specs.RuleStore.{heads, bodies, nots, ruleAt}
 use Rattle.stores.specs.StoredRules.{StoredRule}
-use Rattle.masks.proofs.MaskBits.{has-own, has-only, disjoint}
+use Rattle.masks.proofs.MaskBits.{bit-test}
 use Rattle.masks.proofs.RulesFill.{bodies-below, nots-below}
 use Rattle.stable_verdict.specs.ReductMarks.{keeps?, markedAt}
 
 -- the mask of one atom tells whether it is in m
 module _ (m a : ℕ) where
-  bit-test : eqb (bitAnd m (2 ^ a)) 0 ≡ not (has m a)
-  bit-test = bool-ext (eqb (bitAnd m (2 ^ a)) 0) (not (has m a))
-      (λ t. T-not-in (has m a) (λ k. disjoint m (2 ^ a) .0 t a (has-own a) k))
-      (λ t. disjoint m (2 ^ a) .1 (λ i h k. T-not-out (has m a) t (subst (λ (x : ℕ). T (has m x)) (has-only a i h) k)))
-
   module _ (b : ℕ) (q : b ≡ 2 ^ a) where
     told : eqb (bitAnd m b) 0 ≡ not (has m a)
-    told = ap (λ (x : ℕ). eqb (bitAnd m x) 0) q ∙ bit-test
+    told = ap (λ (x : ℕ). eqb (bitAnd m x) 0) q ∙ bit-test m a
 
     pub bit-in : (bitAnd m b ≡ 0 → ⊥) → has m a ≡ true
     bit-in e = not-false (has m a) (sym told ∙ ne-eqb (bitAnd m b) 0 e)

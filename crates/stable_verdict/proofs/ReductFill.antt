@@ -1,13 +1,11 @@
 -- What the loop that fills the reduct keeps: the marks of the rules passed, and the masks of those that are marked.
 use Prim.Native.Nat.{ℕ, suc, _+_, _-_, _≤_, _<_}
 use mathlib.Core.Path.{_≡_, refl, sym, ap, ap₂, _∙_, subst}
-use mathlib.Core.Bool.{Bool, true, false, cond, _&&_}
+use mathlib.Core.Bool.{Bool, true, false}
 use mathlib.Core.List.{List, [], _∷_, _++_, map, map-append, append-nil}
 use native.Mathlib.Nat.{add-zero}
 use native.Mathlib.Numerals.{add-one}
 use native.Mathlib.Omega.{arith}
-use lib.Dec.{eqb}
-use lib.Bits.{bitOr, and-zero-l}
 use lib.ListN.{length, getD, take, drop, set, replicate, length-append, length-map, length-set, length-replicate}
 use lib.Seq.{drop-cons, take-suc, take-all, set-at, append-snoc, getD-set-same, length-take-le}
 use borrow.Rule.Slice.PartMut.{midOf, putMid, set-mid-at}
@@ -21,7 +19,7 @@ use Rattle.stores.specs.RuleStore.{places, ruleAt, rulesFrom}
 use Rattle.stores.specs.StoredRules.{StoredRules}
 use Rattle.stores.proofs.RuleStores.{rules-count}
 use Rattle.places.specs.Places.{mirror}
-use Rattle.masks.specs.Masks.{maskOf, breakable, asked, careOf, wantOf, careAt, wantAt}
+use Rattle.masks.specs.Masks.{careOf, wantOf, careAt, wantAt}
 use Rattle.masks.proofs.RulesFill.{Filling, fill-begins, fill-more}
 use Rattle.stable_verdict.specs.ReductMarks.{keeps?, marksOf}
 
@@ -46,22 +44,18 @@ over-more l d n v e h =
     ∙ set-at l (getD d (length l) 0) (drop (suc (length l)) d) v n e
     ∙ sym (append-snoc l v (drop (suc (length l)) d)) ∙ ap (λ (i : ℕ). (l ++ (v ∷ [])) ++ drop i d) k
 
--- the masks of a rule by the reduct by the empty set are those without its `not` list
-module _ (r : Rule ℕ) where
-  abbrev pub bare : Rule ℕ
-  bare = rule (r .head) (r .body) []
-
-  pub asked-none : asked 0 r ≡ breakable (maskOf (r .head)) (maskOf (r .body))
-  asked-none = ap (λ (n : ℕ). eqb n 0 && breakable (maskOf (r .head)) (maskOf (r .body))) (and-zero-l (maskOf (r .nots)))
+-- a rule without its `not` list has the same masks
+abbrev pub bare : Rule ℕ → Rule ℕ
+bare r = rule (r .head) (r .body) []
 
 module _ (r : Rule ℕ) where
-  care-bare : careOf 0 r ≡ careOf 0 (bare r)
+  care-bare : careOf r ≡ careOf (bare r)
   unfolding careOf
-  care-bare = ap (λ (t : Bool). cond t (bitOr (maskOf (r .head)) (maskOf (r .body))) 0) (asked-none r ∙ sym (asked-none (bare r)))
+  care-bare = refl
 
-  want-bare : wantOf 0 r ≡ wantOf 0 (bare r)
+  want-bare : wantOf r ≡ wantOf (bare r)
   unfolding wantOf
-  want-bare = ap (λ (t : Bool). cond t (maskOf (r .body)) 1) (asked-none r ∙ sym (asked-none (bare r)))
+  want-bare = refl
 
 module _ (m : ℕ) (r : Rule ℕ) where
   reduct-last : (rs : List (Rule ℕ)) → reduct (rs ++ (r ∷ [])) (has m) ≡ reduct rs (has m) ++ keep (keeps? m r) (bare r) []
@@ -100,15 +94,15 @@ module _ (m : ℕ) (r : Rule ℕ) where
 
 -- the masks of the reduct of the rules stand over what was there
 pub record Masked (n m : ℕ) (rs : List (Rule ℕ)) (c₀ w₀ cs wants : List ℕ) (kept : ℕ) : Type 0 where
-  pub cares : cs ≡ over (map (careAt n 0) (reduct rs (has m))) c₀
-  pub want-masks : wants ≡ over (map (wantAt n 0) (reduct rs (has m))) w₀
+  pub cares : cs ≡ over (map (careAt n) (reduct rs (has m))) c₀
+  pub want-masks : wants ≡ over (map (wantAt n) (reduct rs (has m))) w₀
   pub count : kept ≡ length (reduct rs (has m))
 
 module _ {n m : ℕ} {rs : List (Rule ℕ)} {c₀ w₀ cs wants : List ℕ} {kept : ℕ} (d : Masked n m rs c₀ w₀ cs wants kept) (r : Rule ℕ) where
-  masks-kept : keeps? m r ≡ true → (kept < length c₀) × (kept < length w₀) → Masked n m (rs ++ (r ∷ [])) c₀ w₀ (set cs kept (careAt n 0 r)) (set wants kept (wantAt n 0 r)) (kept + 1)
+  masks-kept : keeps? m r ≡ true → (kept < length c₀) × (kept < length w₀) → Masked n m (rs ++ (r ∷ [])) c₀ w₀ (set cs kept (careAt n r)) (set wants kept (wantAt n r)) (kept + 1)
   masks-kept e l = record {
-    cares = ap (λ (x : List ℕ). set x kept (careAt n 0 r)) (d .cares) ∙ masks-more m r rs (careAt n 0) (care-bare (rename (mirror n) r)) c₀ kept e (l .0) (d .count);
-    want-masks = ap (λ (x : List ℕ). set x kept (wantAt n 0 r)) (d .want-masks) ∙ masks-more m r rs (wantAt n 0) (want-bare (rename (mirror n) r)) w₀ kept e (l .1) (d .count);
+    cares = ap (λ (x : List ℕ). set x kept (careAt n r)) (d .cares) ∙ masks-more m r rs (careAt n) (care-bare (rename (mirror n) r)) c₀ kept e (l .0) (d .count);
+    want-masks = ap (λ (x : List ℕ). set x kept (wantAt n r)) (d .want-masks) ∙ masks-more m r rs (wantAt n) (want-bare (rename (mirror n) r)) w₀ kept e (l .1) (d .count);
     count = omega (arith, d .count, ap length (kept-here m r rs e), length-append (reduct rs (has m)) (bare r ∷ []));
   }
 
@@ -116,8 +110,8 @@ module _ {n m : ℕ} {rs : List (Rule ℕ)} {c₀ w₀ cs wants : List ℕ} {kep
   masks-dropped e =
       let q = sym (dropped-here m r rs e) in
       record {
-        cares = d .cares ∙ ap (λ (x : List (Rule ℕ)). over (map (careAt n 0) x) c₀) q;
-        want-masks = d .want-masks ∙ ap (λ (x : List (Rule ℕ)). over (map (wantAt n 0) x) w₀) q;
+        cares = d .cares ∙ ap (λ (x : List (Rule ℕ)). over (map (careAt n) x) c₀) q;
+        want-masks = d .want-masks ∙ ap (λ (x : List (Rule ℕ)). over (map (wantAt n) x) w₀) q;
         count = d .count ∙ ap length q;
       }
 
@@ -130,7 +124,7 @@ module _ (ws : List ℕ) (rules n m : ℕ) (c₀ w₀ : List ℕ) where
     -- the words are gone over as in `fill_rules`, which would have left these masks
     pub all-care : List ℕ
     pub all-want : List ℕ
-    pub walk : Filling ws rules n 0 c₀ w₀ all-care all-want at j
+    pub walk : Filling ws rules n c₀ w₀ all-care all-want at j
     pub marked : marks ≡ marksOf m (take j (rulesFrom rules ws))
     pub masked : Masked n m (take j (rulesFrom rules ws)) c₀ w₀ cs wants kept
     pub few : kept ≤ j
@@ -143,7 +137,7 @@ module _ (ws : List ℕ) (rules n m : ℕ) (c₀ w₀ : List ℕ) where
   reduct-begins marks h l e long = record {
     all-care = c₀;
     all-want = w₀;
-    walk = fill-begins ws rules n 0 c₀ w₀ h;
+    walk = fill-begins ws rules n c₀ w₀ h;
     marked = e;
     masked = record { cares = refl; want-masks = refl; count = refl };
     few = omega arith;
@@ -175,9 +169,9 @@ module _ (ws : List ℕ) (rules n m : ℕ) (c₀ w₀ : List ℕ) where
 
       goes-on : {cs′ wants′ : List ℕ} {kept′ : ℕ} → length cs′ ≡ length cs → length wants′ ≡ length wants → kept′ ≤ j + 1 → Masked n m (passed j ++ (ruleAt front ∷ [])) c₀ w₀ cs′ wants′ kept′ → Reducing (set marks j b) cs′ wants′ (at + size) kept′ (j + 1)
       goes-on {cs′} {wants′} {kept′} p q few f = record {
-        all-care = set (d .all-care) j (careAt n 0 (ruleAt front));
-        all-want = set (d .all-want) j (wantAt n 0 (ruleAt front));
-        walk = fill-more ws rules n 0 c₀ w₀ (d .all-care) (d .all-want) at j (d .walk) l (d .care-room .0, d .want-room .0) (careAt n 0 (ruleAt front)) (wantAt n 0 (ruleAt front)) size is-size (refl, refl);
+        all-care = set (d .all-care) j (careAt n (ruleAt front));
+        all-want = set (d .all-want) j (wantAt n (ruleAt front));
+        walk = fill-more ws rules n c₀ w₀ (d .all-care) (d .all-want) at j (d .walk) l (d .care-room .0, d .want-room .0) (careAt n (ruleAt front)) (wantAt n (ruleAt front)) size is-size (refl, refl);
         marked =
             ap₂ (λ (l : List Bool) (t : Bool). set l j t) (d .marked) is-mark
             ∙ marks-more m (ruleAt front) (passed j) j (length-take-le j (rulesFrom rules ws) (omega (arith, rules-count rules ws))) (omega (arith, d .mark-room .0))
@@ -189,20 +183,20 @@ module _ (ws : List ℕ) (rules n m : ℕ) (c₀ w₀ : List ℕ) where
         want-room = (d .want-room .0, q ∙ d .want-room .1);
       }
 
-      pub reduct-keeps : getD (set marks j b) j false ≡ true → {cs′ wants′ : List ℕ} {kept′ : ℕ} → cs′ ≡ set cs kept (careAt n 0 (ruleAt front)) → wants′ ≡ set wants kept (wantAt n 0 (ruleAt front)) → kept′ ≡ kept + 1
+      pub reduct-keeps : getD (set marks j b) j false ≡ true → {cs′ wants′ : List ℕ} {kept′ : ℕ} → cs′ ≡ set cs kept (careAt n (ruleAt front)) → wants′ ≡ set wants kept (wantAt n (ruleAt front)) → kept′ ≡ kept + 1
           → Reducing (set marks j b) cs′ wants′ (at + size) kept′ (j + 1)
       reduct-keeps t p q e =
           let room : (kept < length c₀) × (kept < length w₀) = (omega (arith, d .few, d .care-room .0), omega (arith, d .few, d .want-room .0)) in
           rw (p, q, e)
-          (goes-on (length-set cs kept (careAt n 0 (ruleAt front))) (length-set wants kept (wantAt n 0 (ruleAt front))) (omega (arith, d .few))
+          (goes-on (length-set cs kept (careAt n (ruleAt front))) (length-set wants kept (wantAt n (ruleAt front))) (omega (arith, d .few))
           (masks-kept (d .masked) (ruleAt front) (sym mark-is ∙ t) room))
 
       pub reduct-drops : getD (set marks j b) j false ≡ false → {cs′ wants′ : List ℕ} {kept′ : ℕ} → cs′ ≡ cs → wants′ ≡ wants → kept′ ≡ kept → Reducing (set marks j b) cs′ wants′ (at + size) kept′ (j + 1)
       reduct-drops t p q e = rw (p, q, e) (goes-on refl refl (omega (arith, d .few)) (masks-dropped (d .masked) (ruleAt front) (sym mark-is ∙ t)))
 
   pub reduct-ends : (marks : List Bool) (cs wants : List ℕ) (at kept j : ℕ) → Reducing marks cs wants at kept j → rules ≤ j
-      → (marks ≡ marksOf m (rulesFrom rules ws)) × ((cs ≡ over (map (careAt n 0) (reduct (rulesFrom rules ws) (has m))) c₀)
-      × ((wants ≡ over (map (wantAt n 0) (reduct (rulesFrom rules ws) (has m))) w₀) × (kept ≡ length (reduct (rulesFrom rules ws) (has m)))))
+      → (marks ≡ marksOf m (rulesFrom rules ws)) × ((cs ≡ over (map (careAt n) (reduct (rulesFrom rules ws) (has m))) c₀)
+      × ((wants ≡ over (map (wantAt n) (reduct (rulesFrom rules ws) (has m))) w₀) × (kept ≡ length (reduct (rulesFrom rules ws) (has m)))))
   reduct-ends marks cs wants at kept j d l =
       let e : passed j ≡ rulesFrom rules ws = take-all j (rulesFrom rules ws) (omega (arith, rules-count rules ws)) in
       let f = subst (λ (rs : List (Rule ℕ)). Masked n m rs c₀ w₀ cs wants kept) e (d .masked) in

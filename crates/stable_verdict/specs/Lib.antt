@@ -1,3 +1,3 @@
--- The marks of the reduct, and where the walk stands.
+-- The marks of the reduct, and the search with its rules sorted.
 pub mod ReductMarks
-pub mod SubsetWalk
+pub mod SortedSearch

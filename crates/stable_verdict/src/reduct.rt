@@ -48,10 +48,10 @@ fn put_rule(words: &[u16], n: usize, at: usize, care: &mut [u64], want: &mut [u6
     requires { ⌜ n ≤ walkAtoms ⌝ }
     requires { ⌜ StoredRule n (now words) ⌝ }
     requires { ⌜ (at < length (now care)) × (at < length (now want)) ⌝ }
-    ensures { λ _. ⌜ now (care .exit) ≡ set (now (care .entry)) at (careAt n 0 (ruleAt (now (words .entry)))) ⌝ }
-    ensures { λ _. ⌜ now (want .exit) ≡ set (now (want .entry)) at (wantAt n 0 (ruleAt (now (words .entry)))) ⌝ }
+    ensures { λ _. ⌜ now (care .exit) ≡ set (now (care .entry)) at (careAt n (ruleAt (now (words .entry)))) ⌝ }
+    ensures { λ _. ⌜ now (want .exit) ≡ set (now (want .entry)) at (wantAt n (ruleAt (now (words .entry)))) ⌝ }
 {
-    fill_rules(words, 1, 0, n, &mut care[at..], &mut want[at..]);
+    fill_rules(words, 1, n, &mut care[at..], &mut want[at..]);
 }
 
 // Marks the rules, of n atoms, that the reduct by `of` keeps and fills the masks of its rules; answers how many they are.
@@ -70,8 +70,8 @@ pub fn fill_reduct(
     requires { ⌜ now marks ≡ replicate (ruleLimit KindPlain) false ⌝ }
     requires { ⌜ (rules ≤ length (now care)) × (rules ≤ length (now want)) ⌝ }
     ensures { λ _. ⌜ now (marks .exit) ≡ marksOf of (rulesFrom rules (now (words .entry))) ⌝ }
-    ensures { λ _. ⌜ now (care .exit) ≡ over (map (careAt n 0) (reduct (rulesFrom rules (now (words .entry))) (has of))) (now (care .entry)) ⌝ }
-    ensures { λ _. ⌜ now (want .exit) ≡ over (map (wantAt n 0) (reduct (rulesFrom rules (now (words .entry))) (has of))) (now (want .entry)) ⌝ }
+    ensures { λ _. ⌜ now (care .exit) ≡ over (map (careAt n) (reduct (rulesFrom rules (now (words .entry))) (has of))) (now (care .entry)) ⌝ }
+    ensures { λ _. ⌜ now (want .exit) ≡ over (map (wantAt n) (reduct (rulesFrom rules (now (words .entry))) (has of))) (now (want .entry)) ⌝ }
     ensures { λ r. ⌜ r ≡ length (reduct (rulesFrom rules (now (words .entry))) (has of)) ⌝ }
 {
     let mut from = 0;

@@ -1,11 +1,11 @@
--- What a test keeps of a list, and of the numbers from one on: those that fail are passed over.
+-- What a test keeps of the numbers from one on: those that fail are passed over.
 use Prim.Native.Nat.{ℕ, zero, suc, _+_, _-_, _≤_, _<_}
-use mathlib.Core.Path.{_≡_, refl, ap, ap₂, _∙_}
+use mathlib.Core.Path.{_≡_, refl, ap, _∙_}
 use mathlib.Core.Bool.{Bool, true, false}
-use mathlib.Core.List.{List, [], _∷_, _++_, map}
+use mathlib.Core.List.{List, [], _∷_}
 use native.Mathlib.Omega.{arith}
 use lib.Dec.{T}
-use Rattle.rules.specs.Lists.{All, filter, keep, from}
+use Rattle.rules.specs.Lists.{filter, keep, from}
 
 kept : {A : Type 0} (b : Bool) (x : A) (l : List A) → T b → keep b x l ≡ x ∷ l
 kept true x l t = refl
@@ -14,26 +14,6 @@ kept false x l t = absurd t
 dropped : {A : Type 0} (b : Bool) (x : A) (l : List A) → (T b → ⊥) → keep b x l ≡ l
 dropped true x l f = absurd (f tt)
 dropped false x l f = refl
-
-pub filter-app : (p : ℕ → Bool) (xs ys : List ℕ) → filter p (xs ++ ys) ≡ filter p xs ++ filter p ys
-filter-app p [] ys = refl
-filter-app p (x ∷ xs) ys = step (p x) (filter-app p xs ys)
-  where
-    step : (b : Bool) → filter p (xs ++ ys) ≡ filter p xs ++ filter p ys → keep b x (filter p (xs ++ ys)) ≡ keep b x (filter p xs) ++ filter p ys
-    step true e = ap (λ (l : List ℕ). x ∷ l) e
-    step false e = e
-
-pub filter-map : (p : ℕ → Bool) (f : ℕ → ℕ) (l : List ℕ) → filter p (map f l) ≡ map f (filter (λ x. p (f x)) l)
-filter-map p f [] = refl
-filter-map p f (x ∷ l) = step (p (f x)) (filter-map p f l)
-  where
-    step : (b : Bool) → filter p (map f l) ≡ map f (filter (λ x. p (f x)) l) → keep b (f x) (filter p (map f l)) ≡ map f (keep b x (filter (λ x. p (f x)) l))
-    step true e = ap (λ (l : List ℕ). f x ∷ l) e
-    step false e = e
-
-pub filter-same : (p q : ℕ → Bool) (l : List ℕ) → All (λ s. p s ≡ q s) l → filter p l ≡ filter q l
-filter-same p q [] h = refl
-filter-same p q (x ∷ l) h = ap₂ (λ (b : Bool) (t : List ℕ). keep b x t) (h .0) (filter-same p q l (h .1))
 
 module _ (p : ℕ → Bool) where
   -- what p keeps of the numbers from s on, below top

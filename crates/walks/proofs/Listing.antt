@@ -1,7 +1,7 @@
 -- Going on from each answer lists the preferred sets: all of them, or those before a step that is spent.
 use Prim.Native.Nat.{ℕ, zero, suc, _+_, _-_, _^_, _≤_, _<_}
 use mathlib.Core.Path.{_≡_, refl, sym, ap, ap₂, _∙_, subst}
-use mathlib.Core.Logic.{_↔_, _⊎_, inl, inr, _≢_}
+use mathlib.Core.Logic.{_⊎_, inl, inr, _≢_}
 use mathlib.Core.Bool.{Bool, true, false}
 use mathlib.Core.List.{List, [], _∷_, map}
 use native.Mathlib.Omega.{arith}
@@ -11,22 +11,22 @@ use Rattle.rules.specs.Lists.{All, Any, Distinct, filter, keep, from}
 use Rattle.rules.specs.Rules.{Rule}
 use Rattle.rules.specs.Preferred.{Preferred, preferred?}
 use Rattle.rules.proofs.Lists.{all-imp, all-any, all-at, all-filter, any-filter, any-imp}
+use Rattle.rules.proofs.MappedLists.{filter-map}
 use Rattle.rules.proofs.Preferred.{preferred-law}
 use Rattle.kinds.specs.declared.refusals.Refusal.{Refusal}
 use Rattle.rules.specs.Renumbering.{Bijection}
 use Rattle.places.specs.Places.{place, setAt}
 use Rattle.places.proofs.Places.{by-place}
-use Rattle.walks.specs.Walk.{walkOrder, candidates, firstState, cappedNext, preferredNeeds, nextVerdict, preferredSets}
+use Rattle.walks.specs.Order.{walkOrder, preferredSets}
+use Rattle.walks.specs.Walk.{cappedNext, nextNeeds, nextVerdict}
 use Rattle.walks.specs.Listings.{Subsequence, ListsPreferred, goOn, listed, ListingStep, NeverSpent, Whole, stepAfter, CutShort}
-use Rattle.walks.specs.declared.answers.Verdict.{Verdict}
-use Rattle.walks.specs.declared.answers.Verdict.the-variants.{Yes}
 use Rattle.walks.specs.declared.answers.NextState.{NextState}
 use Rattle.walks.specs.declared.answers.NextState.the-variants.{State, Nothing, Spent as NextSpent, Refused as NextRefused}
-use Rattle.walks.proofs.Filters.{upTo, filter-map, passed-over, none-left, taken}
-use Rattle.walks.proofs.Searches.{Answered}
+use Rattle.walks.proofs.Filters.{upTo, passed-over, none-left, taken}
 use Rattle.walks.proofs.Order.{setsBy, all-sets, sets-once, sets-from, ordered}
-use Rattle.walks.proofs.Meanings.{preferred-answered, yes-law}
-use Rattle.walks.proofs.NextStates.{NextAnswered, next-same, capped-spent, never-refused, first-answered, first-state, first-nothing, Foremost, first-found, none-found}
+use Rattle.walks.proofs.FirstStates.{next-same, capped-spent, never-refused}
+use Rattle.walks.proofs.Foremost.{Foremost, NextFound}
+use Rattle.walks.proofs.NextStates.{next-found}
 
 -- what a test keeps of a list
 
@@ -73,9 +73,9 @@ module _ (ws : List ℕ) (rs : List (Rule ℕ)) (at place : ℕ → ℕ) (b : Bi
 -- going on from each answer, in any order
 
 module _ (ws : List ℕ) (rs : List (Rule ℕ)) (at place : ℕ → ℕ) (b : Bijection (2 ^ length ws) at place)
-    (verdict : ℕ → Verdict) (answered : (s : ℕ) → Answered (verdict s)) (says-yes : (s : ℕ) → ((u : ℕ) × (verdict s ≡ Yes u)) ↔ Preferred ws rs s) (budget : ℕ) where
+    (needs : ℕ → NextState) (next : NextFound ws rs place needs) (budget : ℕ) where
   abbrev pub nextBy : ℕ → NextState
-  nextBy t = cappedNext budget (firstState verdict (drop t (setsBy (length ws) at place b)) 0)
+  nextBy t = cappedNext budget (needs t)
 
   abbrev Unspent : ℕ → Type 0
   Unspent t = (u : ℕ) → nextBy t ≡ NextSpent u → ⊥
@@ -88,29 +88,19 @@ module _ (ws : List ℕ) (rs : List (Rule ℕ)) (at place : ℕ → ℕ) (b : Bi
   kept start = upTo (λ p. preferred? ws rs (at p)) (2 ^ length ws) start
 
   left-kept : (start : ℕ) → left start ≡ map at (kept start)
-  left-kept start = ap (filter (preferred? ws rs)) (sets-from (length ws) at place b start) ∙ filter-map (preferred? ws rs) at (from start (2 ^ length ws - start))
-
-  needs-answered : (t : ℕ) → NextAnswered (firstState verdict (drop t (setsBy (length ws) at place b)) 0)
-  needs-answered t = first-answered verdict (Preferred ws rs) answered says-yes (drop t (setsBy (length ws) at place b)) 0
+  left-kept start = ap (filter (preferred? ws rs)) (sets-from (length ws) at place b start) ∙ filter-map at (preferred? ws rs) (from start (2 ^ length ws - start))
 
   found : (start s u : ℕ) → nextBy start ≡ State s u → Foremost (Preferred ws rs) (length ws) place start s
-  found start s u e =
-      let l = drop start (setsBy (length ws) at place b) in
-      let h = next-same budget (firstState verdict l 0) (needs-answered start) (State s u) tt .0 e in
-      let f = first-state verdict (Preferred ws rs) answered says-yes l 0 s u .0 (h .0) in
-      first-found (Preferred ws rs) (length ws) at place b start s (f .0) (f .1)
+  found start s u e = next .found start s u (next-same budget (needs start) (next .answered start) (State s u) tt .0 e .0)
 
   none : (start u : ℕ) → nextBy start ≡ Nothing u → (t : ℕ) → t < 2 ^ length ws → start ≤ place t → Preferred ws rs t → ⊥
-  none start u e =
-      let l = drop start (setsBy (length ws) at place b) in
-      let h = next-same budget (firstState verdict l 0) (needs-answered start) (Nothing u) tt .0 e in
-      none-found (Preferred ws rs) (length ws) at place b start (first-nothing verdict (Preferred ws rs) answered says-yes l 0 u .0 (h .0) .0)
+  none start u e = next .none start u (next-same budget (needs start) (next .answered start) (Nothing u) tt .0 e .0)
 
   spends : (start u : ℕ) → nextBy start ≡ NextSpent u → u ≡ budget
-  spends start u e = capped-spent budget (firstState verdict (drop start (setsBy (length ws) at place b)) 0) (needs-answered start) u .0 e .0
+  spends start u e = capped-spent budget (needs start) (next .answered start) u .0 e .0
 
   unrefused : (start : ℕ) (f : Refusal) → nextBy start ≡ NextRefused f → ⊥
-  unrefused start = never-refused budget (firstState verdict (drop start (setsBy (length ws) at place b)) 0) (needs-answered start)
+  unrefused start = never-refused budget (needs start) (next .answered start)
 
   -- no preferred set at a place where none is found
   not-kept : (x : ℕ) → x < 2 ^ length ws → ((t : ℕ) → t < 2 ^ length ws → place t ≡ x → Preferred ws rs t → ⊥) → T (preferred? ws rs (at x)) → ⊥
@@ -223,18 +213,18 @@ module _ (ws : List ℕ) (rs : List (Rule ℕ)) where
     next t = nextVerdict ws rs t budget
 
     abbrev PlaceDone : List ℕ → Type 0
-    PlaceDone l = Done ws rs (setAt (length ws)) (place (length ws)) (by-place (length ws)) (preferredNeeds ws rs) (preferred-answered ws rs) (yes-law ws rs) budget 0 (preferredSets ws rs) l
+    PlaceDone l = Done ws rs (setAt (length ws)) (place (length ws)) (by-place (length ws)) (nextNeeds ws rs) (next-found ws rs) budget 0 (preferredSets ws rs) l
 
     abbrev PlaceStopped : List ℕ → Type 0
-    PlaceStopped l = Stopped ws rs (setAt (length ws)) (place (length ws)) (by-place (length ws)) (preferredNeeds ws rs) (preferred-answered ws rs) (yes-law ws rs) budget 0 (preferredSets ws rs) l
+    PlaceStopped l = Stopped ws rs (setAt (length ws)) (place (length ws)) (by-place (length ws)) (nextNeeds ws rs) (next-found ws rs) budget 0 (preferredSets ws rs) l
 
     ended : (k : ℕ) → 2 ^ length ws < k → PlaceDone (listed (place (length ws)) next k 0) ⊎ PlaceStopped (listed (place (length ws)) next k 0)
-    unfolding nextVerdict candidates walkOrder preferredSets
-    ended k h = from-start ws rs (setAt (length ws)) (place (length ws)) (by-place (length ws)) (preferredNeeds ws rs) (preferred-answered ws rs) (yes-law ws rs) budget k 0 (omega arith) (omega arith)
+    unfolding nextVerdict walkOrder preferredSets
+    ended k h = from-start ws rs (setAt (length ws)) (place (length ws)) (by-place (length ws)) (nextNeeds ws rs) (next-found ws rs) budget k 0 (omega arith) (omega arith)
 
     -- no step is spent and the listing has all preferred sets, or it has those before the first step that is spent
     pub listing : (k : ℕ) → 2 ^ length ws < k → Whole ws rs budget (listed (place (length ws)) next k 0) ⊎ CutShort ws rs budget (listed (place (length ws)) next k 0)
-    unfolding nextVerdict candidates walkOrder
+    unfolding nextVerdict walkOrder
     listing k h = outcome (ended k h)
       where
         outcome : PlaceDone (listed (place (length ws)) next k 0) ⊎ PlaceStopped (listed (place (length ws)) next k 0) → Whole ws rs budget (listed (place (length ws)) next k 0) ⊎ CutShort ws rs budget (listed (place (length ws)) next k 0)

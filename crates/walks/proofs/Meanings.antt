@@ -1,166 +1,132 @@
--- What the answers of the two verdicts mean (document 01, "Verdicts").
+-- What the answers of the two verdicts mean (document 01, "Verdicts"; document 02, W-207).
 use Prim.Native.Nat.{ℕ, suc, _^_, _≤_, _<_}
-use mathlib.Core.Path.{_≡_, refl, sym, ap, subst}
+use mathlib.Core.Path.{_≡_, refl, sym, ap, _∙_, subst}
 use mathlib.Core.Logic.{_↔_, _⊎_, inl, inr}
 use mathlib.Core.Bool.{Bool, true, false, cond}
-use mathlib.Core.List.{List}
+use mathlib.Core.List.{List, [], _∷_, map}
 use native.Mathlib.Omega.{arith}
-use native.Mathlib.Decide.{decLt}
-use lib.Dec.{T}
+use lib.Dec.{T, eqb, eqb→eq}
 use lib.ListN.{length}
-use Rattle.kinds.specs.declared.refusals.Refusal.{Refusal}
-use Rattle.rules.specs.Lists.{All}
+use Rattle.rules.specs.Lists.{All, keep, filter}
 use Rattle.rules.specs.Sets.{has, ProperSubset}
-use Rattle.rules.specs.Rules.{Rule, Model, FirstBroken, reduct, model?, firstBroken}
+use Rattle.rules.specs.Rules.{Rule, Model, reduct, model?}
 use Rattle.rules.specs.Stable.{Stable}
-use Rattle.kinds.specs.Limits.{fixed}
-use Rattle.rules.specs.Preferred.{Beats, Preferred, ofClass, agree?, beats?}
-use Rattle.rules.proofs.Booleans.{decide}
-use Rattle.rules.proofs.Rules.{model-law, first-broken-le, no-broken-model, model-no-broken, first-broken, first-broken-one}
-use Rattle.rules.proofs.Stable.{proper-lt}
-use Rattle.rules.proofs.Preferred.{agree-law, beats-law}
+use Rattle.rules.specs.Preferred.{Beats, Preferred, beats?}
+use Rattle.rules.proofs.Booleans.{T-and, T-and-l, T-and-r, T-of, eq→eqb, decide}
+use Rattle.rules.proofs.Lists.{all-imp}
+use Rattle.rules.proofs.Rules.{model-law}
+use Rattle.rules.proofs.Preferred.{beats-law}
 use Rattle.places.specs.Places.{Earlier}
-use Rattle.walks.specs.Walk.{walkOrder, agreeing, proper?, properSubsets, search, capped, preferredWalk, stableWalk, preferredBy, stableBy, preferredNeeds, stableNeeds, preferredVerdict, stableVerdict}
-use Rattle.walks.specs.Meanings.{FirstAt, CandidateUnits, PreferredMeans, StableMeans}
+use Rattle.choices.specs.Choices.{Choice, choice, final?}
+use Rattle.choices.proofs.Filtered.{filter-none}
+use Rattle.walks.specs.Order.{walkOrder}
+use Rattle.walks.specs.Walk.{finalAnd?, capped, preferredWalk, stableWalk, preferredNeeds, stableNeeds, preferredVerdict, stableVerdict}
+use Rattle.walks.specs.FullWalk.{agreeing, properSubsets, fullPreferredNeeds, fullStableNeeds, bare}
+use Rattle.walks.specs.Meanings.{First, FinalAnd, FirstAt, ChoiceUnits, PreferredMeans, StableMeans}
 use Rattle.walks.specs.declared.answers.Verdict.{Verdict}
 use Rattle.walks.specs.declared.answers.Verdict.the-variants.{Yes, Broken, Beaten, Spent, Refused}
-use Rattle.walks.proofs.Searches.{Walked, Answered, unitsOf, walked-answered, yes-broken, broken-beaten, search-walked, search-yes, search-beaten, capped-same, capped-spent, never-refused}
-use Rattle.walks.proofs.Order.{AllSets, all-walk-order, earliest-kept, all-agreeing, proper-law, all-proper}
+use Rattle.walks.proofs.Searches.{Answered, unitsOf, capped-same}
+use Rattle.walks.proofs.Order.{all-walk-order}
+use Rattle.walks.proofs.Judged.{Judged, FirstEntry, Units, judged, units-counted, units-model, units-broken, says-yes, verdict-yes, verdict-broken, verdict-beaten, verdict-spent, verdict-unrefused}
+use Rattle.walks.proofs.FullWalk.{unbeaten, minimal, full-earliest, full-earliest-smaller}
+use Rattle.walks.proofs.Agreement.{preferred-finals, preferred-same, stable-finals, stable-same}
 
--- no model exactly when there is a first broken rule, which is the one counted
-pub broken-law : (rs : List (Rule ℕ)) (m i : ℕ) → ((Model rs (has m) → ⊥) × (i ≡ firstBroken rs (has m))) ↔ FirstBroken rs (has m) i
-broken-law rs m i = (there, back)
+-- nothing is kept exactly when nothing passes
+
+none-kept : {A : Type 0} (p : A → Bool) (l : List A) → filter p l ≡ [] → All (λ x. T (p x) → ⊥) l
+none-kept p [] e = tt
+none-kept p (x ∷ l) e = step (p x) refl e (none-kept p l)
   where
-    inside : (Model rs (has m) → ⊥) → Dec (firstBroken rs (has m) < length rs) → firstBroken rs (has m) < length rs
-    inside h (yes l) = l
-    inside h (no l) = absurd (h (no-broken-model rs (has m) (omega (arith, first-broken-le rs (has m)))))
+    step : (b : Bool) → p x ≡ b → keep b x (filter p l) ≡ [] → (filter p l ≡ [] → All (λ x. T (p x) → ⊥) l) → (T (p x) → ⊥) × All (λ x. T (p x) → ⊥) l
+    step true q f r = absurd (let z : _≡_ {A = ℕ} 0 1 = cc in omega arith)
+    step false q f r = (λ t. T-of q t, r f)
 
-    there : (Model rs (has m) → ⊥) × (i ≡ firstBroken rs (has m)) → FirstBroken rs (has m) i
-    there h = rw (h .1) (first-broken rs (has m) (inside (h .0) (decLt (firstBroken rs (has m)) (length rs))))
+map-none : {A : Type 0} (f : A → ℕ) (l : List A) → map f l ≡ [] → l ≡ []
+map-none f [] e = refl
+map-none f (x ∷ l) e = absurd (let z : _≡_ {A = ℕ} 0 1 = cc in omega arith)
 
-    back : FirstBroken rs (has m) i → (Model rs (has m) → ⊥) × (i ≡ firstBroken rs (has m))
-    back h =
-        let e : firstBroken rs (has m) ≡ i = first-broken-one rs (has m) i h in
-        (λ k. (let l = h .inside in omega (arith, model-no-broken rs (has m) k)), sym e)
+-- two lists with tests that keep the same sets
+module _ {A : Type 0} (set : A → ℕ) (p : A → Bool) (P : A → Type 0) (law : (x : A) → T (p x) ↔ P x) (l : List A)
+    (q : ℕ → Bool) (Q : ℕ → Type 0) (law₂ : (s : ℕ) → T (q s) ↔ Q s) (sets : List ℕ) (same : map set (filter p l) ≡ filter q sets) where
+  none-alike : All (λ x. P x → ⊥) l ↔ All (λ s. Q s → ⊥) sets
+  none-alike = (
+    λ h. all-imp (λ s. T (q s) → ⊥) (λ s. Q s → ⊥) (λ s f k. f (law₂ s .1 k)) sets (none-kept q sets (sym same ∙ ap (map set) (filter-none p l (all-imp (λ x. P x → ⊥) (λ x. T (p x) → ⊥) (λ x f t. f (law x .0 t)) l h)))),
+    λ h. all-imp (λ x. T (p x) → ⊥) (λ x. P x → ⊥) (λ x f k. f (law x .1 k)) l (none-kept p l (map-none set (filter p l) (same ∙ filter-none q sets (all-imp (λ s. Q s → ⊥) (λ s. T (q s) → ⊥) (λ s f t. f (law₂ s .0 t)) sets h)))),
+  )
 
--- v is the answer, whatever the budget, for a set m whose walk is l: yes where m is good, else its first broken rule or the first set that is P
-pub record Judged (rs : List (Rule ℕ)) (m : ℕ) (P : ℕ → Type 0) (l : List ℕ) (Good : Type 0) (v : Verdict) : Type 0 where
-  pub answered : Answered v
-  pub is-yes : (u : ℕ) → v ≡ Yes u ↔ (Good × (u ≡ length l))
-  pub is-broken : (i : ℕ) → v ≡ Broken i ↔ FirstBroken rs (has m) i
-  pub is-beaten : (s u : ℕ) → v ≡ Beaten s u ↔ (Model rs (has m) × FirstAt P l s u)
+-- choices judged
 
--- the walk where the set is a model, else the rule that is broken
-module _ (rs : List (Rule ℕ)) (m : ℕ) (better : ℕ → Bool) (P : ℕ → Type 0) (law : (s : ℕ) → T (better s) ↔ P s) (l : List ℕ) (Good : Type 0) (good : (Model rs (has m) × All (λ s. P s → ⊥) l) ↔ Good) where
-  abbrev broken : Verdict
-  broken = Broken (firstBroken rs (has m))
+pub final-law : (n : ℕ) (test : ℕ → Bool) (P : ℕ → Type 0) → ((s : ℕ) → T (test s) ↔ P s) → (k : Choice) → T (finalAnd? n test k) ↔ FinalAnd n P k
+final-law n test P law k = (
+  λ t. (eqb→eq (k .decided) n (T-and-l (final? n k) (test (k .taken)) t), law (k .taken) .0 (T-and-r (final? n k) (test (k .taken)) t)),
+  λ h. T-and (final? n k) (test (k .taken)) (eq→eqb (k .decided) n (h .0)) (law (k .taken) .1 (h .1)),
+)
 
-  judged : Judged rs m P l Good (cond (model? rs (has m)) (search better l 0) (Broken (firstBroken rs (has m))))
-  judged = step (model? rs (has m)) (model-law rs (has m))
+abbrev pub ChoicesJudged : ℕ → List (Rule ℕ) → ℕ → (ℕ → Type 0) → List Choice → Type 0 → Verdict → Type 0
+ChoicesJudged n rs m P l Good v = Judged (λ k. k .taken) (choice 0 0) rs m (FinalAnd n P) l Good v
+
+pub first-final : (n : ℕ) (P : ℕ → Type 0) (l : List Choice) (s k : ℕ) → ((x : Choice) × (x .taken ≡ s) × First (choice 0 0) (FinalAnd n P) l x k) ↔ First (choice 0 0) (FinalAnd n P) l (choice n s) k
+first-final n P l s k = (
+  λ h.
+      let p = h .2 .here .0 in
+      let q = h .1 in
+      let e : h .0 ≡ choice n s = λ i. choice (p i) (q i) in
+      subst (λ (x : Choice). First (choice 0 0) (FinalAnd n P) l x k) e (h .2),
+  λ h. (choice n s, refl, h),
+)
+
+final-entry : (n : ℕ) (P : ℕ → Type 0) (l : List Choice) (s u : ℕ) → FirstEntry (λ k. k .taken) (choice 0 0) (FinalAnd n P) l s u ↔ FirstAt n P l s u
+final-entry n P l s u = (λ f. (f .0, f .1, first-final n P l s (f .0) .0 (f .2)), λ f. (f .0, f .1, first-final n P l s (f .0) .1 (f .2)))
+
+module _ (n : ℕ) (P : ℕ → Type 0) {rs : List (Rule ℕ)} {m : ℕ} {l : List Choice} {Good : Type 0} {v : Verdict} (j : ChoicesJudged n rs m P l Good v) where
+  -- all of the walk, or up to the first final choice that is better
+  abbrev ChoicesUnits : ℕ → Type 0
+  ChoicesUnits u = (Good × (u ≡ length l)) ⊎ ((s : ℕ) × Model rs (has m) × FirstAt n P l s u)
+
+  units-law : (u : ℕ) → Units j u ↔ ChoicesUnits u
+  units-law u = (there, back)
     where
-      step : (b : Bool) → T b ↔ Model rs (has m) → Judged rs m P l Good (cond b (search better l 0) broken)
-      step true q =
-          let walked = search-walked better P law l 0 in record {
-            answered = walked-answered (search better l 0) walked;
-            is-yes = λ u. let r = search-yes better P law l 0 u in (
-              λ e. let h = r .0 e in (good .0 (q .0 tt, h .0), let k = h .1 in omega arith),
-              λ h. r .1 (good .1 (h .0) .1, let k = h .1 in omega arith),
-            );
-            is-broken = λ i. (
-              λ e. absurd (subst Walked e walked),
-              λ h. absurd (broken-law rs m i .1 h .0 (q .0 tt)),
-            );
-            is-beaten = λ s u. let r = search-beaten better P law l 0 s u in (
-              λ e. let h = r .0 e in (q .0 tt, (h .0, (let k = h .1 in omega arith), h .2)),
-              λ h. r .1 (h .1 .0, (let k = h .1 .1 in omega arith), h .1 .2),
-            );
-          }
-      step false q = record {
-        answered = tt;
-        is-yes = λ u. (λ e. yes-broken (sym e), λ h. absurd (q .1 (good .1 (h .0) .0)));
-        is-broken = λ i. (
-          λ e. broken-law rs m i .0 (q .1, let z : firstBroken rs (has m) ≡ i = cc in sym z),
-          λ h. ap Broken (sym (broken-law rs m i .1 h .1)),
-        );
-        is-beaten = λ s u. (λ e. broken-beaten e, λ h. absurd (q .1 (h .0)));
-      }
+      there : Units j u → ChoicesUnits u
+      there (inl h) = inl h
+      there (inr h) = inr (h .0, h .1, final-entry n P l (h .0) u .0 (h .2))
 
-module _ {rs : List (Rule ℕ)} {m : ℕ} {P : ℕ → Type 0} {l : List ℕ} {Good : Type 0} {v : Verdict} (j : Judged rs m P l Good v) where
-  -- the units needed: all of the walk, or up to the first better set
-  abbrev Units : ℕ → Type 0
-  Units u = (Good × (u ≡ length l)) ⊎ ((s : ℕ) × Model rs (has m) × FirstAt P l s u)
-
-  units-counted : (u : ℕ) → Units u → unitsOf v ≡ u
-  units-counted u (inl h) = ap unitsOf (j .is-yes u .1 h)
-  units-counted u (inr h) = ap unitsOf (j .is-beaten (h .0) u .1 (h .1, h .2))
-
-  units-model : Model rs (has m) → Units (unitsOf v)
-  units-model model = step v refl (j .answered)
-    where
-      step : (w : Verdict) → v ≡ w → Answered w → Units (unitsOf w)
-      step (Yes u) e a = inl (j .is-yes u .0 e)
-      step (Broken i) e a = absurd (broken-law rs m i .1 (j .is-broken i .0 e) .0 model)
-      step (Beaten s u) e a = let h = j .is-beaten s u .0 e in inr (s, h .0, h .1)
-      step (Spent u) e a = absurd a
-      step (Refused f) e a = absurd a
-
-  units-broken : (Model rs (has m) → ⊥) → unitsOf v ≡ 0
-  units-broken h = ap unitsOf (j .is-broken (firstBroken rs (has m)) .1 (broken-law rs m (firstBroken rs (has m)) .0 (h, refl)))
-
-  pub says-yes : ((u : ℕ) × (v ≡ Yes u)) ↔ Good
-  says-yes = (λ h. j .is-yes (h .0) .0 (h .1) .0, λ g. (length l, j .is-yes (length l) .1 (g, refl)))
+      back : ChoicesUnits u → Units j u
+      back (inl h) = inl h
+      back (inr h) = inr (h .0, h .1, final-entry n P l (h .0) u .1 (h .2))
 
   module _ (b : ℕ) where
-    pub verdict-yes : (u : ℕ) → capped b v ≡ Yes u ↔ (Good × (u ≡ length l) × (u ≤ b))
-    verdict-yes u = let c = capped-same b v (j .answered) (Yes u) tt in let r = j .is-yes u in (
-      λ e. let h = c .0 e in let k = r .0 (h .0) in (k .0, k .1, h .1),
-      λ h. c .1 (r .1 (h .0, h .1), h .2),
+    choices-beaten : (s u : ℕ) → capped b v ≡ Beaten s u ↔ (Model rs (has m) × FirstAt n P l s u × (u ≤ b))
+    choices-beaten s u = let r = verdict-beaten j b s u in let f = final-entry n P l s u in (
+      λ e. let h = r .0 e in (h .0, f .0 (h .1), h .2),
+      λ h. r .1 (h .0, f .1 (h .1), h .2),
     )
 
-    pub verdict-broken : (i : ℕ) → capped b v ≡ Broken i ↔ FirstBroken rs (has m) i
-    verdict-broken i = let c = capped-same b v (j .answered) (Broken i) tt in (
-      λ e. j .is-broken i .0 (c .0 e .0),
-      λ h. c .1 (j .is-broken i .1 h, omega arith),
+    choices-spent : (u : ℕ) → capped b v ≡ Spent u ↔ ((u ≡ b) × ((n : ℕ) × ChoicesUnits n × (b < n)))
+    choices-spent u = let r = verdict-spent j b u in (
+      λ e. let h = r .0 e in (h .0, (h .1 .0, units-law (h .1 .0) .0 (h .1 .1), h .1 .2)),
+      λ h. r .1 (h .0, (h .1 .0, units-law (h .1 .0) .1 (h .1 .1), h .1 .2)),
     )
 
-    pub verdict-beaten : (s u : ℕ) → capped b v ≡ Beaten s u ↔ (Model rs (has m) × FirstAt P l s u × (u ≤ b))
-    verdict-beaten s u = let c = capped-same b v (j .answered) (Beaten s u) tt in let r = j .is-beaten s u in (
-      λ e. let h = c .0 e in let k = r .0 (h .0) in (k .0, k .1, h .1),
-      λ h. c .1 (r .1 (h .0, h .1), h .2),
-    )
-
-    verdict-spent : (u : ℕ) → capped b v ≡ Spent u ↔ ((u ≡ b) × ((n : ℕ) × Units n × (b < n)))
-    verdict-spent u = let c = capped-spent b v (j .answered) u in (
-      λ e. let h = c .0 e in (h .0, (unitsOf v, units-model (some-model (h .1) (decide (model? rs (has m)))), h .1)),
-      λ h. c .1 (h .0, let k = units-counted (h .1 .0) (h .1 .1) in let l = h .1 .2 in omega arith),
-    )
-      where
-        some-model : b < unitsOf v → T (model? rs (has m)) ⊎ (T (model? rs (has m)) → ⊥) → Model rs (has m)
-        some-model l (inl t) = model-law rs (has m) .0 t
-        some-model l (inr t) = absurd (omega (arith, units-broken (λ k. t (model-law rs (has m) .1 k))))
-
-    pub verdict-unrefused : (f : Refusal) → capped b v ≡ Refused f → ⊥
-    verdict-unrefused f = never-refused b v (j .answered) f
+-- an answer without its units tells the better set
+bare-beaten : (v : Verdict) (s : ℕ) → bare v ≡ Beaten s 0 → (u : ℕ) × (v ≡ Beaten s u)
+bare-beaten (Yes u) s e = absurd (let z : _≡_ {A = ℕ} 0 1 = cc in omega arith)
+bare-beaten (Broken i) s e = absurd (let z : _≡_ {A = ℕ} 0 1 = cc in omega arith)
+bare-beaten (Beaten t u) s e = (u, let p : t ≡ s = cc in ap (λ (x : ℕ). Beaten x u) p)
+bare-beaten (Spent u) s e = absurd (let z : _≡_ {A = ℕ} 0 1 = cc in omega arith)
+bare-beaten (Refused f) s e = absurd (let z : _≡_ {A = ℕ} 0 1 = cc in omega arith)
 
 module _ (ws : List ℕ) (rs : List (Rule ℕ)) (m : ℕ) where
   abbrev Beating : ℕ → Type 0
   Beating s = Beats ws rs s m
 
-  -- among all sets, in any order
-  module _ (sets : List ℕ) (all : AllSets (length ws) sets) where
-    -- nothing in the walk beats m: then nothing does, for what beats m agrees with it on the fixed atoms
-    unbeaten : (Model rs (has m) × All (λ s. Beating s → ⊥) (agreeing ws m sets)) ↔ Preferred ws rs m
-    unbeaten = (
-      λ h. record { model = h .0; unbeaten = λ s l b. all-agreeing ws m sets all (λ s. Beating s → ⊥) .0 (h .1) s l (b .agrees) b },
-      λ p. (p .model, all-agreeing ws m sets all (λ s. Beating s → ⊥) .1 (λ s l a. p .unbeaten s l)),
-    )
-
-    pub preferred-among : Judged rs m (λ s. Beats ws rs s m) (agreeing ws m sets) (Preferred ws rs m) (preferredBy ws rs m (agreeing ws m sets))
-    preferred-among = judged rs m (λ s. beats? ws rs s m) Beating (λ s. beats-law ws rs s m) (agreeing ws m sets) (Preferred ws rs m) unbeaten
-
-  pub preferred-judged : Judged rs m (λ s. Beats ws rs s m) (preferredWalk ws m) (Preferred ws rs m) (preferredNeeds ws rs m)
-  unfolding preferredNeeds preferredWalk
-  preferred-judged = preferred-among (walkOrder (length ws)) (all-walk-order (length ws))
+  pub preferred-judged : ChoicesJudged (length ws) rs m (λ s. Beats ws rs s m) (preferredWalk ws rs m) (Preferred ws rs m) (preferredNeeds ws rs m)
+  unfolding preferredNeeds
+  preferred-judged =
+      let law = final-law (length ws) (λ s. beats? ws rs s m) Beating (λ s. beats-law ws rs s m) in
+      let none = none-alike (λ k. k .taken) (finalAnd? (length ws) (λ s. beats? ws rs s m)) (FinalAnd (length ws) Beating) law (preferredWalk ws rs m) (λ s. beats? ws rs s m) Beating (λ s. beats-law ws rs s m) (agreeing ws m (walkOrder (length ws))) (preferred-finals ws rs m) in
+      let full = unbeaten ws rs m (walkOrder (length ws)) (all-walk-order (length ws)) in
+      judged (λ k. k .taken) (choice 0 0) rs m (finalAnd? (length ws) (λ s. beats? ws rs s m)) (FinalAnd (length ws) Beating) law (preferredWalk ws rs m) (Preferred ws rs m)
+      (λ h. full .0 (h .0, none .0 (h .1)), λ p. let h = full .1 p in (h .0, none .1 (h .1)))
 
   pub preferred-answered : Answered (preferredNeeds ws rs m)
   preferred-answered = preferred-judged .answered
@@ -168,65 +134,76 @@ module _ (ws : List ℕ) (rs : List (Rule ℕ)) (m : ℕ) where
   pub yes-law : ((u : ℕ) × (preferredNeeds ws rs m ≡ Yes u)) ↔ Preferred ws rs m
   yes-law = says-yes preferred-judged
 
-  -- what a candidate costs
-  pub candidate-law : (c : ℕ) → CandidateUnits ws rs m c ↔ (c ≡ suc (unitsOf (preferredNeeds ws rs m)))
-  candidate-law c = (there, λ e. back e (decide (model? rs (has m))))
-    where
-      there : CandidateUnits ws rs m c → c ≡ suc (unitsOf (preferredNeeds ws rs m))
-      there (inl h) = let e = h .1 in omega (arith, units-broken preferred-judged (h .0))
-      there (inr h) = let e = h .2 in omega (arith, units-counted preferred-judged (h .0) (h .1))
-
-      back : c ≡ suc (unitsOf (preferredNeeds ws rs m)) → T (model? rs (has m)) ⊎ (T (model? rs (has m)) → ⊥) → CandidateUnits ws rs m c
-      back e (inl t) = inr (unitsOf (preferredNeeds ws rs m), units-model preferred-judged (model-law rs (has m) .0 t), e)
-      back e (inr t) =
-          let none : Model rs (has m) → ⊥ = λ k. t (model-law rs (has m) .1 k) in
-          inl (none, omega (arith, units-broken preferred-judged none))
-
-  earliest : (s u : ℕ) → FirstAt Beating (preferredWalk ws m) s u → (t : ℕ) → t < 2 ^ length ws → Earlier (length ws) t s → Beating t → ⊥
-  unfolding preferredWalk
-  earliest s u f t l e h = earliest-kept Beating (length ws) (λ s. agree? (ofClass ws fixed) s m) s (f .0) (f .2) t l (agree-law ws t m fixed .1 (h .agrees)) e h
+  earliest : (s u : ℕ) → preferredNeeds ws rs m ≡ Beaten s u → (t : ℕ) → t < 2 ^ length ws → Earlier (length ws) t s → Beats ws rs t m → ⊥
+  earliest s u e = let f = bare-beaten (fullPreferredNeeds ws rs m) s (sym (preferred-same ws rs m) ∙ ap bare e) in full-earliest ws rs m s (f .0) (f .1)
 
   pub preferred-means : (budget : ℕ) → PreferredMeans ws rs m budget
   unfolding preferredVerdict
   preferred-means budget = record {
     yes = verdict-yes preferred-judged budget;
     broken = verdict-broken preferred-judged budget;
-    beaten = verdict-beaten preferred-judged budget;
-    earliest = λ s u e. earliest s u (verdict-beaten preferred-judged budget s u .0 e .1);
-    spent = verdict-spent preferred-judged budget;
+    beaten = choices-beaten (length ws) Beating preferred-judged budget;
+    earliest = λ s u e. earliest s u (capped-same budget (preferredNeeds ws rs m) preferred-answered (Beaten s u) tt .0 e .0);
+    spent = choices-spent (length ws) Beating preferred-judged budget;
     never-refused = verdict-unrefused preferred-judged budget;
   }
 
 module _ (n : ℕ) (rs : List (Rule ℕ)) (m : ℕ) (inside : m < 2 ^ n) where
-  -- a model of the reduct
   abbrev Smaller : ℕ → Type 0
   Smaller s = Model (reduct rs (has m)) (has s)
 
-  module _ (sets : List ℕ) (all : AllSets n sets) where
-    minimal : (Model rs (has m) × All (λ s. Smaller s → ⊥) (properSubsets m sets)) ↔ Stable rs m
-    minimal = (
-      λ h. record { model = h .0; minimal = λ s p. all-proper n m inside sets all (λ s. Smaller s → ⊥) .0 (h .1) s p },
-      λ p. (p .model, all-proper n m inside sets all (λ s. Smaller s → ⊥) .1 (λ s q. p .minimal s q)),
-    )
+  pub stable-judged : ChoicesJudged n rs m (λ s. Model (reduct rs (has m)) (has s)) (stableWalk n rs m) (Stable rs m) (stableNeeds n rs m)
+  unfolding stableNeeds
+  stable-judged =
+      let smaller : ℕ → Bool = λ s. model? (reduct rs (has m)) (has s) in
+      let law = final-law n smaller Smaller (λ s. model-law (reduct rs (has m)) (has s)) in
+      let none = none-alike (λ k. k .taken) (finalAnd? n smaller) (FinalAnd n Smaller) law (stableWalk n rs m) smaller Smaller (λ s. model-law (reduct rs (has m)) (has s)) (properSubsets m (walkOrder n)) (stable-finals n rs m) in
+      let full = minimal n rs m inside (walkOrder n) (all-walk-order n) in
+      judged (λ k. k .taken) (choice 0 0) rs m (finalAnd? n smaller) (FinalAnd n Smaller) law (stableWalk n rs m) (Stable rs m)
+      (λ h. full .0 (h .0, none .0 (h .1)), λ p. let h = full .1 p in (h .0, none .1 (h .1)))
 
-    pub stable-among : Judged rs m (λ s. Model (reduct rs (has m)) (has s)) (properSubsets m sets) (Stable rs m) (stableBy rs m (properSubsets m sets))
-    stable-among = judged rs m (λ s. model? (reduct rs (has m)) (has s)) Smaller (λ s. model-law (reduct rs (has m)) (has s)) (properSubsets m sets) (Stable rs m) minimal
-
-  pub stable-judged : Judged rs m (λ s. Model (reduct rs (has m)) (has s)) (stableWalk n m) (Stable rs m) (stableNeeds n rs m)
-  unfolding stableNeeds stableWalk
-  stable-judged = stable-among (walkOrder n) (all-walk-order n)
-
-  earliest-smaller : (s u : ℕ) → FirstAt Smaller (stableWalk n m) s u → (t : ℕ) → ProperSubset t m → Earlier n t s → Smaller t → ⊥
-  unfolding stableWalk
-  earliest-smaller s u f t p = earliest-kept Smaller n (λ s. proper? s m) s (f .0) (f .2) t (omega (arith, proper-lt t m p)) (proper-law t m .1 p)
+  earliest-smaller : (s u : ℕ) → stableNeeds n rs m ≡ Beaten s u → (t : ℕ) → ProperSubset t m → Earlier n t s → Smaller t → ⊥
+  earliest-smaller s u e = let f = bare-beaten (fullStableNeeds n rs m) s (sym (stable-same n rs m) ∙ ap bare e) in full-earliest-smaller n rs m inside s (f .0) (f .1)
 
   pub stable-means : (budget : ℕ) → StableMeans n rs m budget
   unfolding stableVerdict
   stable-means budget = record {
     yes = verdict-yes stable-judged budget;
     broken = verdict-broken stable-judged budget;
-    beaten = verdict-beaten stable-judged budget;
-    earliest = λ s u e. earliest-smaller s u (verdict-beaten stable-judged budget s u .0 e .1);
-    spent = verdict-spent stable-judged budget;
+    beaten = choices-beaten n Smaller stable-judged budget;
+    earliest = λ s u e. earliest-smaller s u (capped-same budget (stableNeeds n rs m) (stable-judged .answered) (Beaten s u) tt .0 e .0);
+    spent = choices-spent n Smaller stable-judged budget;
     never-refused = verdict-unrefused stable-judged budget;
   }
+
+-- what a choice costs
+module _ (ws : List ℕ) (rs : List (Rule ℕ)) where
+  abbrev pub choiceCost : Choice → ℕ
+  choiceCost k = cond (final? (length ws) k) (suc (unitsOf (preferredNeeds ws rs (k .taken)))) 1
+
+  pub cost-law : (k : Choice) (c : ℕ) → ChoiceUnits ws rs k c ↔ (c ≡ choiceCost k)
+  cost-law k c = step (final? (length ws) k) refl
+    where
+      s : ℕ
+      s = k .taken
+
+      step : (b : Bool) → final? (length ws) k ≡ b → ChoiceUnits ws rs k c ↔ (c ≡ cond b (suc (unitsOf (preferredNeeds ws rs s))) 1)
+      step false q = (there, λ e. inl ((λ h. T-of q (eq→eqb (k .decided) (length ws) (h .0))), e))
+        where
+          there : ChoiceUnits ws rs k c → c ≡ 1
+          there (inl h) = h .1
+          there (inr h) = absurd (T-of q (eq→eqb (k .decided) (length ws) (h .1)))
+      step true q = (there, λ e. back e (decide (model? rs (has s))))
+        where
+          full : k .decided ≡ length ws
+          full = eqb→eq (k .decided) (length ws) (T-of (sym q) tt)
+
+          there : ChoiceUnits ws rs k c → c ≡ suc (unitsOf (preferredNeeds ws rs s))
+          there (inl h) = let e = h .1 in omega (arith, units-broken (preferred-judged ws rs s) (λ p. h .0 (full, p)))
+          there (inr h) = let e = h .3 in omega (arith, units-counted (preferred-judged ws rs s) (h .0) (units-law (length ws) (λ t. Beats ws rs t s) (preferred-judged ws rs s) (h .0) .1 (h .2)))
+
+          back : c ≡ suc (unitsOf (preferredNeeds ws rs s)) → T (model? rs (has s)) ⊎ (T (model? rs (has s)) → ⊥) → ChoiceUnits ws rs k c
+          back e (inl t) = inr (unitsOf (preferredNeeds ws rs s), full, units-law (length ws) (λ t. Beats ws rs t s) (preferred-judged ws rs s) (unitsOf (preferredNeeds ws rs s)) .0 (units-model (preferred-judged ws rs s) (model-law rs (has s) .0 t)), e)
+          back e (inr t) =
+              let none : Model rs (has s) → ⊥ = λ p. t (model-law rs (has s) .1 p) in
+              inl ((λ h. none (h .1)), omega (arith, units-broken (preferred-judged ws rs s) none))

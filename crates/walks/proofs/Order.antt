@@ -2,8 +2,8 @@
 use Prim.Native.Nat.{ℕ, zero, suc, _+_, _-_, _^_, _≤_, _<_}
 use mathlib.Core.Path.{_≡_, refl, sym, ap, ap₂, _∙_, subst}
 use mathlib.Core.Logic.{_↔_, inl, inr, _≢_}
-use mathlib.Core.Bool.{Bool, true, false, not, _&&_}
-use mathlib.Core.List.{List, [], _∷_, _++_, map, append-nil}
+use mathlib.Core.Bool.{Bool, true, false, not}
+use mathlib.Core.List.{List, [], _∷_, map}
 use native.Mathlib.Omega.{arith}
 use lib.Dec.{T, eqb, eqb→eq}
 use lib.ListN.{length, getD, drop, length-map}
@@ -14,14 +14,14 @@ use Rattle.kinds.specs.Limits.{fixed}
 use Rattle.rules.specs.Preferred.{OfClass, ofClass, agree?}
 use Rattle.rules.proofs.Booleans.{eq→eqb, T-and, T-and-l, T-and-r, T-not-in, T-not-out}
 use Rattle.rules.specs.Renumbering.{Bijection}
-use Rattle.rules.proofs.Lists.{all-from, from-all, any-from, all-imp, all-any, any-imp, any-filter, all-filter, filter-all, all-map, map-all, any-map, distinct-map, map-from-at, length-from, from-append}
+use Rattle.rules.proofs.Lists.{all-from, from-all, any-from, all-imp, all-any, any-imp, any-filter, all-filter, filter-all, all-map, map-all, any-map, distinct-map, map-from-at, length-from}
 use Rattle.rules.proofs.Stable.{subset-law, proper-lt}
 use Rattle.rules.proofs.Preferred.{agree-law}
 use Rattle.places.specs.Places.{Earlier, place, setAt}
 use Rattle.places.proofs.Places.{by-place, in-places}
-use Rattle.walks.specs.Walk.{walkOrder, agreeing, proper?, properSubsets}
+use Rattle.walks.specs.Order.{walkOrder}
+use Rattle.walks.specs.FullWalk.{agreeing, proper?, properSubsets}
 use Rattle.walks.specs.Meanings.{EachSetOnce, Ordered, First}
-use Rattle.walks.proofs.Filters.{filter-app, filter-same, none-left}
 
 from-distinct : (s c : ℕ) → Distinct (from s c)
 from-distinct s zero = tt
@@ -105,7 +105,7 @@ rising-kept n p (x ∷ l) h = step (p x) (rising-kept n p l (h .1))
     step false r = r
 
 -- where places rise, none before the first is earlier and P
-first-earliest : (P : ℕ → Type 0) (n : ℕ) (l : List ℕ) (s k : ℕ) → Rising n l → First P l s k → (t : ℕ) → Any (λ x. x ≡ t) l → place n t < place n s → P t → ⊥
+first-earliest : (P : ℕ → Type 0) (n : ℕ) (l : List ℕ) (s k : ℕ) → Rising n l → First 0 P l s k → (t : ℕ) → Any (λ x. x ≡ t) l → place n t < place n s → P t → ⊥
 first-earliest P n [] s k r f t h l p = h
 first-earliest P n (x ∷ l) s zero r f t (inl e) u p = let z : place n x ≡ place n s = ap (place n) (f .place) in let y : place n x ≡ place n t = ap (place n) e in omega arith
 first-earliest P n (x ∷ l) s zero r f t (inr h) u p =
@@ -118,7 +118,7 @@ first-earliest P n (x ∷ l) s (suc k) r f t (inl e) u p = f .earlier .0 (subst 
 first-earliest P n (x ∷ l) s (suc k) r f t (inr h) u p = first-earliest P n l s k (r .1) (record { inside = let i = f .inside in omega arith; place = f .place; here = f .here; earlier = f .earlier .1 }) t h u p
 
 -- so of what a test keeps of all sets
-pub earliest-kept : (P : ℕ → Type 0) (n : ℕ) (p : ℕ → Bool) (s k : ℕ) → First P (filter p (walkOrder n)) s k → (t : ℕ) → t < 2 ^ n → T (p t) → Earlier n t s → P t → ⊥
+pub earliest-kept : (P : ℕ → Type 0) (n : ℕ) (p : ℕ → Bool) (s k : ℕ) → First 0 P (filter p (walkOrder n)) s k → (t : ℕ) → t < 2 ^ n → T (p t) → Earlier n t s → P t → ⊥
 unfolding walkOrder
 earliest-kept P n p s k f t l keeps e =
     first-earliest P n (filter p (walkOrder n)) s k (rising-kept n p (walkOrder n) (rising-from n 0 (2 ^ n) (omega arith))) f t
@@ -149,24 +149,3 @@ module _ (n m : ℕ) (inside : m < 2 ^ n) where
         λ h s p. order .0 (filter-all P proper sets h) s (omega (arith, proper-lt s m p)) (proper-law s m .1 p),
         λ h. all-filter P proper sets (order .1 (λ s l t. h s (proper-law s m .0 t))),
       )
-
-  same-below : (s : ℕ) → s < m → proper? s m ≡ subset? s m
-  same-below s l = step (subset? s m) (eqb s m) (λ t. let e = eqb→eq s m t in omega arith)
-    where
-      step : (a b : Bool) → (T b → ⊥) → (a && not b) ≡ a
-      step true true f = absurd (f tt)
-      step true false f = refl
-      step false b f = refl
-
-  -- by number, the proper subsets are the subsets below m
-  pub proper-from : properSubsets m (from 0 (2 ^ n)) ≡ filter (λ s. subset? s m) (from 0 m)
-  proper-from =
-      let proper : ℕ → Bool = λ s. proper? s m in
-      let e : m + (2 ^ n - m) ≡ 2 ^ n = omega arith in
-      let z : 0 + m ≡ m = omega arith in
-      ap (λ (c : ℕ). filter proper (from 0 c)) (sym e)
-      ∙ ap (filter proper) (sym (from-append 0 m (2 ^ n - m)))
-      ∙ filter-app proper (from 0 m) (from (0 + m) (2 ^ n - m))
-      ∙ ap₂ _++_ (filter-same proper (λ s. subset? s m) (from 0 m) (all-from (λ s. proper? s m ≡ subset? s m) 0 m (λ s l u. same-below s (omega arith))))
-      (ap (λ (a : ℕ). filter proper (from a (2 ^ n - m))) z ∙ none-left proper (2 ^ n) m (λ s a b t. omega (arith, proper-lt s m (proper-law s m .0 t))))
-      ∙ append-nil (filter (λ s. subset? s m) (from 0 m))

@@ -55,58 +55,62 @@ yes-broken e = absurd (let z : _≡_ {A = ℕ} 0 1 = cc in omega arith)
 pub broken-beaten : {A : Type 0} {u s v : ℕ} → Broken u ≡ Beaten s v → A
 broken-beaten e = absurd (let z : _≡_ {A = ℕ} 0 1 = cc in omega arith)
 
-module _ (better : ℕ → Bool) (P : ℕ → Type 0) (law : (s : ℕ) → T (better s) ↔ P s) where
-  pub search-walked : (l : List ℕ) (u : ℕ) → Walked (search better l u)
+module _ {A : Type 0} (set : A → ℕ) (none : A) (better : A → Bool) (P : A → Type 0) (law : (x : A) → T (better x) ↔ P x) where
+  pub search-walked : (l : List A) (u : ℕ) → Walked (search set better l u)
   unfolding search
   search-walked [] u = tt
   search-walked (x ∷ l) u = step (better x) (search-walked l (suc u))
     where
-      step : (b : Bool) → Walked (search better l (suc u)) → Walked (cond b (Beaten x (suc u)) (search better l (suc u)))
+      step : (b : Bool) → Walked (search set better l (suc u)) → Walked (cond b (Beaten (set x) (suc u)) (search set better l (suc u)))
       step true h = tt
       step false h = h
 
-  pub search-yes : (l : List ℕ) (u v : ℕ) → search better l u ≡ Yes v ↔ (All (λ s. P s → ⊥) l × (v ≡ u + length l))
+  pub search-yes : (l : List A) (u v : ℕ) → search set better l u ≡ Yes v ↔ (All (λ x. P x → ⊥) l × (v ≡ u + length l))
   unfolding search
   search-yes [] u v = (λ e. (tt, let q : u ≡ v = cc in omega arith), λ h. ap Yes (let q = h .1 in omega arith))
   search-yes (x ∷ l) u v = step (better x) (law x) (search-yes l (suc u) v)
     where
-      step : (b : Bool) → T b ↔ P x → search better l (suc u) ≡ Yes v ↔ (All (λ s. P s → ⊥) l × (v ≡ suc u + length l))
-          → cond b (Beaten x (suc u)) (search better l (suc u)) ≡ Yes v ↔ (((P x → ⊥) × All (λ s. P s → ⊥) l) × (v ≡ u + suc (length l)))
+      step : (b : Bool) → T b ↔ P x → search set better l (suc u) ≡ Yes v ↔ (All (λ x. P x → ⊥) l × (v ≡ suc u + length l))
+          → cond b (Beaten (set x) (suc u)) (search set better l (suc u)) ≡ Yes v ↔ (((P x → ⊥) × All (λ x. P x → ⊥) l) × (v ≡ u + suc (length l)))
       step true q r = (λ e. yes-beaten (sym e), λ h. absurd (h .0 .0 (q .0 tt)))
       step false q r = (
         λ e. let h = r .0 e in ((q .1, h .0), let k = h .1 in omega arith),
         λ h. r .1 (h .0 .1, let k = h .1 in omega arith),
       )
 
-  pub search-beaten : (l : List ℕ) (u s v : ℕ) → search better l u ≡ Beaten s v ↔ ((k : ℕ) × (v ≡ u + suc k) × First P l s k)
+  -- the first entry that is P has the set s
+  abbrev FirstOf : List A → ℕ → ℕ → Type 0
+  FirstOf l s k = (x : A) × (set x ≡ s) × First none P l x k
+
+  pub search-beaten : (l : List A) (u s v : ℕ) → search set better l u ≡ Beaten s v ↔ ((k : ℕ) × (v ≡ u + suc k) × FirstOf l s k)
   unfolding search
-  search-beaten [] u s v = (λ e. yes-beaten e, λ h. absurd (let i = h .2 .inside in omega arith))
+  search-beaten [] u s v = (λ e. yes-beaten e, λ h. absurd (let i = h .2 .2 .inside in omega arith))
   search-beaten (x ∷ l) u s v = step (better x) (law x) (search-beaten l (suc u) s v)
     where
-      step : (b : Bool) → T b ↔ P x → search better l (suc u) ≡ Beaten s v ↔ ((k : ℕ) × (v ≡ suc u + suc k) × First P l s k)
-          → cond b (Beaten x (suc u)) (search better l (suc u)) ≡ Beaten s v ↔ ((k : ℕ) × (v ≡ u + suc k) × First P (x ∷ l) s k)
+      step : (b : Bool) → T b ↔ P x → search set better l (suc u) ≡ Beaten s v ↔ ((k : ℕ) × (v ≡ suc u + suc k) × FirstOf l s k)
+          → cond b (Beaten (set x) (suc u)) (search set better l (suc u)) ≡ Beaten s v ↔ ((k : ℕ) × (v ≡ u + suc k) × FirstOf (x ∷ l) s k)
       step true q r = (
         λ e.
-            let p : x ≡ s = cc in
+            let p : set x ≡ s = cc in
             let w : suc u ≡ v = cc in
-            (0, omega arith, record { inside = omega arith; place = p; here = subst P p (q .0 tt); earlier = tt }),
-        λ h. back (h .0) (h .1) (h .2),
+            (0, omega arith, (x, p, record { inside = omega arith; place = refl; here = q .0 tt; earlier = tt })),
+        λ h. back (h .0) (h .1) (h .2 .0) (h .2 .1) (h .2 .2),
       )
         where
-          back : (k : ℕ) → v ≡ u + suc k → First P (x ∷ l) s k → Beaten x (suc u) ≡ Beaten s v
-          back zero e f = let p = f .place in let w : suc u ≡ v = omega arith in cc
-          back (suc k) e f = absurd (f .earlier .0 (q .0 tt))
+          back : (k : ℕ) → v ≡ u + suc k → (y : A) → set y ≡ s → First none P (x ∷ l) y k → Beaten (set x) (suc u) ≡ Beaten s v
+          back zero e y p f = let i : set x ≡ s = ap set (f .place) ∙ p in let w : suc u ≡ v = omega arith in cc
+          back (suc k) e y p f = absurd (f .earlier .0 (q .0 tt))
       step false q r = (
         λ e.
             let h = r .0 e in
-            let f = h .2 in
-            (suc (h .0), (let w = h .1 in omega arith), record { inside = let i = f .inside in omega arith; place = f .place; here = f .here; earlier = (q .1, f .earlier) }),
-        λ h. back (h .0) (h .1) (h .2),
+            let f = h .2 .2 in
+            (suc (h .0), (let w = h .1 in omega arith), (h .2 .0, h .2 .1, record { inside = let i = f .inside in omega arith; place = f .place; here = f .here; earlier = (q .1, f .earlier) })),
+        λ h. back (h .0) (h .1) (h .2 .0) (h .2 .1) (h .2 .2),
       )
         where
-          back : (k : ℕ) → v ≡ u + suc k → First P (x ∷ l) s k → search better l (suc u) ≡ Beaten s v
-          back zero e f = absurd (q .1 (subst P (sym (f .place)) (f .here)))
-          back (suc k) e f = r .1 (k, omega arith, record { inside = let i = f .inside in omega arith; place = f .place; here = f .here; earlier = f .earlier .1 })
+          back : (k : ℕ) → v ≡ u + suc k → (y : A) → set y ≡ s → First none P (x ∷ l) y k → search set better l (suc u) ≡ Beaten s v
+          back zero e y p f = absurd (q .1 (subst P (sym (f .place)) (f .here)))
+          back (suc k) e y p f = r .1 (k, omega arith, (y, p, record { inside = let i = f .inside in omega arith; place = f .place; here = f .here; earlier = f .earlier .1 }))
 
 -- the budget
 

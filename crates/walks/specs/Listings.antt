@@ -8,7 +8,8 @@ use Rattle.rules.specs.Lists.{All, Any, Distinct}
 use Rattle.rules.specs.Rules.{Rule}
 use Rattle.rules.specs.Preferred.{Preferred}
 use Rattle.places.specs.Places.{place}
-use Rattle.walks.specs.Walk.{walkOrder, preferredSets, nextVerdict}
+use Rattle.walks.specs.Order.{walkOrder, preferredSets}
+use Rattle.walks.specs.Walk.{nextVerdict}
 use Rattle.walks.specs.declared.answers.NextState.{NextState}
 use Rattle.walks.specs.declared.answers.NextState.the-variants.{State, Nothing, Spent as NextSpent, Refused as NextRefused}
 

@@ -7,7 +7,8 @@ use lib.ListN.{length, drop}
 use Rattle.rules.specs.Lists.{Any, from}
 use Rattle.rules.specs.Rules.{Rule}
 use Rattle.places.specs.Places.{place}
-use Rattle.walks.specs.Walk.{agreeing, properSubsets, preferredBy, stableBy, capped, firstState, cappedNext, preferredVerdict, stableVerdict, nextVerdict}
+use Rattle.walks.specs.Walk.{capped, cappedNext}
+use Rattle.walks.specs.FullWalk.{agreeing, properSubsets, preferredBy, stableBy, nextBy, fullPreferred, fullStable, fullNext}
 use Rattle.walks.specs.Listings.{listed, NeverSpent}
 use Rattle.walks.specs.declared.answers.Verdict.{Verdict}
 use Rattle.walks.specs.declared.answers.Verdict.the-variants.{Yes, Broken, Beaten, Spent, Refused}
@@ -26,7 +27,7 @@ abbrev pub risingStable : ℕ → List (Rule ℕ) → ℕ → ℕ → Verdict
 risingStable n rs m budget = capped budget (stableBy rs m (properSubsets m (risingOrder n)))
 
 abbrev pub risingNext : List ℕ → List (Rule ℕ) → ℕ → ℕ → NextState
-risingNext ws rs start budget = cappedNext budget (firstState (risingNeeds ws rs) (drop start (risingOrder (length ws))) 0)
+risingNext ws rs start budget = cappedNext budget (nextBy (risingNeeds ws rs) (drop start (risingOrder (length ws))))
 
 -- a verdict's case and broken rule, without the better set and the units
 abbrev pub caseOf : Verdict → Verdict
@@ -42,9 +43,9 @@ SameUnspent v w = ((u : ℕ) → v ≡ Spent u → ⊥) → ((u : ℕ) → w ≡
 
 -- a number is the place of its set in this order; the two orders have budgets of their own
 pub record OrdersAgree : Type 0 where
-  pub preferred : (ws : List ℕ) (rs : List (Rule ℕ)) (m b c : ℕ) → SameUnspent (preferredVerdict ws rs m b) (risingPreferred ws rs m c)
-  pub stable : (n : ℕ) (rs : List (Rule ℕ)) (m b c : ℕ) → m < 2 ^ n → SameUnspent (stableVerdict n rs m b) (risingStable n rs m c)
+  pub preferred : (ws : List ℕ) (rs : List (Rule ℕ)) (m b c : ℕ) → SameUnspent (fullPreferred ws rs m b) (risingPreferred ws rs m c)
+  pub stable : (n : ℕ) (rs : List (Rule ℕ)) (m b c : ℕ) → m < 2 ^ n → SameUnspent (fullStable n rs m b) (risingStable n rs m c)
   pub states : (ws : List ℕ) (rs : List (Rule ℕ)) (b c k : ℕ) → 2 ^ length ws < k
-      → NeverSpent (place (length ws)) ws rs (λ t. nextVerdict ws rs t b)
+      → NeverSpent (place (length ws)) ws rs (λ t. fullNext ws rs t b)
       → NeverSpent (λ s. s) ws rs (λ t. risingNext ws rs t c)
-      → (s : ℕ) → Any (λ x. x ≡ s) (listed (place (length ws)) (λ t. nextVerdict ws rs t b) k 0) ↔ Any (λ x. x ≡ s) (listed (λ s. s) (λ t. risingNext ws rs t c) k 0)
+      → (s : ℕ) → Any (λ x. x ≡ s) (listed (place (length ws)) (λ t. fullNext ws rs t b) k 0) ↔ Any (λ x. x ≡ s) (listed (λ s. s) (λ t. risingNext ws rs t c) k 0)

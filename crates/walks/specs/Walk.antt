@@ -1,55 +1,51 @@
--- The walks of the two verdicts, one unit a set tried, and the next state (document 01, "Verdicts").
-use Prim.Native.Nat.{ℕ, suc, _+_, _^_}
-use mathlib.Core.Bool.{Bool, not, _&&_, cond}
-use mathlib.Core.List.{List, [], _∷_, map}
-use lib.Dec.{leb, eqb}
-use lib.ListN.{length, drop}
-use Rattle.rules.specs.Lists.{filter, from}
+-- The walks, their units and the answers (document 01, "Verdicts"; document 02, W-207: a walk goes no deeper once some rule is broken).
+use Prim.Native.Nat.{ℕ, suc, _+_}
+use mathlib.Core.Bool.{Bool, true, not, cond, _&&_, _||_}
+use mathlib.Core.List.{List, [], _∷_}
+use lib.Dec.{eqb, leb}
+use lib.ListN.{length, getD}
+use Rattle.kinds.specs.Limits.{fixed}
+use Rattle.rules.specs.Lists.{filter}
 use Rattle.rules.specs.Sets.{has}
 use Rattle.rules.specs.Rules.{Rule, reduct, model?, firstBroken}
-use Rattle.rules.specs.Stable.{subset?}
-use Rattle.kinds.specs.Limits.{fixed}
-use Rattle.rules.specs.Preferred.{ofClass, agree?, beats?, preferred?}
-use Rattle.places.specs.Places.{setAt}
+use Rattle.rules.specs.Preferred.{same?, beats?}
+use Rattle.choices.specs.Choices.{Choice, Course, closed?, visited, final?, isSet?, before?}
 use Rattle.walks.specs.declared.answers.Verdict.{Verdict}
 use Rattle.walks.specs.declared.answers.Verdict.the-variants.{Yes, Broken, Beaten, Spent, Refused}
 use Rattle.walks.specs.declared.answers.NextState.{NextState}
 use Rattle.walks.specs.declared.answers.NextState.the-variants.{State, Nothing, Spent as NextSpent, Refused as NextRefused}
 
--- all sets of n atoms, in the order of the walks: by rising place (document 02, W-206)
-unfoldable pub walkOrder : ℕ → List ℕ
-walkOrder n = map (setAt n) (from 0 (2 ^ n))
+-- fixed atoms, in their turn, take only m's value
+abbrev pub preferredCourse : List ℕ → List (Rule ℕ) → ℕ → Course
+preferredCourse ws rs m = record { closed = closed? rs; may = λ a v. not (eqb (getD ws a 0) fixed) || same? v (has m a) }
 
--- those of some sets that agree with m on the fixed atoms
-abbrev pub agreeing : List ℕ → ℕ → List ℕ → List ℕ
-agreeing ws m sets = filter (λ s. agree? (ofClass ws fixed) s m) sets
+-- atoms outside m are only out, and the rules are the reduct's
+abbrev pub stableCourse : List (Rule ℕ) → ℕ → Course
+stableCourse rs m = record { closed = closed? (reduct rs (has m)); may = λ a v. not v || has m a }
 
-unfoldable pub preferredWalk : List ℕ → ℕ → List ℕ
-preferredWalk ws m = agreeing ws m (walkOrder (length ws))
+-- fixed atoms are free
+abbrev pub freeCourse : List (Rule ℕ) → Course
+freeCourse rs = record { closed = closed? rs; may = λ a v. true }
 
-abbrev pub proper? : ℕ → ℕ → Bool
-proper? s m = subset? s m && not (eqb s m)
+unfoldable pub preferredWalk : List ℕ → List (Rule ℕ) → ℕ → List Choice
+preferredWalk ws rs m = visited (preferredCourse ws rs m) (length ws) 0 0
 
--- those of some sets that are proper subsets of m
-abbrev pub properSubsets : ℕ → List ℕ → List ℕ
-properSubsets m sets = filter (λ s. proper? s m) sets
+-- the final choice m, a set of n atoms, is neither visited nor counted
+unfoldable pub stableWalk : ℕ → List (Rule ℕ) → ℕ → List Choice
+stableWalk n rs m = filter (λ k. not (isSet? n m k)) (visited (stableCourse rs m) n 0 0)
 
--- m is a set of n atoms
-unfoldable pub stableWalk : ℕ → ℕ → List ℕ
-stableWalk n m = properSubsets m (walkOrder n)
+-- no choice lying wholly before the start, a place
+unfoldable pub candidates : List ℕ → List (Rule ℕ) → ℕ → List Choice
+candidates ws rs start = filter (λ k. not (before? (length ws) start k)) (visited (freeCourse rs) (length ws) 0 0)
 
--- the sets from the start, a place, on
-unfoldable pub candidates : List ℕ → ℕ → List ℕ
-candidates ws start = drop start (walkOrder (length ws))
+-- a final choice whose set passes the test
+abbrev pub finalAnd? : ℕ → (ℕ → Bool) → Choice → Bool
+finalAnd? n test k = final? n k && test (k .taken)
 
--- the preferred sets, in the order of the walks
-unfoldable pub preferredSets : List ℕ → List (Rule ℕ) → List ℕ
-preferredSets ws rs = filter (preferred? ws rs) (walkOrder (length ws))
-
--- the first better set of a walk, one unit a set tried; u units were counted before
-unfoldable pub search : (ℕ → Bool) → List ℕ → ℕ → Verdict
-search better [] u = Yes u
-search better (s ∷ ss) u = let rest = search better ss (suc u) in cond (better s) (Beaten s (suc u)) rest
+-- the first better entry of a walk, one unit an entry; `set` gives an entry's set, and u units were counted before
+unfoldable pub search : {A : Type 0} → (A → ℕ) → (A → Bool) → List A → ℕ → Verdict
+search set better [] u = Yes u
+search set better (x ∷ xs) u = let rest = search set better xs (suc u) in cond (better x) (Beaten (set x) (suc u)) rest
 
 -- spent exactly when the units needed exceed the budget
 unfoldable pub capped : ℕ → Verdict → Verdict
@@ -60,21 +56,16 @@ capped budget (Spent u) = Spent u
 capped budget (Refused f) = Refused f
 
 -- the verdict on m by a walk, with the units needed, whatever the budget
-abbrev pub preferredBy : List ℕ → List (Rule ℕ) → ℕ → List ℕ → Verdict
-preferredBy ws rs m walk =
-    let walked = search (λ s. beats? ws rs s m) walk 0 in
+abbrev pub verdictBy : {A : Type 0} → (A → ℕ) → List (Rule ℕ) → ℕ → (A → Bool) → List A → Verdict
+verdictBy set rs m better walk =
+    let walked = search set better walk 0 in
     cond (model? rs (has m)) walked (Broken (firstBroken rs (has m)))
 
 unfoldable pub preferredNeeds : List ℕ → List (Rule ℕ) → ℕ → Verdict
-preferredNeeds ws rs m = preferredBy ws rs m (preferredWalk ws m)
-
-abbrev pub stableBy : List (Rule ℕ) → ℕ → List ℕ → Verdict
-stableBy rs m walk =
-    let walked = search (λ s. model? (reduct rs (has m)) (has s)) walk 0 in
-    cond (model? rs (has m)) walked (Broken (firstBroken rs (has m)))
+preferredNeeds ws rs m = verdictBy (λ k. k .taken) rs m (finalAnd? (length ws) (λ s. beats? ws rs s m)) (preferredWalk ws rs m)
 
 unfoldable pub stableNeeds : ℕ → List (Rule ℕ) → ℕ → Verdict
-stableNeeds n rs m = stableBy rs m (stableWalk n m)
+stableNeeds n rs m = verdictBy (λ k. k .taken) rs m (finalAnd? n (λ s. model? (reduct rs (has m)) (has s))) (stableWalk n rs m)
 
 unfoldable pub preferredVerdict : List ℕ → List (Rule ℕ) → ℕ → ℕ → Verdict
 preferredVerdict ws rs m budget = capped budget (preferredNeeds ws rs m)
@@ -82,7 +73,7 @@ preferredVerdict ws rs m budget = capped budget (preferredNeeds ws rs m)
 unfoldable pub stableVerdict : ℕ → List (Rule ℕ) → ℕ → ℕ → Verdict
 stableVerdict n rs m budget = capped budget (stableNeeds n rs m)
 
--- a candidate costs 1 unit and, if it is a model, the units of its verdict
+-- a set costs 1 unit and, if it is a model, the units of its verdict
 abbrev pub after : Verdict → ℕ → ℕ → (ℕ → NextState) → NextState
 after (Yes w) s u rest = State s (suc u + w)
 after (Broken i) s u rest = rest (suc u)
@@ -90,9 +81,10 @@ after (Beaten t w) s u rest = rest (suc u + w)
 after (Spent w) s u rest = rest (suc u)
 after (Refused f) s u rest = rest (suc u)
 
-unfoldable pub firstState : (ℕ → Verdict) → List ℕ → ℕ → NextState
-firstState verdict [] u = Nothing u
-firstState verdict (s ∷ ss) u = after (verdict s) s u (λ v. firstState verdict ss v)
+-- the first entry that is final and whose verdict is yes
+unfoldable pub firstState : {A : Type 0} → (A → ℕ) → (A → Bool) → (ℕ → Verdict) → List A → ℕ → NextState
+firstState set final verdict [] u = Nothing u
+firstState set final verdict (x ∷ xs) u = cond (final x) (after (verdict (set x)) (set x) u (λ v. firstState set final verdict xs v)) (firstState set final verdict xs (suc u))
 
 unfoldable pub cappedNext : ℕ → NextState → NextState
 cappedNext budget (State s u) = cond (leb u budget) (State s u) (NextSpent budget)
@@ -100,5 +92,8 @@ cappedNext budget (Nothing u) = cond (leb u budget) (Nothing u) (NextSpent budge
 cappedNext budget (NextSpent u) = NextSpent u
 cappedNext budget (NextRefused f) = NextRefused f
 
+unfoldable pub nextNeeds : List ℕ → List (Rule ℕ) → ℕ → NextState
+nextNeeds ws rs start = firstState (λ k. k .taken) (final? (length ws)) (preferredNeeds ws rs) (candidates ws rs start) 0
+
 unfoldable pub nextVerdict : List ℕ → List (Rule ℕ) → ℕ → ℕ → NextState
-nextVerdict ws rs start budget = cappedNext budget (firstState (preferredNeeds ws rs) (candidates ws start) 0)
+nextVerdict ws rs start budget = cappedNext budget (nextNeeds ws rs start)

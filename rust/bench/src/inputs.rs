@@ -1,18 +1,21 @@
 //! The inputs, from fixed seeds, so that each run of the table has the same.
 
-use crate::walks;
+use crate::walks::{self, Answer};
 use compare::generate;
 use compare::random::Random;
 use reference::limits::Kind;
 use reference::program::{Program, Role, Rule};
 use reference::stores::rule_store;
+use reference::verdicts::place;
 
-/// A rule store with a set whose verdict is yes, and the units which that takes.
+/// A rule store with a set or a start, and the answer to it.
 pub struct Walk {
     pub rules: Vec<u16>,
-    pub set: u64,
-    pub units: u64,
+    pub number: u64,
+    pub answer: Answer,
 }
+
+const LARGEST: u64 = 1 << 40;
 
 /// Different atoms, between so many.
 fn some(random: &mut Random, atoms: usize, least: usize, most: usize) -> Vec<usize> {
@@ -20,8 +23,8 @@ fn some(random: &mut Random, atoms: usize, least: usize, most: usize) -> Vec<usi
     random.choose(count, atoms)
 }
 
-/// A preference file of three classes and some varying atoms, none fixed, and a preferred set.
-pub fn preferred(atoms: usize, rules: usize) -> Walk {
+/// A preference file of three classes and some varying atoms, none fixed.
+fn file(atoms: usize, rules: usize) -> Vec<u16> {
     let mut random = Random::new(atoms as u64 * 10_000 + rules as u64);
     let mut file = Program::empty(Kind::Preference);
     file.atoms = atoms;
@@ -40,59 +43,127 @@ pub fn preferred(atoms: usize, rules: usize) -> Walk {
             not: Vec::new(),
         });
     }
-    let store = rule_store(&file);
+    rule_store(&file)
+}
+
+/// A preferred set of such a file.
+pub fn preferred(atoms: usize, rules: usize) -> Walk {
+    let rules = file(atoms, rules);
     // All atoms together are a model; from there each better set, until none is better.
-    let mut set = (1 << atoms) - 1;
+    let mut number = (1 << atoms) - 1;
     loop {
-        let verdict = walks::preferred(&store, set, 1 << 40);
-        match verdict.kind {
-            2 => set = verdict.value,
-            _ => {
-                return Walk {
-                    rules: store,
-                    set,
-                    units: verdict.units,
-                }
-            }
+        let answer = walks::preferred(&rules, number, LARGEST);
+        if answer.kind != 2 {
+            return Walk {
+                rules,
+                number,
+                answer,
+            };
+        }
+        number = answer.value;
+    }
+}
+
+/// The place behind the last state of the file, from which each model is beaten.
+fn behind_the_last_state(rules: Vec<u16>) -> Walk {
+    let atoms = usize::from(rules[1]);
+    let mut number = 0;
+    loop {
+        let answer = walks::next_state(&rules, number, LARGEST);
+        if answer.kind != 0 {
+            return Walk {
+                rules,
+                number,
+                answer,
+            };
+        }
+        number = place(atoms, answer.value) + 1;
+    }
+}
+
+pub fn listing(atoms: usize, rules: usize) -> Walk {
+    behind_the_last_state(file(atoms, rules))
+}
+
+pub fn inverters_listing(count: usize) -> Walk {
+    behind_the_last_state(rule_store(&generate::inverters(count)))
+}
+
+/// A plain program in which all atoms together are stable. The others follow from the first; without
+/// it no set is a model of the rules of three atoms, each with one of the last ten, so that a walk
+/// goes down far before a rule is broken. One rule in six is dropped by the reduct.
+pub fn stable(atoms: usize, rules: usize) -> Walk {
+    let mut random = Random::new(atoms as u64 * 10_000 + rules as u64 + 1);
+    let number = (1 << atoms) - 1;
+    loop {
+        let rules = rule_store(&saturated(&mut random, atoms, rules));
+        let answer = walks::stable(&rules, number, LARGEST);
+        if answer.kind == 0 {
+            return Walk {
+                rules,
+                number,
+                answer,
+            };
         }
     }
 }
 
-/// A plain program in which all atoms together are stable: each follows from the one before, and
-/// the other rules hold anyway.
-pub fn stable(atoms: usize, rules: usize) -> Walk {
-    let mut random = Random::new(atoms as u64 * 10_000 + rules as u64 + 1);
+fn saturated(random: &mut Random, atoms: usize, rules: usize) -> Program {
     let mut plain = Program::empty(Kind::Plain);
     plain.atoms = atoms;
-    for atom in 0..atoms {
+    for atom in 1..atoms {
         plain.rules.push(Rule {
             head: vec![atom],
-            body: if atom == 0 {
-                Vec::new()
-            } else {
-                vec![atom - 1]
-            },
+            body: vec![0],
             not: Vec::new(),
         });
     }
     while plain.rules.len() < rules {
-        let not = if random.once_in(3) {
-            some(&mut random, atoms, 1, 2)
-        } else {
-            Vec::new()
-        };
-        plain.rules.push(Rule {
-            head: some(&mut random, atoms, 2, 4),
-            body: some(&mut random, atoms, 1, 3),
-            not,
-        });
+        let rule = rule_of_three(random, atoms);
+        plain.rules.push(rule);
     }
     let order = random.choose(rules, rules);
     plain.rules = order.into_iter().map(|i| plain.rules[i].clone()).collect();
+    plain
+}
+
+fn rule_of_three(random: &mut Random, atoms: usize) -> Rule {
+    let early = random.choose(2, atoms - 11);
+    let mut three: Vec<usize> = early.into_iter().map(|atom| atom + 1).collect();
+    three.push(atoms - 1 - random.below(10));
+    let (mut head, body): (Vec<usize>, _) = three.into_iter().partition(|_| random.once_in(2));
+    head.push(0);
+    let not = match random.once_in(6) {
+        true => vec![random.below(atoms)],
+        false => Vec::new(),
+    };
+    Rule { head, body, not }
+}
+
+/// A row of inverters and the preferred set in which the last of them is at fault.
+pub fn one_fault(count: usize) -> Walk {
     Walk {
-        rules: rule_store(&plain),
-        set: (1 << atoms) - 1,
-        units: (1 << atoms) - 1,
+        rules: rule_store(&generate::inverters(count)),
+        number: generate::one_at_fault(count, count - 1),
+        answer: Answer {
+            kind: 0,
+            value: 0,
+            units: 4 * 3u64.pow(count as u32) - 1,
+        },
+    }
+}
+
+/// A row of an odd number of inverters and the set of all faults without any wire, which the first
+/// preferred set beats.
+pub fn all_at_fault(count: usize) -> Walk {
+    Walk {
+        rules: rule_store(&generate::inverters(count)),
+        number: (1 << count) - 1,
+        answer: Answer {
+            kind: 2,
+            value: generate::one_at_fault(count, count - 1),
+            units: 9 * (count as u64 + 1) / 2,
+        },
     }
 }
 

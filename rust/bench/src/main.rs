@@ -22,38 +22,62 @@ fn processor_seconds() -> f64 {
     (unsafe { clock() }) as f64 / 1e6
 }
 
-/// The least processor seconds that one call took, for each contestant.
-fn times(contestants: &[Contestant]) -> Vec<f64> {
+/// The processor seconds of one call, by the mean of some.
+fn time_of(call: &dyn Fn()) -> f64 {
+    let start = processor_seconds();
+    call();
+    let mut calls = 1;
+    loop {
+        let taken = processor_seconds() - start;
+        if taken > 0.1 {
+            return taken / f64::from(calls);
+        }
+        // As many again: the clock is read seldom, so that this takes no time.
+        (0..calls).for_each(|_| call());
+        calls *= 2;
+    }
+}
+
+/// The processor seconds of one call, the least of so many turns, for each contestant.
+fn times(turns: usize, contestants: &[Contestant]) -> Vec<f64> {
     let mut best = vec![f64::INFINITY; contestants.len()];
-    for _ in 0..7 {
+    for _ in 0..turns {
         for (place, (_, call)) in contestants.iter().enumerate() {
-            let start = processor_seconds();
-            let mut calls = 0;
-            let mut taken = 0.0;
-            while calls == 0 || taken < 0.1 {
-                call();
-                calls += 1;
-                taken = processor_seconds() - start;
-            }
-            best[place] = best[place].min(taken / f64::from(calls));
+            best[place] = best[place].min(time_of(call));
         }
     }
     best
 }
 
-/// One line of the table: each contestant's speed, and the engine's as a ratio to the others.
-fn row(what: &str, amount: f64, unit: &str, contestants: &[Contestant]) {
-    let times = times(contestants);
-    print!("{what:<47}");
-    for ((name, _), time) in contestants.iter().zip(&times) {
-        print!("  {name} {:>8.1} {unit}", amount / time / 1e6);
+const TURNS: usize = 7;
+
+/// One line of the table: what is shown of each contestant's time, and the engine's speed as a ratio
+/// to the others.
+fn print_row(what: &str, contestants: &[Contestant], times: &[f64], shown: impl Fn(f64) -> String) {
+    print!("{what:<57}");
+    for ((name, _), time) in contestants.iter().zip(times) {
+        print!("  {name} {}", shown(*time));
     }
     if contestants[0].0 == "engine" {
-        for ((name, _), time) in contestants.iter().zip(&times).skip(1) {
+        for ((name, _), time) in contestants.iter().zip(times).skip(1) {
             print!("  engine/{name} {:.2}", time / times[0]);
         }
     }
     println!();
+}
+
+/// So many millions of a unit in a second.
+fn speed(amount: f64, unit: &str) -> impl Fn(f64) -> String + '_ {
+    move |time| format!("{:>8.1} {unit}", amount / time / 1e6)
+}
+
+fn microseconds(time: f64) -> String {
+    format!("{:>8.2} us", time * 1e6)
+}
+
+fn row(what: &str, amount: f64, unit: &str, contestants: &[Contestant]) {
+    let times = times(TURNS, contestants);
+    print_row(what, contestants, &times, speed(amount, unit));
 }
 
 #[cfg(feature = "engine")]
@@ -104,52 +128,118 @@ fn engine_call(_: usize) -> Option<(&'static str, Call)> {
     None
 }
 
-fn walk_row(what: &str, which: usize, walk: &Walk, number: u64, budget: u64) {
-    let calls = calls(which);
-    let expected = calls[0].1(&walk.rules, number, budget);
-    for (name, call) in &calls {
-        let given = call(&walk.rules, number, budget);
-        assert_eq!(given, expected, "{what}: {name} answers differently");
-    }
-    let rules = &walk.rules;
-    let contestants: Vec<Contestant> = calls
-        .into_iter()
-        .map(|(name, call)| -> Contestant {
-            (
-                name,
-                Box::new(move || {
-                    black_box(call(black_box(rules), number, budget));
-                }),
-            )
-        })
-        .collect();
-    row(what, expected.units as f64, "Mu/s", &contestants);
+/// Each call gives the answer that is known, or the bench ends.
+fn walkers(which: usize, walk: &Walk) -> Vec<Contestant<'_>> {
+    let contestant = |(name, call): (&'static str, Call)| -> Contestant<'_> {
+        let given = move || {
+            let answer = call(black_box(&walk.rules), walk.number, 1 << 40);
+            assert_eq!(answer, walk.answer, "{name} answers differently");
+        };
+        (name, Box::new(given))
+    };
+    calls(which).into_iter().map(contestant).collect()
 }
 
-fn stable_row(atoms: usize, rules: usize) {
-    let plain = inputs::stable(atoms, rules);
-    let what = format!(
-        "stable, {atoms} atoms, {rules} rules, {} units",
-        plain.units
-    );
-    walk_row(&what, 1, &plain, plain.set, 1 << 40);
+/// A line for a walk; gives each contestant's time.
+fn walk_row(what: &str, which: usize, walk: &Walk, turns: usize) -> Vec<f64> {
+    let contestants = walkers(which, walk);
+    let times = times(turns, &contestants);
+    let what = format!("{what}, {} units", walk.answer.units);
+    let speed = speed(walk.answer.units as f64, "Mu/s");
+    print_row(&what, &contestants, &times, speed);
+    times
 }
+
+const PREFERRED: usize = 0;
+const STABLE: usize = 1;
+const LISTING: usize = 2;
 
 fn walk_rows() {
-    for (atoms, rules) in [(20, 20), (24, 200), (24, 1_000)] {
-        let walk = inputs::preferred(atoms, rules);
-        let what = format!(
-            "preferred, {atoms} atoms, {rules} rules, {} units",
-            walk.units
-        );
-        walk_row(&what, 0, &walk, walk.set, 1 << 40);
-        stable_row(atoms, rules);
-        let budget = 1 << 24;
-        let what = format!("listing, {atoms} atoms, {rules} rules, {budget} units");
-        walk_row(&what, 2, &walk, 0, budget);
+    let (atoms, rules) = (24, 200);
+    let size = format!("{atoms} atoms, {rules} rules");
+    let preferred = inputs::preferred(atoms, rules);
+    walk_row(&format!("preferred, {size}"), PREFERRED, &preferred, TURNS);
+    let stable = inputs::stable(atoms, rules);
+    walk_row(&format!("stable, {size}"), STABLE, &stable, TURNS);
+    let listing = inputs::listing(atoms, rules);
+    walk_row(&format!("listing, {size}"), LISTING, &listing, TURNS);
+    let listing = inputs::inverters_listing(9);
+    walk_row("listing, 9 inverters", LISTING, &listing, TURNS);
+}
+
+/// So few units that a call's time is that of reading and sorting the rules.
+fn beaten_row(inverters: usize) {
+    let walk = inputs::all_at_fault(inverters);
+    let what = format!(
+        "preferred, {inverters} inverters, {} atoms, beaten, {} units",
+        walk.rules[1], walk.answer.units
+    );
+    let contestants = walkers(PREFERRED, &walk);
+    let times = times(TURNS, &contestants);
+    print_row(&what, &contestants, &times, microseconds);
+}
+
+/// The cells of a line of the second table.
+type Cells = [String; 6];
+
+fn print_cells(cells: &Cells) {
+    let [inverters, atoms, sets, full_time, units, time] = cells;
+    println!("{inverters:>9} {atoms:>6} {sets:>14} {full_time:>12} {units:>18} {time:>12}");
+}
+
+fn milliseconds(time: f64) -> String {
+    format!("{:.3} ms", time * 1e3)
+}
+
+/// Prints the line of a row of inverters; gives its line of the second table.
+fn inverters_row(inverters: usize, turns: usize) -> Cells {
+    let walk = inputs::one_fault(inverters);
+    let what = format!("preferred, {inverters} inverters");
+    let time = walk_row(&what, PREFERRED, &walk, turns)[0];
+    let atoms = walk.rules[1];
+    let sets = 1 << atoms;
+    [
+        inverters.to_string(),
+        atoms.to_string(),
+        sets.to_string(),
+        full_time(&walk, sets).map_or("not run".to_string(), milliseconds),
+        walk.answer.units.to_string(),
+        milliseconds(time),
+    ]
+}
+
+/// The time of the walk that tries every set, where they are not too many.
+fn full_time(walk: &Walk, sets: u64) -> Option<f64> {
+    if sets > 1 << 30 {
+        return None;
     }
-    // As many rules as a plain program may have.
-    stable_row(24, 4_200);
+    let given = || {
+        let answer = walks::c::full_preferred(black_box(&walk.rules), walk.number, 1 << 40);
+        assert_eq!((answer.kind, answer.units), (walk.answer.kind, sets));
+    };
+    Some(times(3, &[("C", Box::new(given))])[0])
+}
+
+/// Rows of inverters, the longest last and with one turn; then what stopping at a broken rule saves
+/// there.
+fn inverters_rows() {
+    let lines = [(9, TURNS), (14, TURNS), (19, 1)];
+    let lines = lines.map(|(inverters, turns)| inverters_row(inverters, turns));
+    let (first, _) = calls(PREFERRED)[0];
+    println!(
+        "\nOne preferred set of a row of inverters: by trying every set, one unit each (C; over"
+    );
+    println!("2^30 sets are not run), and by stopping at a broken rule ({first}).");
+    let head = [
+        "inverters",
+        "atoms",
+        "every set",
+        "time",
+        "stopping, units",
+        "time",
+    ];
+    print_cells(&head.map(str::to_string));
+    lines.iter().for_each(print_cells);
 }
 
 /// A call that writes a text into a lent output; true where it is written.
@@ -274,7 +364,10 @@ fn main() {
         "C: rust/bench/c/walks.c, gcc -O3; Rust: hand-written, release; reference: rust/reference."
     );
     println!("Lent outputs are not cleared between calls; Rust allocates its own.");
+    println!("In the walks C and Rust trust the store that they are handed; the engine checks it.");
     println!("A ratio over 1 means that the engine is faster.");
     walk_rows();
+    beaten_row(29);
     text_rows();
+    inverters_rows();
 }

@@ -1,11 +1,11 @@
 //! What is timed has to answer as the second implementation does.
 
 use bench::{inputs, twin, walks};
-use compare::generate::{either, preference, Size};
+use compare::engine::{Engine, Reference, VerdictAnswer};
+use compare::generate::{either, plain, preference, Size};
 use compare::random::Random;
 use compare::spoil;
 use reference::stores::{name_store, rule_store};
-use reference::verdicts::is_model;
 use reference::{lent, reader, writer};
 
 #[test]
@@ -53,47 +53,110 @@ fn the_fast_reader_writer_and_translator() {
     }
 }
 
+type Call = fn(&[u16], u64, u64) -> walks::Answer;
+
+/// Holds C and Rust to the second implementation: with budgets around the units that it needs, and
+/// with small ones.
+fn hold(expected: impl Fn(u64) -> VerdictAnswer, calls: [Call; 2], words: &[u16], number: u64) {
+    let needed = expected(1 << 40).units;
+    for budget in [0, 3, 40, needed.saturating_sub(1), needed, needed + 1] {
+        let expected = expected(budget);
+        let expected = (expected.kind, expected.value, expected.units);
+        for call in calls {
+            let given = call(words, number, budget);
+            let given = (given.kind, given.value, given.units);
+            assert_eq!(given, expected, "{number}, budget {budget}: {words:?}");
+        }
+    }
+}
+
+fn hold_preferred(words: &[u16], set: u64) {
+    let calls = [walks::preferred, walks::c::preferred];
+    hold(
+        |budget| Reference.preferred(words, set, budget),
+        calls,
+        words,
+        set,
+    );
+}
+
+fn hold_next_state(words: &[u16], start: u64) {
+    let calls = [walks::next_state, walks::c::next_state];
+    hold(
+        |budget| Reference.next_state(words, start, budget),
+        calls,
+        words,
+        start,
+    );
+}
+
 #[test]
 fn the_walks() {
-    use compare::engine::{Engine, Reference, VerdictAnswer};
-    let same = |answer: walks::Answer, expected: VerdictAnswer| {
-        let expected = (expected.kind, expected.value, expected.units);
-        assert_eq!((answer.kind, answer.value, answer.units), expected);
-    };
     let mut random = Random::new(4);
     for _ in 0..300 {
         let (file, _) = preference(&mut random, Size::SMALL);
-        let (plain, _) = compare::generate::plain(&mut random, Size::SMALL);
-        let (words, plain_words) = (rule_store(&file), rule_store(&plain));
-        for budget in [0, 3, 40, 1 << 40] {
-            for set in (0..1 << file.atoms)
-                .filter(|&set| is_model(&file.rules, set))
-                .take(9)
-            {
-                let expected = Reference.preferred(&words, set, budget);
-                same(walks::preferred(&words, set, budget), expected);
-                same(walks::c::preferred(&words, set, budget), expected);
-            }
-            for set in 0..1 << plain.atoms {
-                let expected = Reference.stable(&plain_words, set, budget);
-                same(walks::stable(&plain_words, set, budget), expected);
-                same(walks::c::stable(&plain_words, set, budget), expected);
-            }
-            for start in [0, 1, random.any() % ((1 << file.atoms) + 1)] {
-                let expected = Reference.next_state(&words, start, budget);
-                same(walks::next_state(&words, start, budget), expected);
-                same(walks::c::next_state(&words, start, budget), expected);
-            }
+        let words = rule_store(&file);
+        for set in 0..1 << file.atoms {
+            hold_preferred(&words, set);
+        }
+        for start in [0, 1, random.any(), random.any(), u64::MAX] {
+            hold_next_state(&words, start % ((1 << file.atoms) + 1));
+        }
+        hold_next_state(&words, 1 << file.atoms);
+        let (plain, _) = plain(&mut random, Size::SMALL);
+        let words = rule_store(&plain);
+        let calls = [walks::stable, walks::c::stable];
+        for set in 0..1 << plain.atoms {
+            hold(
+                |budget| Reference.stable(&words, set, budget),
+                calls,
+                &words,
+                set,
+            );
+        }
+    }
+}
+
+#[test]
+fn the_walks_on_rows_of_inverters() {
+    for count in 1..=7 {
+        let row = inputs::one_fault(count);
+        hold_preferred(&row.rules, row.number);
+        hold_next_state(&row.rules, 0);
+    }
+    for count in [9, 19, 29] {
+        let row = inputs::all_at_fault(count);
+        hold_preferred(&row.rules, row.number);
+    }
+}
+
+/// Unless one is spent, the full walk has the same verdict and better set.
+#[test]
+fn the_full_walk() {
+    let mut random = Random::new(5);
+    for _ in 0..300 {
+        let (file, _) = preference(&mut random, Size::SMALL);
+        let words = rule_store(&file);
+        for set in 0..1 << file.atoms {
+            let full = walks::c::full_preferred(&words, set, 1 << 40);
+            let short = walks::c::preferred(&words, set, 1 << 40);
+            assert_eq!((full.kind, full.value), (short.kind, short.value));
         }
     }
 }
 
 #[test]
 fn the_inputs_are_what_they_say() {
-    let walk = inputs::preferred(12, 20);
-    assert_eq!(walks::c::preferred(&walk.rules, walk.set, 1 << 40).kind, 0);
-    let walk = inputs::stable(12, 20);
-    let answer = walks::c::stable(&walk.rules, walk.set, 1 << 40);
-    assert_eq!((answer.kind, answer.units), (0, walk.units));
+    for (walk, kind, call) in [
+        (inputs::preferred(12, 20), 0, walks::c::preferred as Call),
+        (inputs::stable(16, 160), 0, walks::c::stable),
+        (inputs::listing(12, 20), 1, walks::c::next_state),
+        (inputs::inverters_listing(5), 1, walks::c::next_state),
+        (inputs::one_fault(9), 0, walks::c::preferred),
+        (inputs::all_at_fault(29), 2, walks::c::preferred),
+    ] {
+        assert_eq!(walk.answer.kind, kind);
+        assert_eq!(call(&walk.rules, walk.number, 1 << 40), walk.answer);
+    }
     assert!(reader::read(&inputs::long_file()).is_ok());
 }

@@ -1,7 +1,7 @@
 //! The families of cases, each of which compares some calls.
 
-use crate::checker::{Checked, Checker};
-use crate::generate::{edge_name, either, mixed, plain, preference, Size};
+use crate::checker::{Checked, Checker, Difference};
+use crate::generate::{edge_name, either, inverters, mixed, one_at_fault, plain, preference, Size};
 use crate::random::Random;
 use crate::spoil;
 use reference::lent;
@@ -336,16 +336,19 @@ pub fn many_atoms(check: &mut Checker, random: &mut Random) -> Checked {
 }
 
 /// A rule of short lists that holds at the set, or one that the set breaks. There is an atom.
-fn rule_at(random: &mut Random, atoms: usize, set: u64, holds: bool) -> Rule {
+fn rule_at(random: &mut Random, program: &Program, set: u64, holds: bool) -> Rule {
     loop {
         let mut list = || {
             let count = random.below(3);
-            random.choose(count, atoms)
+            random.choose(count, program.atoms)
         };
         let rule = Rule {
             head: list(),
             body: list(),
-            not: list(),
+            not: match program.kind {
+                Kind::Plain => list(),
+                Kind::Preference => Vec::new(),
+            },
         };
         if is_model(std::slice::from_ref(&rule), set) == holds {
             return rule;
@@ -363,12 +366,12 @@ pub fn reducts(check: &mut Checker, random: &mut Random) -> Checked {
     let most = *random.pick(&[4, 4, 12, 12, 12, 60, 300, 4_200]);
     let count = random.within(most / 2, most);
     for _ in 0..count {
-        let rule = rule_at(random, program.atoms, set, true);
+        let rule = rule_at(random, &program, set, true);
         program.rules.push(rule);
     }
     for _ in 0..random.below(3) {
         let place = random.below(count);
-        program.rules[place] = rule_at(random, program.atoms, set, false);
+        program.rules[place] = rule_at(random, &program, set, false);
     }
     let rules = rule_store(&program);
     let beside = set ^ (1 << random.below(program.atoms));
@@ -379,6 +382,143 @@ pub fn reducts(check: &mut Checker, random: &mut Random) -> Checked {
         }
     }
     Ok(())
+}
+
+/// Budgets that are just enough, one less, one more, and any up to that.
+fn around(random: &mut Random, needed: u64) -> [u64; 4] {
+    let any = random.any() % (needed + 1);
+    [needed, needed.saturating_sub(1), needed + 1, any]
+}
+
+/// The verdict on the set by the program's kind, with budgets around the units needed.
+fn verdict_around(
+    check: &mut Checker,
+    random: &mut Random,
+    program: &Program,
+    set: u64,
+) -> Result<Verdict, Difference> {
+    let rules = rule_store(program);
+    let verdict = match program.kind {
+        Kind::Preference => verdicts::preferred(program, set, BUDGET_LIMIT),
+        Kind::Plain => verdicts::stable(program, set, BUDGET_LIMIT),
+    };
+    for budget in around(random, verdict_units(&verdict)) {
+        match program.kind {
+            Kind::Preference => check.preferred(&rules, set, budget)?,
+            Kind::Plain => check.stable(&rules, set, budget)?,
+        }
+    }
+    Ok(verdict)
+}
+
+/// The next state from the start, with budgets around the units needed.
+fn next_around(check: &mut Checker, random: &mut Random, file: &Program, start: u64) -> Checked {
+    let rules = rule_store(file);
+    let (Next::State { units, .. } | Next::None { units } | Next::Spent { units }) =
+        verdicts::next_state(file, start, BUDGET_LIMIT);
+    for budget in around(random, units) {
+        check.next_state(&rules, start, budget)?;
+    }
+    Ok(())
+}
+
+/// Starts of every kind: the ends, the middle, a place from which a choice of some atoms goes on, the
+/// places beside these, any.
+fn starts(random: &mut Random, atoms: usize) -> Vec<u64> {
+    let sets = 1u64 << atoms;
+    let step = 1u64 << random.below(atoms + 1);
+    let edges = [0, sets / 2, random.any() % (sets / step + 1) * step, sets];
+    let beside = |edge: u64| [edge.saturating_sub(1), edge, edge + 1];
+    let mut all: Vec<u64> = edges.into_iter().flat_map(beside).collect();
+    all.push(random.any() % (sets + 1));
+    all.retain(|&start| start <= sets);
+    all
+}
+
+/// A small program with a set at which all its rules hold: none, few, or so many that most choices
+/// are closed early.
+fn with_a_model(random: &mut Random, kind: Kind) -> (Program, u64) {
+    let size = Size {
+        atoms: 8,
+        rules: 0,
+        list: 0,
+    };
+    let (mut program, _) = match kind {
+        Kind::Preference => preference(random, size),
+        Kind::Plain => plain(random, size),
+    };
+    let model = random.any() % (1 << program.atoms);
+    if program.atoms > 0 {
+        for _ in 0..*random.pick(&[0, 1, 2, 4, 8, 16, 60, 300]) {
+            let rule = rule_at(random, &program, model, true);
+            program.rules.push(rule);
+        }
+    }
+    (program, model)
+}
+
+/// Walks over partial choices: verdicts on a model, on each set that beats the one before and on sets
+/// beside it, and the next state from starts of every kind, all with budgets around the units needed.
+pub fn partial_choices(check: &mut Checker, random: &mut Random) -> Checked {
+    for kind in [Kind::Preference, Kind::Plain] {
+        let (program, model) = with_a_model(random, kind);
+        let sets = 1u64 << program.atoms;
+        for set in [0, sets - 1, random.any() % sets] {
+            verdict_around(check, random, &program, set)?;
+        }
+        let mut set = model;
+        while let Verdict::Beaten { set: better, .. } =
+            verdict_around(check, random, &program, set)?
+        {
+            set = better;
+        }
+        if kind == Kind::Preference {
+            for start in starts(random, program.atoms) {
+                next_around(check, random, &program, start)?;
+            }
+        }
+    }
+    Ok(())
+}
+
+/// A short row of inverters, with the faults in one class or each in its own, the last wires at times
+/// fixed: verdicts on the sets with one fault, on all faults without a wire and on any set, and its
+/// next states.
+fn short_row(check: &mut Checker, random: &mut Random) -> Checked {
+    let count = random.within(1, 3);
+    let mut row = inverters(count);
+    if random.once_in(3) {
+        row.classes = count;
+        row.roles = (1..=count).map(Role::Minimised).collect();
+        row.roles.resize(row.atoms, Role::Varying);
+    }
+    if random.once_in(3) {
+        let first = random.within(count, row.atoms - 1);
+        row.roles[first..].fill(Role::Fixed);
+    }
+    for fault in 0..count {
+        verdict_around(check, random, &row, one_at_fault(count, fault))?;
+    }
+    for set in [(1 << count) - 1, random.any() % (1 << row.atoms)] {
+        verdict_around(check, random, &row, set)?;
+    }
+    for start in starts(random, row.atoms) {
+        next_around(check, random, &row, start)?;
+    }
+    Ok(())
+}
+
+/// Rows of inverters: short ones, and long ones on which a set is soon beaten or a budget spent.
+pub fn rows_of_inverters(check: &mut Checker, random: &mut Random) -> Checked {
+    short_row(check, random)?;
+    let count = random.within(6, 29);
+    let row = inverters(count);
+    verdict_around(check, random, &row, (1 << count) - 1)?;
+    let rules = rule_store(&row);
+    let fault = random.below(count);
+    check.preferred(&rules, one_at_fault(count, fault), random.any() % 1_000)?;
+    let start = random.any() % (1 << row.atoms);
+    check.next_state(&rules, start, random.any() % 1_000)
 }
 
 /// A long file of either kind, near the limits or past them, and the same damaged.

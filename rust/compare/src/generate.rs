@@ -239,6 +239,44 @@ pub fn mixed(random: &mut Random, most: usize) -> (Program, Names) {
     (program, names)
 }
 
+/// A row of inverters (document 001's Example 1 with any number instead of three). Each is at fault
+/// or its two wires differ; the first wire is low, and the last is not what it then should be. The
+/// faults are one class, the wires vary.
+pub fn inverters(count: usize) -> Program {
+    let mut row = Program::empty(Kind::Preference);
+    row.atoms = 2 * count + 1;
+    row.classes = 1;
+    row.roles = vec![Role::Minimised(1); count];
+    row.roles.extend(vec![Role::Varying; count + 1]);
+    let mut rule = |head: &[usize], body: &[usize]| {
+        row.rules.push(Rule {
+            head: head.to_vec(),
+            body: body.to_vec(),
+            not: Vec::new(),
+        });
+    };
+    for fault in 0..count {
+        let (from, to) = (count + fault, count + fault + 1);
+        rule(&[from, to, fault], &[]);
+        rule(&[fault], &[from, to]);
+    }
+    let (first, last) = (count, 2 * count);
+    rule(&[], &[first]);
+    match count % 2 {
+        1 => rule(&[], &[last]),
+        _ => rule(&[last], &[]),
+    }
+    row
+}
+
+/// The preferred set of a row in which this inverter alone is at fault: behind it the wires are not
+/// what they should be.
+pub fn one_at_fault(count: usize, fault: usize) -> u64 {
+    let high = |wire: &usize| (wire % 2 == 1) != (*wire > fault);
+    let wires = (0..=count).filter(high);
+    wires.fold(1 << fault, |set, wire| set | 1 << (count + wire))
+}
+
 /// A plain program with its names.
 pub fn plain(random: &mut Random, size: Size) -> (Program, Names) {
     let mut program = Program::empty(Kind::Plain);

@@ -10,7 +10,7 @@ use std::time::{Duration, Instant};
 type Family = fn(&mut Checker, &mut Random) -> Checked;
 
 /// The families with how often each has its turn in a round.
-const FAMILIES: [(&str, Family, usize); 13] = [
+const FAMILIES: [(&str, Family, usize); 15] = [
     ("valid files", cases::valid, 60),
     ("damaged texts", cases::damaged_text, 40),
     ("no files", cases::soup, 20),
@@ -24,6 +24,8 @@ const FAMILIES: [(&str, Family, usize); 13] = [
     ("choices", cases::choices, 20),
     ("places", cases::places, 20),
     ("orders", cases::orders, 20),
+    ("partial choices", cases::partial_choices, 20),
+    ("rows of inverters", cases::rows_of_inverters, 5),
 ];
 
 /// When a run ends: when both are reached.

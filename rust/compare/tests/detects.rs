@@ -1,5 +1,7 @@
 //! Wrong engines: the harness has to notice each of them.
 
+mod wrong_walks;
+
 use compare::engine::{Engine, ReadAnswer, Reference, TextAnswer, ValueAnswer, VerdictAnswer};
 use compare::run::{run, Until};
 use reference::limits::Kind;
@@ -8,6 +10,7 @@ use reference::stores::{check_names, check_rules, check_rules_of, rule_store};
 use reference::verdicts::{self, beats, is_model, place, reduct, Next, Verdict};
 use reference::{translator, writer};
 use std::time::Duration;
+use wrong_walks::{WalkSlip, WALK_SLIPS};
 
 /// What is wrong with an engine.
 #[derive(Clone, Copy, Debug, PartialEq, Eq)]
@@ -43,6 +46,7 @@ enum Slip {
     PlaceIsTheNumber,
     PlaceOneTooHigh,
     PlaceInAPlainStore,
+    Walk(WalkSlip),
 }
 
 const SLIPS: [Slip; 31] = [
@@ -154,6 +158,23 @@ fn answer(kind: u64, value: u64, units: u64) -> VerdictAnswer {
     VerdictAnswer { kind, value, units }
 }
 
+fn verdict_answer(verdict: Verdict) -> VerdictAnswer {
+    match verdict {
+        Verdict::Yes { units } => answer(0, 0, units),
+        Verdict::Broken { rule } => answer(1, rule, 0),
+        Verdict::Beaten { set, units } => answer(2, set, units),
+        Verdict::Spent { units } => answer(3, 0, units),
+    }
+}
+
+fn next_answer(next: Next) -> VerdictAnswer {
+    match next {
+        Next::State { set, units } => answer(0, set, units),
+        Next::None { units } => answer(1, 0, units),
+        Next::Spent { units } => answer(3, 0, units),
+    }
+}
+
 /// The verdict on a set that is not refused, by a walk in rising number.
 fn by_rising_number(
     rules: &[u16],
@@ -162,21 +183,20 @@ fn by_rising_number(
 ) -> VerdictAnswer {
     let program = check_rules(rules).expect("it was judged");
     let atoms = program.atoms;
-    match verdict(&turned(&program), place(atoms, set)) {
-        Verdict::Yes { units } => answer(0, 0, units),
-        Verdict::Broken { rule } => answer(1, rule, 0),
-        Verdict::Beaten { set, units } => answer(2, place(atoms, set), units),
-        Verdict::Spent { units } => answer(3, 0, units),
+    let mut answer = verdict_answer(verdict(&turned(&program), place(atoms, set)));
+    if answer.kind == 2 {
+        answer.value = place(atoms, answer.value);
     }
+    answer
 }
 
 /// The next state by rising number, from a number on.
 fn next_by_rising_number(file: &Program, start: u64, budget: u64) -> VerdictAnswer {
-    match verdicts::next_state(&turned(file), start, budget) {
-        Next::State { set, units } => answer(0, place(file.atoms, set), units),
-        Next::None { units } => answer(1, 0, units),
-        Next::Spent { units } => answer(3, 0, units),
+    let mut answer = next_answer(verdicts::next_state(&turned(file), start, budget));
+    if answer.kind == 0 {
+        answer.value = place(file.atoms, answer.value);
     }
+    answer
 }
 
 /// The least of the better sets' numbers, as far as one looks for it.
@@ -285,6 +305,10 @@ impl Engine for Wrong {
                 let file = check_rules(rules).expect("it was judged");
                 answer.value = least(answer.value, |n| beats(&file, n, set));
             }
+            Slip::Walk(slip) if answer.kind < 4 => {
+                let file = check_rules(rules).expect("it was judged");
+                answer = verdict_answer(wrong_walks::preferred(slip, &file, set, budget));
+            }
             _ => {}
         }
         self.verdict(answer, budget)
@@ -322,6 +346,10 @@ impl Engine for Wrong {
                 let smaller = |n| n & !set == 0 && is_model(&kept, n);
                 answer.value = least(answer.value, smaller);
             }
+            Slip::Walk(slip) if answer.kind < 4 => {
+                let plain = check_rules(rules).expect("it was judged");
+                answer = verdict_answer(wrong_walks::stable(slip, &plain, set, budget));
+            }
             _ => {}
         }
         answer
@@ -344,6 +372,7 @@ impl Engine for Wrong {
                 Reference.next_state(rules, turn(start), budget)
             }
             Slip::AnswerAsPlace if right.kind == 0 => answer(0, turn(right.value), right.units),
+            Slip::Walk(slip) => next_answer(wrong_walks::next_state(slip, &file, start, budget)),
             _ => right,
         }
     }
@@ -369,16 +398,24 @@ impl Engine for Wrong {
     }
 }
 
+const UNTIL: Until = Until {
+    comparisons: 20_000,
+    time: Duration::ZERO,
+};
+
 #[test]
 fn each_slip_is_noticed() {
-    let until = Until {
-        comparisons: 20_000,
-        time: Duration::ZERO,
-    };
-    for slip in SLIPS {
+    for slip in SLIPS.into_iter().chain(WALK_SLIPS.map(Slip::Walk)) {
         assert!(
-            run(&Wrong(slip), 7, until).is_err(),
+            run(&Wrong(slip), 7, UNTIL).is_err(),
             "{slip:?} was not noticed"
         );
     }
+}
+
+/// What is noticed of a wrong walk is its slip.
+#[test]
+fn a_walk_without_a_slip_is_right() {
+    let report = run(&Wrong(Slip::Walk(WalkSlip::Nothing)), 7, UNTIL);
+    assert!(report.is_ok());
 }

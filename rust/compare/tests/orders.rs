@@ -39,11 +39,19 @@ fn stable_by_number(plain: &Program, m: u64) -> Verdict {
     walk((0..m).filter(|n| n & !m == 0), |n| is_model(&kept, n))
 }
 
-/// Two verdicts of one case: with the same units if yes, with the same rule if broken.
+/// Two verdicts of one case, with the same rule if broken.
 fn same_case(one: Verdict, other: Verdict) -> bool {
     match (one, other) {
+        (Verdict::Yes { .. }, Verdict::Yes { .. }) => true,
         (Verdict::Beaten { .. }, Verdict::Beaten { .. }) => true,
         _ => one == other,
+    }
+}
+
+fn better_set(verdict: Verdict) -> Option<u64> {
+    match verdict {
+        Verdict::Beaten { set, .. } => Some(set),
+        _ => None,
     }
 }
 
@@ -57,7 +65,7 @@ fn compare(
     let differs = |&m: &u64| {
         let (given, old) = (verdict(program, m, BUDGET_LIMIT), by_number(program, m));
         assert!(same_case(given, old), "{m}: {given:?} {old:?} {program:?}");
-        given != old
+        better_set(given) != better_set(old)
     };
     (0..1 << program.atoms).filter(differs).count()
 }

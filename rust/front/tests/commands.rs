@@ -40,14 +40,14 @@ fn first_states() {
 fn budgets() {
     let spent = |units| format!("spent: the next state needs more than {units} units\n");
     assert_eq!(
-        rigtomato("states - --budget 11", FILE_A),
-        ran(3, "(spent)\n", &spent(11))
+        rigtomato("states - --budget 18", FILE_A),
+        ran(3, "(spent)\n", &spent(18))
     );
     assert_eq!(
-        rigtomato("states - --budget 15", FILE_A),
-        ran(3, "(state lamp dark)\n(spent)\n", &spent(15))
+        rigtomato("states - --budget 25", FILE_A),
+        ran(3, "(state lamp dark)\n(spent)\n", &spent(25))
     );
-    assert_eq!(rigtomato("states - --budget 16", FILE_A).status, Some(0));
+    assert_eq!(rigtomato("states - --budget 26", FILE_A).status, Some(0));
     assert_eq!(
         rigtomato("states - --budget 0", FILE_A),
         ran(3, "(spent)\n", &spent(0))
@@ -179,12 +179,12 @@ fn checks() {
 fn preferred_sets() {
     let verdict = |atoms: &str| rigtomato(&format!("preferred - {atoms}"), FILE_A);
     let answer = |line: &str| ran(0, &format!("{line}\n"), "");
-    assert_eq!(verdict("lamp dark"), answer("yes, 8 units"));
-    assert_eq!(verdict("dark lamp lamp"), answer("yes, 8 units"));
-    assert_eq!(verdict("sensor"), answer("beaten by: lamp dark (4 units)"));
+    assert_eq!(verdict("lamp dark"), answer("yes, 13 units"));
+    assert_eq!(verdict("dark lamp lamp"), answer("yes, 13 units"));
+    assert_eq!(verdict("sensor"), answer("beaten by: lamp dark (6 units)"));
     assert_eq!(
-        verdict("sensor --budget 4"),
-        answer("beaten by: lamp dark (4 units)")
+        verdict("sensor --budget 6"),
+        answer("beaten by: lamp dark (6 units)")
     );
     assert_eq!(
         verdict(""),
@@ -195,11 +195,16 @@ fn preferred_sets() {
         answer("no model: line 6 is broken: (rule (head dark) (body lamp) (not))")
     );
     assert_eq!(
-        verdict("sensor --budget 3"),
-        ran(3, "spent: more than 3 units are needed\n", "")
+        verdict("sensor --budget 5"),
+        ran(3, "spent: more than 5 units are needed\n", "")
     );
     let empty_is_better = rigtomato("preferred - a", "(min a)\n(vary)\n(fix)\n");
-    assert_eq!(empty_is_better, answer("beaten by: the empty set (1 unit)"));
+    assert_eq!(
+        empty_is_better,
+        answer("beaten by: the empty set (2 units)")
+    );
+    let no_atom = rigtomato("preferred -", "(vary)\n(fix)\n");
+    assert_eq!(no_atom, answer("yes, 1 unit"));
     let one = rigtomato("preferred - --budget 1", "(min a)\n(vary)\n(fix)\n");
     assert_eq!(one, ran(3, "spent: more than 1 unit is needed\n", ""));
 }
@@ -211,23 +216,23 @@ const CHOICE: &str = "(atoms a N.a b)\n(rule (head a) (body) (not N.a))\n\
 fn stable_sets() {
     let verdict = |atoms: &str| rigtomato(&format!("stable - {atoms}"), CHOICE);
     let answer = |line: &str| ran(0, &format!("{line}\n"), "");
-    assert_eq!(verdict("a b"), answer("yes, 3 units"));
-    assert_eq!(verdict("N.a"), answer("yes, 1 unit"));
+    assert_eq!(verdict("a b"), answer("yes, 5 units"));
+    assert_eq!(verdict("N.a"), answer("yes, 4 units"));
     assert_eq!(
         verdict("N.a b"),
-        answer("not minimal: N.a is a model of the reduct (3 units)")
+        answer("not minimal: N.a is a model of the reduct (5 units)")
     );
     assert_eq!(
         verdict("a N.a b"),
-        answer("not minimal: the empty set is a model of the reduct (1 unit)")
+        answer("not minimal: the empty set is a model of the reduct (4 units)")
     );
     assert_eq!(
         verdict("b"),
         answer("no model: line 2 is broken: (rule (head a) (body) (not N.a))")
     );
     assert_eq!(
-        verdict("a b --budget 2"),
-        ran(3, "spent: more than 2 units are needed\n", "")
+        verdict("a b --budget 4"),
+        ran(3, "spent: more than 4 units are needed\n", "")
     );
 }
 
@@ -237,7 +242,7 @@ fn stable_sets_of_a_translation() {
     let translation = rigtomato("translate -", FILE_A).out;
     let model = "lamp dark N.sensor S.sensor S.lamp S.dark D.sensor D.lamp E.0 E.1 E.2 U";
     let yes = rigtomato(&format!("stable - {model}"), &translation);
-    assert_eq!(yes, ran(0, "yes, 4095 units\n", ""));
+    assert_eq!(yes, ran(0, "yes, 1031 units\n", ""));
     let other = model.replace("lamp dark N.sensor", "sensor N.lamp N.dark");
     let no = rigtomato(&format!("stable - {other}"), &translation);
     assert_eq!(no.status, Some(0));
@@ -250,7 +255,7 @@ fn verdicts_as_json() {
         let ran = rigtomato(words, text);
         (ran.status, Json::line(&ran.out))
     };
-    let expected = "{\"verdict\":\"yes\",\"units\":8}\n";
+    let expected = "{\"verdict\":\"yes\",\"units\":13}\n";
     assert_eq!(
         rigtomato("preferred --json - lamp dark", FILE_A),
         ran(0, expected, "")
@@ -272,10 +277,10 @@ fn verdicts_as_json() {
     let (_, beaten) = verdict("preferred --json - sensor", FILE_A);
     assert_eq!(beaten.fields(), ["verdict", "set", "units"]);
     assert_eq!(beaten.get("set").texts(), ["lamp", "dark"]);
-    assert_eq!(beaten.get("units").number(), 4);
-    let (status, spent) = verdict("preferred --json - sensor --budget 3", FILE_A);
+    assert_eq!(beaten.get("units").number(), 6);
+    let (status, spent) = verdict("preferred --json - sensor --budget 5", FILE_A);
     assert_eq!((status, spent.get("verdict").text()), (Some(3), "spent"));
-    assert_eq!(spent.get("units").number(), 3);
+    assert_eq!(spent.get("units").number(), 5);
     let (_, smaller) = verdict("stable --json - N.a b", CHOICE);
     assert_eq!(
         (smaller.get("verdict").text(), smaller.get("set").texts()),

@@ -8,7 +8,7 @@ use std::path::Path;
 use std::process::{Child, ChildStdout, Command};
 use std::time::{Duration, Instant};
 
-/// The walk on a set of this file takes 2^40 units.
+/// The walk on a set of this file takes over 2^40 units.
 fn wide() -> String {
     format!("(min m)\n(vary{})\n(fix)\n", names(39))
 }

@@ -85,7 +85,7 @@ fn a_line_that_is_taken_away_again() {
     assert!(lines.len() >= 2, "{seen:?}");
     for line in lines {
         let seconds = line
-            .strip_prefix("1 state, 2 units, ")
+            .strip_prefix("1 state, 122 units, ")
             .expect("what was found");
         let seconds: f64 = seconds.strip_suffix(" s").unwrap().parse().unwrap();
         assert!((0.5..5.0).contains(&seconds), "{line}");

@@ -1,8 +1,10 @@
-//! The two verdicts and the next state, by walking over sets one by one.
+//! The two verdicts and the next state, by walks over partial choices (document 02, W-207).
 //!
 //! A set is its number: atom i is in when bit i is set. Of two sets, the earlier is the one lacking
-//! the first declared atom on which they differ (document 02, W-206); every walk goes in this order.
+//! the first declared atom on which they differ (document 02, W-206); every walk meets the earlier
+//! one first.
 
+use crate::choices::{Spent, Units, Walk};
 use crate::program::{Program, Rule};
 
 #[derive(Clone, Copy, Debug, PartialEq, Eq)]
@@ -83,94 +85,77 @@ pub fn reduct(rules: &[Rule], m: u64) -> Vec<Rule> {
     .collect()
 }
 
-/// The set at a place of a walk: `base` with the free atoms as the place's binary digits say, the
-/// last atom by the lowest digit. Of two places the lower has the earlier set.
-fn set_at(place: u64, free: &[usize], base: u64) -> u64 {
-    let mut set = base;
-    for (digit, &atom) in free.iter().rev().enumerate() {
-        if holds(place, digit) {
-            set |= 1 << atom;
-        }
+/// The verdict on a model, by a walk that looks for a better set.
+fn judged(walk: &Walk, budget: u64) -> Verdict {
+    let mut units = Units::within(budget);
+    let better = walk.first(&mut units);
+    let units = units.taken;
+    match better {
+        Ok(None) => Verdict::Yes { units },
+        Ok(Some(set)) => Verdict::Beaten { set, units },
+        Err(Spent) => Verdict::Spent { units: budget },
     }
-    set
 }
 
-/// Tries the sets of a walk of this length, one unit each, until one is better.
-fn walk(
-    length: u64,
-    budget: u64,
-    set_at: impl Fn(u64) -> u64,
-    better: impl Fn(u64) -> bool,
-) -> Verdict {
-    let mut units = 0;
-    while units < length {
-        if units == budget {
-            return Verdict::Spent { units: budget };
-        }
-        let set = set_at(units);
-        units += 1;
-        if better(set) {
-            return Verdict::Beaten { set, units };
-        }
-    }
-    Verdict::Yes { units }
-}
-
-/// Is the set preferred in the preference file?
+/// Is the set preferred in the preference file? Fixed atoms take only M's value.
 pub fn preferred(file: &Program, m: u64, budget: u64) -> Verdict {
     if let Some(rule) = first_broken(&file.rules, m) {
         return Verdict::Broken { rule };
     }
-    let free = file.unfixed();
-    let base = (0..file.atoms)
-        .filter(|&a| file.is_fixed(a) && holds(m, a))
-        .fold(0, |set, a| set | 1 << a);
-    walk(
-        1 << free.len(),
-        budget,
-        |place| set_at(place, &free, base),
-        |n| beats(file, n, m),
-    )
+    let walk = Walk {
+        atoms: file.atoms,
+        rules: &file.rules,
+        allows: &|atom, is_in| !file.is_fixed(atom) || is_in == holds(m, atom),
+        leaves_out: &|_| false,
+        accepts: &|n, _| Ok(beats(file, n, m)),
+    };
+    judged(&walk, budget)
 }
 
-/// Is the set stable in the plain program?
+/// Is the set stable in the plain program? Atoms outside M are only out, the rules are the
+/// reduct's, and the final choice M is neither visited nor counted.
 pub fn stable(plain: &Program, m: u64, budget: u64) -> Verdict {
     if let Some(rule) = first_broken(&plain.rules, m) {
         return Verdict::Broken { rule };
     }
-    let members: Vec<usize> = (0..plain.atoms).filter(|&a| holds(m, a)).collect();
-    let kept = reduct(&plain.rules, m);
-    let proper_subsets = (1 << members.len()) - 1;
-    walk(
-        proper_subsets,
-        budget,
-        |place| set_at(place, &members, 0),
-        |n| is_model(&kept, n),
-    )
+    let walk = Walk {
+        atoms: plain.atoms,
+        rules: &reduct(&plain.rules, m),
+        allows: &|atom, is_in| !is_in || holds(m, atom),
+        leaves_out: &|choice| choice.decided == plain.atoms && choice.set == m,
+        accepts: &|_, _| Ok(true),
+    };
+    judged(&walk, budget)
 }
 
-/// The first preferred set at or after the start, which is a place.
+/// Is the model preferred? Its verdict's units are taken.
+fn is_state(file: &Program, model: u64, units: &mut Units) -> Result<bool, Spent> {
+    let (yes, more) = match preferred(file, model, units.left()) {
+        Verdict::Yes { units } => (true, units),
+        Verdict::Beaten { units, .. } => (false, units),
+        Verdict::Spent { .. } => return Err(Spent),
+        Verdict::Broken { .. } => unreachable!("it is a model"),
+    };
+    units.take(more)?;
+    Ok(yes)
+}
+
+/// The first preferred set at or after the start, which is a place. A choice that lies wholly
+/// before the start is not visited, and fixed atoms are free.
 pub fn next_state(file: &Program, start: u64, budget: u64) -> Next {
-    let spent = Next::Spent { units: budget };
-    let atoms: Vec<usize> = (0..file.atoms).collect();
-    let mut units = 0;
-    for place in start..1 << file.atoms {
-        if units == budget {
-            return spent;
-        }
-        units += 1;
-        let candidate = set_at(place, &atoms, 0);
-        match preferred(file, candidate, budget - units) {
-            Verdict::Broken { .. } => {}
-            Verdict::Spent { .. } => return spent,
-            Verdict::Beaten { units: more, .. } => units += more,
-            Verdict::Yes { units: more } => {
-                return Next::State {
-                    set: candidate,
-                    units: units + more,
-                };
-            }
-        }
+    let mut units = Units::within(budget);
+    let walk = Walk {
+        atoms: file.atoms,
+        rules: &file.rules,
+        allows: &|_, _| true,
+        leaves_out: &|choice| choice.last_place(file.atoms) < start,
+        accepts: &|model, units| is_state(file, model, units),
+    };
+    let state = walk.first(&mut units);
+    let units = units.taken;
+    match state {
+        Ok(Some(set)) => Next::State { set, units },
+        Ok(None) => Next::None { units },
+        Err(Spent) => Next::Spent { units: budget },
     }
-    Next::None { units }
 }

@@ -213,18 +213,19 @@ fn sixty_atoms() {
     assert_eq!(lent::place(&more, 0), Err(Reason::TooManyAtoms));
     let fixed = stores(&format!("(vary)\n(fix{})\n", many("a", 60))).0;
     assert_eq!(
-        lent::preferred(&fixed, 77, 1),
-        Ok(Verdict::Yes { units: 1 })
+        lent::preferred(&fixed, 77, 61),
+        Ok(Verdict::Yes { units: 61 })
     );
     let plain = stores(&plain(60)).0;
     assert_eq!(
-        lent::stable(&plain, (1 << 60) - 1, 1),
-        Ok(Verdict::Beaten { set: 0, units: 1 })
+        lent::stable(&plain, (1 << 60) - 1, 61),
+        Ok(Verdict::Beaten { set: 0, units: 61 })
     );
     assert_eq!(
-        lent::stable(&plain, (1 << 60) - 1, 0),
-        Ok(Verdict::Spent { units: 0 })
+        lent::stable(&plain, (1 << 60) - 1, 60),
+        Ok(Verdict::Spent { units: 60 })
     );
+    assert_eq!(lent::stable(&plain, 0, 60), Ok(Verdict::Yes { units: 60 }));
 }
 
 #[test]

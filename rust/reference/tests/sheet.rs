@@ -1,5 +1,5 @@
-//! Document 01, "Sheets of known states", with places, order and units by document 02, W-206; the
-//! choice rules of a translation and its sums by W-214.
+//! Document 01, "Sheets of known states", with places and order by document 02, W-206, and units by
+//! W-207; the choice rules of a translation and its sums by W-214.
 
 mod common;
 
@@ -34,15 +34,15 @@ fn file_a_is_listed() {
 fn file_a_verdicts_and_units() {
     let a = rules(FILE_A);
     let verdict = |set, budget| preferred(&a, set, budget).unwrap();
-    assert_eq!(verdict(6, LARGEST), Verdict::Yes { units: 8 });
-    assert_eq!(verdict(6, 8), Verdict::Yes { units: 8 });
-    assert_eq!(verdict(6, 7), Verdict::Spent { units: 7 });
-    assert_eq!(verdict(1, LARGEST), Verdict::Beaten { set: 6, units: 4 });
+    assert_eq!(verdict(6, LARGEST), Verdict::Yes { units: 13 });
+    assert_eq!(verdict(6, 13), Verdict::Yes { units: 13 });
+    assert_eq!(verdict(6, 12), Verdict::Spent { units: 12 });
+    assert_eq!(verdict(1, LARGEST), Verdict::Beaten { set: 6, units: 6 });
     assert_eq!(verdict(0, LARGEST), Verdict::Broken { rule: 0 });
     assert_eq!(verdict(0, 0), Verdict::Broken { rule: 0 });
     assert_eq!(verdict(2, LARGEST), Verdict::Broken { rule: 1 });
-    assert_eq!(verdict(1, 3), Verdict::Spent { units: 3 });
-    assert_eq!(verdict(1, 4), Verdict::Beaten { set: 6, units: 4 });
+    assert_eq!(verdict(1, 5), Verdict::Spent { units: 5 });
+    assert_eq!(verdict(1, 6), Verdict::Beaten { set: 6, units: 6 });
     assert_eq!(verdict(1, 0), Verdict::Spent { units: 0 });
 }
 
@@ -59,16 +59,17 @@ fn file_a_places() {
 fn file_a_next_states() {
     let a = rules(FILE_A);
     let next = |start, budget| next_state(&a, start, budget).unwrap();
-    // The candidates 0, 4, 2 and 6 cost 4, of which 6 alone is a model; it takes 8.
-    assert_eq!(next(0, LARGEST), Next::State { set: 6, units: 12 });
-    assert_eq!(next(0, 12), Next::State { set: 6, units: 12 });
-    assert_eq!(next(0, 11), Next::Spent { units: 11 });
-    assert_eq!(next(3, 9), Next::State { set: 6, units: 9 });
-    // The candidates 1, 5, 3 and 7 cost 4; the models 1, 5 and 7 are each beaten by the 4th set.
-    assert_eq!(next(4, LARGEST), Next::None { units: 16 });
-    assert_eq!(next(4, 16), Next::None { units: 16 });
-    assert_eq!(next(4, 15), Next::Spent { units: 15 });
-    assert_eq!(next(7, 5), Next::None { units: 5 });
+    // The choice of nothing and five more lead to 6, the first model; its verdict takes 13.
+    assert_eq!(next(0, LARGEST), Next::State { set: 6, units: 19 });
+    assert_eq!(next(0, 19), Next::State { set: 6, units: 19 });
+    assert_eq!(next(0, 18), Next::Spent { units: 18 });
+    // From place 3 on, `sensor` and `lamp` both out lies before the start, and so does set 2.
+    assert_eq!(next(3, LARGEST), Next::State { set: 6, units: 17 });
+    // Eight choices; the models 1, 5 and 7 are each beaten by 6 with 6 units.
+    assert_eq!(next(4, LARGEST), Next::None { units: 26 });
+    assert_eq!(next(4, 26), Next::None { units: 26 });
+    assert_eq!(next(4, 25), Next::Spent { units: 25 });
+    assert_eq!(next(7, LARGEST), Next::None { units: 10 });
     assert_eq!(next(8, 0), Next::None { units: 0 });
 }
 
@@ -87,13 +88,25 @@ fn file_a_in_the_other_order() {
 fn file_a_with_dark_fixed() {
     assert_eq!(states(DARK_FIXED), [6, 1]);
     let fixed = rules(DARK_FIXED);
-    assert_eq!(preferred(&fixed, 1, LARGEST), Ok(Verdict::Yes { units: 4 }));
+    let verdict = |budget| preferred(&fixed, 1, budget).unwrap();
+    assert_eq!(verdict(LARGEST), Verdict::Yes { units: 10 });
+    assert_eq!(verdict(10), Verdict::Yes { units: 10 });
+    assert_eq!(verdict(9), Verdict::Spent { units: 9 });
 }
 
 #[test]
 fn the_empty_file() {
     let text = "(vary)\n(fix)\n";
     assert_eq!(states(text), [0]);
+    let empty = rules(text);
+    assert_eq!(preferred(&empty, 0, 1), Ok(Verdict::Yes { units: 1 }));
+    assert_eq!(preferred(&empty, 0, 0), Ok(Verdict::Spent { units: 0 }));
+    assert_eq!(
+        next_state(&empty, 0, 2),
+        Ok(Next::State { set: 0, units: 2 })
+    );
+    assert_eq!(next_state(&empty, 0, 1), Ok(Next::Spent { units: 1 }));
+    assert_eq!(next_state(&empty, 1, 0), Ok(Next::None { units: 0 }));
     assert_eq!(printed(text), "(state)\n(total 1)\n");
     assert_eq!(translated_sums(text), (2, 4, 7));
 }
@@ -102,6 +115,8 @@ fn the_empty_file() {
 fn three_empty_lists() {
     let text = "(vary)\n(fix)\n(rule (head) (body) (not))\n";
     assert!(states(text).is_empty());
+    // The choice of nothing is closed.
+    assert_eq!(next_state(&rules(text), 0, 1), Ok(Next::None { units: 1 }));
     assert_eq!(printed(text), "(total 0)\n");
 }
 
@@ -138,23 +153,37 @@ fn choice_rules() {
 
 #[test]
 fn stable_sets_and_units() {
-    let text = "(atoms a b)\n(rule (head a) (body) (not b))\n(rule (head b) (body) (not a))\n";
-    let two = rules(text);
-    assert_eq!(stable(&two, 0, LARGEST), Ok(Verdict::Broken { rule: 0 }));
-    assert_eq!(stable(&two, 1, LARGEST), Ok(Verdict::Yes { units: 1 }));
-    assert_eq!(stable(&two, 2, 1), Ok(Verdict::Yes { units: 1 }));
-    assert_eq!(stable(&two, 2, 0), Ok(Verdict::Spent { units: 0 }));
-    assert_eq!(
-        stable(&two, 3, LARGEST),
-        Ok(Verdict::Beaten { set: 0, units: 1 })
-    );
-    // The proper subsets of {a, b, c}, by order: {}, {c}, {b}, {b, c}, {a}, {a, c}, {a, b}.
-    let some = rules("(atoms a b c)\n(rule (head a b) (body) (not))\n");
-    let beaten = Verdict::Beaten { set: 2, units: 3 };
-    assert_eq!(stable(&some, 7, LARGEST), Ok(beaten));
-    assert_eq!(stable(&some, 7, 2), Ok(Verdict::Spent { units: 2 }));
-    let empty = rules("(atoms a b)\n");
-    assert_eq!(stable(&empty, 0, 0), Ok(Verdict::Yes { units: 0 }));
+    let text = "(atoms a b c)\n(rule (head a b) (body) (not c))\n(rule (head b) (body a) (not))\n";
+    let marked = rules(text);
+    let verdict = |set, budget| stable(&marked, set, budget).unwrap();
+    let beaten = |set, units| Verdict::Beaten { set, units };
+    assert_eq!(verdict(2, LARGEST), Verdict::Yes { units: 4 });
+    assert_eq!(verdict(2, 4), Verdict::Yes { units: 4 });
+    assert_eq!(verdict(2, 3), Verdict::Spent { units: 3 });
+    assert_eq!(verdict(3, LARGEST), beaten(2, 5));
+    assert_eq!(verdict(3, 4), Verdict::Spent { units: 4 });
+    assert_eq!(verdict(4, LARGEST), beaten(0, 4));
+    assert_eq!(verdict(4, 3), Verdict::Spent { units: 3 });
+    assert_eq!(verdict(0, 0), Verdict::Broken { rule: 0 });
+    assert_eq!(verdict(1, 0), Verdict::Broken { rule: 1 });
+}
+
+/// The final choice M is neither visited nor counted: M empty takes n units.
+#[test]
+fn the_empty_set_is_stable() {
+    for (atoms, text) in ["(atoms)\n", "(atoms a)\n", "(atoms a b)\n"]
+        .iter()
+        .enumerate()
+    {
+        let units = atoms as u64;
+        let verdict = |budget| stable(&rules(text), 0, budget).unwrap();
+        assert_eq!(verdict(LARGEST), Verdict::Yes { units });
+        assert_eq!(verdict(units), Verdict::Yes { units });
+        if units > 0 {
+            let units = units - 1;
+            assert_eq!(verdict(units), Verdict::Spent { units });
+        }
+    }
 }
 
 /// The stable sets of file A's translation, cut to the file's three atoms, are its states.

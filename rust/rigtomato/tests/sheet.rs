@@ -1,4 +1,5 @@
-//! Document 01's sheet through the binding, with places, order and units by document 02, W-206.
+//! Document 01's sheet through the binding, with places and order by document 02, W-206, and units by
+//! W-207.
 
 use rigtomato::{Kind, Next, Program, Refusal, Stopped, TextRefusal, Verdict, LARGEST_BUDGET};
 
@@ -23,23 +24,23 @@ fn file_a() {
     assert_eq!(a.names().collect::<Vec<_>>(), ["sensor", "lamp", "dark"]);
     assert_eq!(states(&a), [6]);
     let verdict = |set, budget| a.preferred(set, budget).unwrap();
-    assert_eq!(verdict(6, LARGEST_BUDGET), Verdict::Yes { units: 8 });
+    assert_eq!(verdict(6, LARGEST_BUDGET), Verdict::Yes { units: 13 });
     assert_eq!(
         verdict(1, LARGEST_BUDGET),
-        Verdict::Beaten { set: 6, units: 4 }
+        Verdict::Beaten { set: 6, units: 6 }
     );
     assert_eq!(verdict(0, LARGEST_BUDGET), Verdict::Broken { rule: 0 });
     assert_eq!(verdict(2, LARGEST_BUDGET), Verdict::Broken { rule: 1 });
-    assert_eq!(verdict(1, 3), Verdict::Spent);
-    assert_eq!(verdict(1, 4), Verdict::Beaten { set: 6, units: 4 });
-    assert_eq!(a.next_state(0, 12), Ok(Next::State { set: 6, units: 12 }));
-    assert_eq!(a.next_state(4, 16), Ok(Next::None { units: 16 }));
+    assert_eq!(verdict(1, 5), Verdict::Spent);
+    assert_eq!(verdict(1, 6), Verdict::Beaten { set: 6, units: 6 });
+    assert_eq!(a.next_state(0, 19), Ok(Next::State { set: 6, units: 19 }));
+    assert_eq!(a.next_state(4, 26), Ok(Next::None { units: 26 }));
     assert_eq!(a.next_state(8, 0), Ok(Next::None { units: 0 }));
     assert_eq!(a.next_state(9, 0), Err(Refusal::SetTooLarge));
-    assert_eq!(a.states(11).collect::<Vec<_>>(), [Err(Stopped::Spent)]);
-    // The state comes with 12 units; that there is no other takes 16.
+    assert_eq!(a.states(18).collect::<Vec<_>>(), [Err(Stopped::Spent)]);
+    // The state comes with 19 units; that there is no other takes 26.
     assert_eq!(
-        a.states(15).collect::<Vec<_>>(),
+        a.states(25).collect::<Vec<_>>(),
         [Ok(6), Err(Stopped::Spent)]
     );
     assert_eq!(a.stable(0, 0), Err(Refusal::RuleStore));
@@ -62,7 +63,20 @@ fn file_a_declared_otherwise() {
     );
     let fixed = file("(min sensor)\n(min lamp)\n(vary)\n(fix dark)\n");
     assert_eq!(states(&fixed), [6, 1]);
-    assert_eq!(fixed.preferred(1, 4), Ok(Verdict::Yes { units: 4 }));
+    assert_eq!(fixed.preferred(1, 10), Ok(Verdict::Yes { units: 10 }));
+}
+
+#[test]
+fn stable_sets() {
+    let text = "(atoms a b c)\n(rule (head a b) (body) (not c))\n(rule (head b) (body a) (not))\n";
+    let plain = Program::read(text.as_bytes()).unwrap();
+    let verdict = |set, budget| plain.stable(set, budget).unwrap();
+    assert_eq!(verdict(2, 4), Verdict::Yes { units: 4 });
+    assert_eq!(verdict(2, 3), Verdict::Spent);
+    assert_eq!(verdict(3, 5), Verdict::Beaten { set: 2, units: 5 });
+    assert_eq!(verdict(4, 4), Verdict::Beaten { set: 0, units: 4 });
+    let empty = Program::read(b"(atoms)\n").unwrap();
+    assert_eq!(empty.stable(0, 0), Ok(Verdict::Yes { units: 0 }));
 }
 
 #[test]

@@ -15,30 +15,36 @@ use std::sync::Arc;
 pub const MORE_ON_PREFERRED: &str = "\
 The atoms are a set; none at all is the empty set. The answer is one of
 
-    yes, 8 units
+    yes, 13 units
     no model: line 5 is broken: (rule (head sensor lamp) (body) (not))
-    beaten by: lamp dark (4 units)
-    spent: more than 3 units are needed
+    beaten by: lamp dark (6 units)
+    spent: more than 5 units are needed
 
-Sets are tried in the order in which 'states' lists, and the first better one is
-named. A unit is one set tried. With --json: {\"verdict\":\"yes\",\"units\":8},
+Atoms are decided one after another in declared order, out before in (fixed ones
+only as in the set), and no deeper once a rule is broken. So sets are met in the
+order in which 'states' lists, and the first better one is named. A unit is one
+choice of the first atoms, that of none and that of all included. With --json:
+{\"verdict\":\"yes\",\"units\":13},
 {\"verdict\":\"broken\",\"rule\":0,\"line\":5,\"text\":\"..\"} (rules count from 0),
-{\"verdict\":\"beaten\",\"set\":[..],\"units\":4} or {\"verdict\":\"spent\",\"units\":3}.
+{\"verdict\":\"beaten\",\"set\":[..],\"units\":6} or {\"verdict\":\"spent\",\"units\":5}.
 The file has at most 60 atoms.
 ";
 
 pub const MORE_ON_STABLE: &str = "\
 The atoms are a set; none at all is the empty set. The answer is one of
 
-    yes, 8 units
+    yes, 4 units
     no model: line 5 is broken: (rule (head a) (body) (not b))
-    not minimal: lamp is a model of the reduct (3 units)
-    spent: more than 6 units are needed
+    not minimal: lamp is a model of the reduct (5 units)
+    spent: more than 3 units are needed
 
-Sets are tried in the order in which 'states' lists, and the first smaller one is
-named. A unit is one set tried. With --json: {\"verdict\":\"yes\",\"units\":8},
+Atoms are decided one after another in declared order, out before in (those
+outside the set only out), and no deeper once a rule of the reduct is broken. So
+sets are met in the order in which 'states' lists, and the first smaller one is
+named. A unit is one choice of the first atoms, that of none included; the set
+itself does not count. With --json: {\"verdict\":\"yes\",\"units\":4},
 {\"verdict\":\"broken\",\"rule\":0,\"line\":5,\"text\":\"..\"} (rules count from 0),
-{\"verdict\":\"beaten\",\"set\":[..],\"units\":3} or {\"verdict\":\"spent\",\"units\":6}.
+{\"verdict\":\"beaten\",\"set\":[..],\"units\":5} or {\"verdict\":\"spent\",\"units\":3}.
 The program has at most 60 atoms.
 ";
 

@@ -9,12 +9,14 @@ use std::thread;
 pub const FILE_A: &str = "(min sensor)\n(min lamp)\n(vary dark)\n(fix)\n\
     (rule (head sensor lamp) (body) (not))\n(rule (head dark) (body lamp) (not))\n";
 
-/// 60 fixed atoms; the empty set is a state, and the next is beyond 2^59 candidates.
+/// 60 fixed atoms; the empty set is the only state. The rules are broken only by the last atom, so
+/// that it takes over 2^60 units to find no other.
 pub fn endless() -> String {
-    let rules: String = (1..60)
-        .map(|i| format!("(rule (head a0) (body a{i}) (not))\n"))
+    let rules: String = (0..59)
+        .map(|i| format!("(rule (head a59) (body a{i}) (not))\n"))
         .collect();
-    format!("(vary)\n(fix{})\n{rules}", names(60))
+    let last = "(rule (head) (body a59) (not))\n";
+    format!("(vary)\n(fix{})\n{rules}{last}", names(60))
 }
 
 /// ` a0 a1 a2 ..`.

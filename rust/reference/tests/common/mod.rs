@@ -1,6 +1,8 @@
 //! What the tests share.
 #![allow(dead_code)]
 
+pub mod draw;
+
 use reference::lent;
 use reference::refusal::Refusal;
 use reference::stores::{name_store, rule_store};
@@ -52,6 +54,24 @@ pub fn states(text: &str) -> Vec<u64> {
         start = lent::place(&rules, set).unwrap() + 1;
     }
     found
+}
+
+/// A row of inverters as in document 001's Example 1, with any number of them instead of three: each
+/// is at fault or its two wires differ; the first wire is low, and the last is not what it then
+/// should be. The faults are one class and are declared first.
+pub fn inverters(count: usize) -> String {
+    let mut text = format!("(min{})\n", many("ab", count));
+    text += &format!("(vary{})\n(fix)\n", many("w", count + 1));
+    for i in 0..count {
+        let (wires, fault) = (format!("w{i} w{}", i + 1), format!("ab{i}"));
+        text += &format!("(rule (head {wires} {fault}) (body) (not))\n");
+        text += &format!("(rule (head {fault}) (body {wires}) (not))\n");
+    }
+    text += "(rule (head) (body w0) (not))\n";
+    text + &match count % 2 {
+        1 => format!("(rule (head) (body w{count}) (not))\n"),
+        _ => format!("(rule (head w{count}) (body) (not))\n"),
+    }
 }
 
 /// ` a0 a1 a2 ..`: this many different names, each with a space before it.

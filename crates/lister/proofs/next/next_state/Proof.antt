@@ -5,7 +5,7 @@ use Rattle.stores.specs.RuleStore.{decode}
 use Rattle.walks.specs.Walk.{nextVerdict}
 use Rattle.walks.specs.Answers.{nextAnswer}
 use Rattle.walks.specs.declared.answers.NextState.the-variants.{Refused}
-use Rattle.masks.proofs.Guarding.{call-passes, answer-told, refusal-told, up-to-top, start-inside}
+use Rattle.masks.proofs.Guarding.{call-passes, answer-told, refusal-told, up-to-top}
 use Rattle.lister.proofs.next.next_state.Statement.{statement}
 use Rattle.lister.proofs.next.next_state.Tie as tie
 
@@ -16,7 +16,7 @@ enum-told : tie.Need-enum-told
 enum-told c = search needs
 
 next-of-requires : tie.Need-next-of-requires
-next-of-requires c κs = let h = call-passes Refused Preference (c .before .before .before .before .args .words .now) (leb (c .before .before .before .before .args .start)) (c .before .before .before .before .args .start) 1 (c .before .before .before .before .args .budget) (nextVerdict (decode (c .before .before .before .before .args .words .now) .words) (decode (c .before .before .before .before .args .words .now) .rules) (c .before .before .before .before .args .start) (c .before .before .before .before .args .budget)) (up-to-top (c .before .before .before .before .args .start)) _ (c .before .before .check-call .ensures) (c .enum-told .given .1) in (h .store, (h .few, (h .is-kind, start-inside h)))
+next-of-requires c κs = let h = call-passes Refused Preference (c .before .before .before .before .args .words .now) (leb (c .before .before .before .before .args .start)) (c .before .before .before .before .args .start) 1 (c .before .before .before .before .args .budget) (nextVerdict (decode (c .before .before .before .before .args .words .now) .words) (decode (c .before .before .before .before .args .words .now) .rules) (c .before .before .before .before .args .start) (c .before .before .before .before .args .budget)) (up-to-top (c .before .before .before .before .args .start)) _ (c .before .before .check-call .ensures) (c .enum-told .given .1) in (h .store, (h .few, (h .is-kind, h .allowed)))
 
 enum-known-guard : tie.Need-enum-known-guard
 enum-known-guard c = search needs

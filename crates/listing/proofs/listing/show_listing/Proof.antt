@@ -1,6 +1,6 @@
-use Rattle.listing.proofs.ListedStates.{too-long, all-is}
-use Rattle.printing.proofs.PrintedLines.{shown-renamed}
 use mathlib.Core.Path.{refl}
+use Rattle.printing.proofs.PrintedLines.{shown-renamed}
+use Rattle.listing.proofs.ListedStates.{too-long, all-is}
 use borrow.Author.Needs.{needs}
 use Rattle.listing.proofs.listing.show_listing.Statement.{statement}
 use Rattle.listing.proofs.listing.show_listing.Tie as tie

@@ -1,7 +1,6 @@
-use Rattle.listing.proofs.StoredStates.{masks-listed, same-streamed}
-use Rattle.masks.proofs.FilledMasks.{taken-fits, care-length, want-length, class-length}
-use Rattle.printing.proofs.PrintedLines.{shown-renamed}
 use mathlib.Core.Path.{refl}
+use Rattle.masks.proofs.FilledMasks.{taken-fits, care-length, want-length}
+use Rattle.listing.proofs.StoredStates.{masks-sortable, names-listed, listing-shown}
 use borrow.Author.Needs.{needs}
 use Rattle.listing.proofs.listing.show_store.Statement.{statement}
 use Rattle.listing.proofs.listing.show_store.Tie as tie
@@ -21,29 +20,23 @@ fill-masks-requires c κs = (c .before .before .before .before .before .before .
 array-share-prefix-care : tie.Need-array-share-prefix-care
 array-share-prefix-care c = taken-fits _ _ (care-length (c .before .before .before .fill-masks .ensures))
 
-slice-aggregate-show-listing : tie.Need-slice-aggregate-show-listing
-slice-aggregate-show-listing c = care-length (c .before .before .before .before .fill-masks .ensures)
+slice-aggregate-show-sorted : tie.Need-slice-aggregate-show-sorted
+slice-aggregate-show-sorted c = care-length (c .before .before .before .before .fill-masks .ensures)
 
 array-share-prefix-want : tie.Need-array-share-prefix-want
 array-share-prefix-want c = taken-fits _ _ (want-length (c .before .before .before .before .fill-masks .ensures))
 
-slice-aggregate-show-listing-2 : tie.Need-slice-aggregate-show-listing-2
-slice-aggregate-show-listing-2 c = want-length (c .before .before .before .before .before .fill-masks .ensures)
+slice-aggregate-show-sorted-2 : tie.Need-slice-aggregate-show-sorted-2
+slice-aggregate-show-sorted-2 c = want-length (c .before .before .before .before .before .fill-masks .ensures)
 
-array-share-prefix-classes : tie.Need-array-share-prefix-classes
-array-share-prefix-classes c = taken-fits _ _ (class-length (c .before .before .before .before .before .fill-masks .ensures))
-
-slice-aggregate-show-listing-3 : tie.Need-slice-aggregate-show-listing-3
-slice-aggregate-show-listing-3 c = class-length (c .before .before .before .before .before .before .fill-masks .ensures)
-
-show-listing-requires : tie.Need-show-listing-requires
-show-listing-requires c κs = masks-listed (c .before .before .before .before .before .before .before .before .before .before .before .before .before .before .before .pre) (c .before .before .before .before .before .before .before .fill-masks .ensures)
+show-sorted-requires : tie.Need-show-sorted-requires
+show-sorted-requires c κs = (masks-sortable (c .before .before .before .before .before .before .before .before .before .before .before .before .before .before .before .pre) (c .before .before .before .before .before .before .before .fill-masks .ensures), names-listed (c .before .before .before .before .before .before .before .before .before .before .before .before .before .before .before .pre) (c .before .before .before .before .before .before .before .fill-masks .ensures))
 
 same-length : tie.Need-same-length
 same-length c = search needs
 
 returns : tie.Need-returns
-returns c = shown-renamed (same-streamed (c .before .before .before .before .before .before .before .before .before .before .before .before .before .before .before .before .before .before .pre) (c .before .before .before .before .before .before .before .before .before .before .fill-masks .ensures)) (c .before .before .show-listing .ensures)
+returns c = listing-shown (c .before .before .before .before .before .before .before .before .before .before .before .before .before .before .before .before .before .before .pre) (c .before .before .before .before .before .before .before .before .before .before .fill-masks .ensures) (c .before .before .show-sorted .ensures)
 
 pub show-store-spec : {M : Type 1} → statement M
 show-store-spec =
@@ -54,11 +47,9 @@ show-store-spec =
     slice-aggregate-fill-masks-3
     fill-masks-requires
     array-share-prefix-care
-    slice-aggregate-show-listing
+    slice-aggregate-show-sorted
     array-share-prefix-want
-    slice-aggregate-show-listing-2
-    array-share-prefix-classes
-    slice-aggregate-show-listing-3
-    show-listing-requires
+    slice-aggregate-show-sorted-2
+    show-sorted-requires
     same-length
     returns)

@@ -23,34 +23,34 @@ loop-holds : tie.Need-loop-holds Inv-loop μ-loop
 loop-holds c = reduct-begins _ _ _ _ _ _ _ (c .before .before .before .before .pre .1 .0) (c .before .before .before .before .pre .1 .1 .0) (c .before .before .before .before .pre .1 .1 .1 .0) (c .before .before .before .before .pre .1 .1 .1 .1)
 
 mul-rule-size : tie.Need-mul-rule-size Inv-loop μ-loop
-mul-rule-size c = omega (arith, fill-place _ _ _ _ _ _ _ _ _ _ (c .before .loop .inv .walk) (c .loop-test .taken))
+mul-rule-size c = omega (arith, fill-place _ _ _ _ _ _ _ _ _ (c .before .loop .inv .walk) (c .loop-test .taken))
 
 sub-rule-size : tie.Need-sub-rule-size Inv-loop μ-loop
-sub-rule-size c = omega (arith, fill-place _ _ _ _ _ _ _ _ _ _ (c .before .loop .inv .walk) (c .loop-test .taken))
+sub-rule-size c = omega (arith, fill-place _ _ _ _ _ _ _ _ _ (c .before .loop .inv .walk) (c .loop-test .taken))
 
 part-rule-size-start : tie.Need-part-rule-size-start Inv-loop μ-loop
-part-rule-size-start c = omega (arith, fill-place _ _ _ _ _ _ _ _ _ _ (c .before .loop .inv .walk) (c .loop-test .taken))
+part-rule-size-start c = omega (arith, fill-place _ _ _ _ _ _ _ _ _ (c .before .loop .inv .walk) (c .loop-test .taken))
 
 part-rule-size-end : tie.Need-part-rule-size-end Inv-loop μ-loop
 part-rule-size-end c = search needs
 
 rule-size-requires : tie.Need-rule-size-requires Inv-loop μ-loop
-rule-size-requires c κs = fill-rule _ _ _ _ _ _ _ _ _ _ (c .before .before .loop .inv .walk) (c .before .loop-test .taken) .inside
+rule-size-requires c κs = fill-rule _ _ _ _ _ _ _ _ _ (c .before .before .loop .inv .walk) (c .before .loop-test .taken) .inside
 
 mul-is-kept : tie.Need-mul-is-kept Inv-loop μ-loop
-mul-is-kept c = omega (arith, fill-place _ _ _ _ _ _ _ _ _ _ (c .before .before .before .loop .inv .walk) (c .before .before .loop-test .taken))
+mul-is-kept c = omega (arith, fill-place _ _ _ _ _ _ _ _ _ (c .before .before .before .loop .inv .walk) (c .before .before .loop-test .taken))
 
 sub-is-kept : tie.Need-sub-is-kept Inv-loop μ-loop
-sub-is-kept c = omega (arith, fill-place _ _ _ _ _ _ _ _ _ _ (c .before .before .before .loop .inv .walk) (c .before .before .loop-test .taken))
+sub-is-kept c = omega (arith, fill-place _ _ _ _ _ _ _ _ _ (c .before .before .before .loop .inv .walk) (c .before .before .loop-test .taken))
 
 part-is-kept-start : tie.Need-part-is-kept-start Inv-loop μ-loop
-part-is-kept-start c = omega (arith, fill-place _ _ _ _ _ _ _ _ _ _ (c .before .before .before .loop .inv .walk) (c .before .before .loop-test .taken))
+part-is-kept-start c = omega (arith, fill-place _ _ _ _ _ _ _ _ _ (c .before .before .before .loop .inv .walk) (c .before .before .loop-test .taken))
 
 part-is-kept-end : tie.Need-part-is-kept-end Inv-loop μ-loop
 part-is-kept-end c = search needs
 
 is-kept-requires : tie.Need-is-kept-requires Inv-loop μ-loop
-is-kept-requires c κs = stored-more (c .before .before .before .before .before .before .before .before .before .pre .0) (fill-rule _ _ _ _ _ _ _ _ _ _ (c .before .before .before .before .loop .inv .walk) (c .before .before .before .loop-test .taken))
+is-kept-requires c κs = stored-more (c .before .before .before .before .before .before .before .before .before .pre .0) (fill-rule _ _ _ _ _ _ _ _ _ (c .before .before .before .before .loop .inv .walk) (c .before .before .before .loop-test .taken))
 
 slice-write-marks : tie.Need-slice-write-marks Inv-loop μ-loop
 slice-write-marks c = search needs
@@ -59,25 +59,25 @@ slice-read-if1 : tie.Need-slice-read-if1 Inv-loop μ-loop
 slice-read-if1 c = simp length-set (omega arith)
 
 mul-put-rule : tie.Need-mul-put-rule Inv-loop μ-loop
-mul-put-rule c = omega (arith, fill-place _ _ _ _ _ _ _ _ _ _ (c .before .before .before .before .before .before .before .loop .inv .walk) (c .before .before .before .before .before .before .loop-test .taken))
+mul-put-rule c = omega (arith, fill-place _ _ _ _ _ _ _ _ _ (c .before .before .before .before .before .before .before .loop .inv .walk) (c .before .before .before .before .before .before .loop-test .taken))
 
 sub-put-rule : tie.Need-sub-put-rule Inv-loop μ-loop
-sub-put-rule c = omega (arith, fill-place _ _ _ _ _ _ _ _ _ _ (c .before .before .before .before .before .before .before .loop .inv .walk) (c .before .before .before .before .before .before .loop-test .taken))
+sub-put-rule c = omega (arith, fill-place _ _ _ _ _ _ _ _ _ (c .before .before .before .before .before .before .before .loop .inv .walk) (c .before .before .before .before .before .before .loop-test .taken))
 
 part-put-rule-start : tie.Need-part-put-rule-start Inv-loop μ-loop
-part-put-rule-start c = omega (arith, fill-place _ _ _ _ _ _ _ _ _ _ (c .before .before .before .before .before .before .before .loop .inv .walk) (c .before .before .before .before .before .before .loop-test .taken))
+part-put-rule-start c = omega (arith, fill-place _ _ _ _ _ _ _ _ _ (c .before .before .before .before .before .before .before .loop .inv .walk) (c .before .before .before .before .before .before .loop-test .taken))
 
 part-put-rule-end : tie.Need-part-put-rule-end Inv-loop μ-loop
 part-put-rule-end c = search needs
 
 put-rule-requires : tie.Need-put-rule-requires Inv-loop μ-loop
-put-rule-requires c κs = (c .before .before .before .before .before .before .before .before .before .before .before .before .before .before .before .pre .0, (fill-rule _ _ _ _ _ _ _ _ _ _ (c .before .before .before .before .before .before .before .before .before .before .loop .inv .walk) (c .before .before .before .before .before .before .before .before .before .loop-test .taken), (search needs, search needs)))
+put-rule-requires c κs = (c .before .before .before .before .before .before .before .before .before .before .before .before .before .before .before .pre .0, (fill-rule _ _ _ _ _ _ _ _ _ (c .before .before .before .before .before .before .before .before .before .before .loop .inv .walk) (c .before .before .before .before .before .before .before .before .before .loop-test .taken), (search needs, search needs)))
 
 add-kept : tie.Need-add-kept Inv-loop μ-loop
 add-kept c = search needs
 
 add-from : tie.Need-add-from Inv-loop μ-loop
-add-from c = omega (arith, fill-place _ _ _ _ _ _ _ _ _ _ (c .before .before .before .before .before .before .before .loop .inv .walk) (c .before .before .before .before .before .before .loop-test .taken), c .before .before .before .before .rule-size .ensures)
+add-from c = omega (arith, fill-place _ _ _ _ _ _ _ _ _ (c .before .before .before .before .before .before .before .loop .inv .walk) (c .before .before .before .before .before .before .loop-test .taken), c .before .before .before .before .rule-size .ensures)
 
 add-j : tie.Need-add-j Inv-loop μ-loop
 add-j c = search needs

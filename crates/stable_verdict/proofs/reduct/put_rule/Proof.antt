@@ -38,7 +38,7 @@ same-length-2 : tie.Need-same-length-2
 same-length-2 c = search needs
 
 returns : tie.Need-returns
-returns c = (put-masks (careAt (c .before .before .before .before .before .before .before .before .before .before .args .n) 0) _ _ _ _ (c .before .before .before .before .before .before .before .before .before .before .pre .1 .1 .0) (c .before .before .before .before .fill-rules .ensures .0), put-masks (wantAt (c .before .before .before .before .before .before .before .before .before .before .args .n) 0) _ _ _ _ (c .before .before .before .before .before .before .before .before .before .before .pre .1 .1 .1) (c .before .before .before .before .fill-rules .ensures .1))
+returns c = (put-masks (careAt (c .before .before .before .before .before .before .before .before .before .before .args .n)) _ _ _ _ (c .before .before .before .before .before .before .before .before .before .before .pre .1 .1 .0) (c .before .before .before .before .fill-rules .ensures .0), put-masks (wantAt (c .before .before .before .before .before .before .before .before .before .before .args .n)) _ _ _ _ (c .before .before .before .before .before .before .before .before .before .before .pre .1 .1 .1) (c .before .before .before .before .fill-rules .ensures .1))
 
 pub put-rule-spec : {M : Type 1} → statement M
 put-rule-spec =

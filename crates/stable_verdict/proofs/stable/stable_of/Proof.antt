@@ -1,11 +1,8 @@
-use mathlib.Core.Path.{refl, sym, _∙_}
-use Prim.Native.Nat.{_≤_}
+use mathlib.Core.Path.{refl}
 use native.Mathlib.Omega.{arith}
-use lib.ListN.{length}
-use lib.Seq.{length-take-le}
 use Rattle.masks.proofs.CheckedStore.{PlainHeader, has-header, plain-few, plain-stored, plain-rules}
 use Rattle.masks.proofs.FilledMasks.{taken-fits}
-use Rattle.stable_verdict.proofs.KeptRules.{ReductReady, reduct-ready, kept-care-length, kept-want-length, marks-length, marks-fit, place-small, broken-ready, walk-ready}
+use Rattle.stable_verdict.proofs.KeptRules.{ReductReady, reduct-ready, kept-care-length, kept-want-length, kept-same, kept-fit, kept-small, marks-length, marks-fit, broken-ready, walk-ready}
 use borrow.Author.Needs.{needs}
 use Rattle.stable_verdict.proofs.stable.stable_of.Statement.{statement}
 use Rattle.stable_verdict.proofs.stable.stable_of.Tie as tie
@@ -15,12 +12,6 @@ header c = record { store = c .before .before .before .before .before .pre .0; f
 
 ready : (c : tie.After-fill-reduct) → ReductReady (c .before .before .before .before .before .before .before .before .before .before .args .words .now) (c .before .before .before .before .before .before .before .wide .result) (c .before .before .before .before .before .wide2 .result) (c .before .before .before .before .before .before .before .before .before .before .args .set) (c .fill-reduct .last .1 .1 .1 .1 .0) (c .fill-reduct .last .1 .1 .1 .1 .1 .0) (c .fill-reduct .last .1 .1 .1 .1 .1 .1 .0) (c .fill-reduct .result)
 ready c = reduct-ready _ _ _ _ _ _ (header (c .before .before .before .before .before)) (c .fill-reduct .ensures)
-
-care-fits : (c : tie.After-gather) → c .gather .result ≤ length (c .gather .last .0)
-care-fits c = omega (arith, c .gather .ensures .1 .1, taken-fits _ _ (kept-care-length (ready (c .before .before .before .before .before .before .before .before .before .before .before))), c .gather .kept .0)
-
-want-fits : (c : tie.After-gather) → c .gather .result ≤ length (c .gather .last .1 .0)
-want-fits c = omega (arith, c .gather .ensures .1 .1, taken-fits _ _ (kept-want-length (ready (c .before .before .before .before .before .before .before .before .before .before .before))), c .gather .kept .1 .0)
 
 shared-slice-read-wide : tie.Need-shared-slice-read-wide
 shared-slice-read-wide c = omega (arith, has-header _ _ (c .before .before .pre .0))
@@ -55,9 +46,6 @@ slice-aggregate-fill-reduct-3 c = search needs
 fill-reduct-requires : tie.Need-fill-reduct-requires
 fill-reduct-requires c κs = (plain-few _ _ _ (header (c .before .before .before .before)), (plain-stored _ _ _ (header (c .before .before .before .before)), (plain-rules _ _ _ (header (c .before .before .before .before)), (refl, (plain-rules _ _ _ (header (c .before .before .before .before)), plain-rules _ _ _ (header (c .before .before .before .before)))))))
 
-cast-atoms : tie.Need-cast-atoms
-cast-atoms c = omega (arith, plain-few _ _ _ (header (c .before .before .before .before .before .before .before .before)))
-
 turned-requires : tie.Need-turned-requires
 turned-requires c κs = plain-few _ _ _ (header (c .before .before .before .before .before .before .before .before))
 
@@ -74,7 +62,7 @@ slice-aggregate-first-broken-2 : tie.Need-slice-aggregate-first-broken-2
 slice-aggregate-first-broken-2 c = kept-want-length (ready (c .before .before .before .before .before .before))
 
 first-broken-requires : tie.Need-first-broken-requires
-first-broken-requires c κs = sym (kept-want-length (ready (c .before .before .before .before .before .before))) ∙ kept-care-length (ready (c .before .before .before .before .before .before))
+first-broken-requires c κs = kept-same (ready (c .before .before .before .before .before .before))
 
 array-share-prefix-marks : tie.Need-array-share-prefix-marks
 array-share-prefix-marks c = marks-fit (ready (c .before .before .before .before .before .before .before .before))
@@ -88,35 +76,26 @@ marked-at-requires c κs = search needs
 returns : tie.Need-returns
 returns c = broken-ready (ready (c .before .before .before .before .before .before .before .before .before .before)) _ (c .before .before .before .before .before .before .turned .ensures) _ (c .before .before .before .first-broken .ensures) _ _ (c .before .before .if1 .taken) (c .marked-at .ensures)
 
-slice-aggregate-gather : tie.Need-slice-aggregate-gather
-slice-aggregate-gather c = search needs
-
-slice-aggregate-gather-2 : tie.Need-slice-aggregate-gather-2
-slice-aggregate-gather-2 c = search needs
-
-gather-requires : tie.Need-gather-requires
-gather-requires c κs = (taken-fits _ _ (kept-care-length (ready (c .before .before .before .before .before .before .before .before .before .before))), taken-fits _ _ (kept-want-length (ready (c .before .before .before .before .before .before .before .before .before .before))))
-
 array-share-prefix-care-2 : tie.Need-array-share-prefix-care-2
-array-share-prefix-care-2 c = care-fits (c .before .before)
+array-share-prefix-care-2 c = taken-fits _ _ (kept-care-length (ready (c .before .before .before .before .before .before .before .before)))
 
-slice-aggregate-stable-walk : tie.Need-slice-aggregate-stable-walk
-slice-aggregate-stable-walk c = sym (length-take-le _ (c .before .before .before .gather .last .0) (care-fits (c .before .before .before)))
+slice-aggregate-search-sorted : tie.Need-slice-aggregate-search-sorted
+slice-aggregate-search-sorted c = kept-care-length (ready (c .before .before .before .before .before .before .before .before .before))
 
 array-share-prefix-want-2 : tie.Need-array-share-prefix-want-2
-array-share-prefix-want-2 c = want-fits (c .before .before .before)
+array-share-prefix-want-2 c = taken-fits _ _ (kept-want-length (ready (c .before .before .before .before .before .before .before .before .before)))
 
-slice-aggregate-stable-walk-2 : tie.Need-slice-aggregate-stable-walk-2
-slice-aggregate-stable-walk-2 c = sym (length-take-le _ (c .before .before .before .before .gather .last .1 .0) (want-fits (c .before .before .before .before)))
+slice-aggregate-search-sorted-2 : tie.Need-slice-aggregate-search-sorted-2
+slice-aggregate-search-sorted-2 c = kept-want-length (ready (c .before .before .before .before .before .before .before .before .before .before))
 
-stable-walk-requires : tie.Need-stable-walk-requires
-stable-walk-requires c κs = (length-take-le _ (c .before .before .before .before .gather .last .1 .0) (want-fits (c .before .before .before .before)) ∙ sym (length-take-le _ (c .before .before .before .before .gather .last .0) (care-fits (c .before .before .before .before))), place-small (ready (c .before .before .before .before .before .before .before .before .before .before .before .before .before .before .before)) _ (c .before .before .before .before .before .before .before .before .before .before .before .turned .ensures) _ (c .before .before .before .before .before .before .before .before .first-broken .ensures))
+search-sorted-requires : tie.Need-search-sorted-requires
+search-sorted-requires c κs = (kept-same (ready (c .before .before .before .before .before .before .before .before .before .before)), (kept-fit (ready (c .before .before .before .before .before .before .before .before .before .before)), (kept-small (ready (c .before .before .before .before .before .before .before .before .before .before)), (plain-few _ _ _ (header (c .before .before .before .before .before .before .before .before .before .before .before .before .before .before .before)), c .before .before .before .before .before .before .before .before .before .before .before .before .before .before .before .before .before .before .before .before .pre .1 .1 .1 .1))))
 
 verdict-at-requires : tie.Need-verdict-at-requires
-verdict-at-requires c κs = plain-few _ _ _ (header (c .before .before .before .before .before .before .before .before .before .before .before .before .before .before .before .before .before .before .before .before .before))
+verdict-at-requires c κs = plain-few _ _ _ (header (c .before .before .before .before .before .before .before .before .before .before .before .before .before .before .before .before))
 
 returns-2 : tie.Need-returns-2
-returns-2 c = walk-ready (ready (c .before .before .before .before .before .before .before .before .before .before .before .before .before .before .before .before .before)) _ (c .before .before .before .before .before .before .before .before .before .before .before .before .before .turned .ensures) _ (c .before .before .before .before .before .before .before .before .before .before .first-broken .ensures) _ _ _ _ _ (c .before .before .before .before .before .before .before .before .before .before .before .before .before .before .before .before .before .before .before .before .before .before .before .before .before .before .before .pre .1 .1 .1) (c .before .before .before .before .before .before .before .before .before .if1 .left) (c .before .before .before .before .before .before .gather .ensures .0) (c .before .before .before .before .before .before .gather .ensures .1 .0) (c .before .stable-walk .ensures) (c .verdict-at .ensures)
+returns-2 c = walk-ready (ready (c .before .before .before .before .before .before .before .before .before .before .before .before)) _ (c .before .before .before .before .before .before .before .before .turned .ensures) _ (c .before .before .before .before .before .first-broken .ensures) _ _ _ (c .before .before .before .before .before .before .before .before .before .before .before .before .before .before .before .before .before .before .before .before .before .before .pre .1 .1 .1 .0) (c .before .before .before .before .if1 .left) (c .before .search-sorted .ensures) (c .verdict-at .ensures)
 
 pub stable-of-spec : {M : Type 1} → statement M
 stable-of-spec =
@@ -133,7 +112,6 @@ stable-of-spec =
     slice-aggregate-fill-reduct-2
     slice-aggregate-fill-reduct-3
     fill-reduct-requires
-    cast-atoms
     turned-requires
     array-share-prefix-care
     slice-aggregate-first-broken
@@ -144,13 +122,10 @@ stable-of-spec =
     slice-aggregate-marked-at
     marked-at-requires
     returns
-    slice-aggregate-gather
-    slice-aggregate-gather-2
-    gather-requires
     array-share-prefix-care-2
-    slice-aggregate-stable-walk
+    slice-aggregate-search-sorted
     array-share-prefix-want-2
-    slice-aggregate-stable-walk-2
-    stable-walk-requires
+    slice-aggregate-search-sorted-2
+    search-sorted-requires
     verdict-at-requires
     returns-2)

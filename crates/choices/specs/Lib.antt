@@ -1,0 +1,2 @@
+-- Partial choices, and those that a walk visits.
+pub mod Choices

@@ -1,0 +1,1 @@
+// Definitions and laws of partial choices; no code.

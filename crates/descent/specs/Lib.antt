@@ -1,0 +1,5 @@
+-- The search over partial choices, shaped like its code.
+pub mod Descent
+pub mod Search
+pub mod Visits
+pub mod Verdicts

@@ -1,0 +1,70 @@
+-- The parts of a plan, the one array that a search goes by: four terms that each search is given anew, then the tables that stay.
+use Prim.Native.Nat.{ℕ, _+_}
+use mathlib.Core.Path.{_≡_}
+use mathlib.Core.List.{List}
+use lib.ListN.{length, getD, take, drop}
+use Rattle.kinds.specs.Limits.{classLimit, ruleLimit}
+use Rattle.kinds.specs.declared.limits.Kind.the-variants.{Plain}
+use Rattle.groups.specs.Groups.{rootGroup, Bounded, GroupsOf}
+
+-- the n words from number a on
+unfoldable pub part : ℕ → ℕ → List ℕ → List ℕ
+part a n p = take n (drop a p)
+
+abbrev pub classesFrom : ℕ
+classesFrom = 4
+
+abbrev pub startsFrom : ℕ
+startsFrom = classesFrom + classLimit
+
+abbrev pub careFrom : ℕ
+careFrom = startsFrom + (rootGroup + 2)
+
+abbrev pub wantFrom : ℕ
+wantFrom = careFrom + ruleLimit Plain
+
+abbrev pub planWords : ℕ
+planWords = wantFrom + ruleLimit Plain
+
+-- the terms
+
+abbrev pub outsIn : List ℕ → ℕ
+outsIn p = getD p 0 0
+
+abbrev pub insIn : List ℕ → ℕ
+insIn p = getD p 1 0
+
+abbrev pub ofIn : List ℕ → ℕ
+ofIn p = getD p 2 0
+
+abbrev pub budgetIn : List ℕ → ℕ
+budgetIn p = getD p 3 0
+
+-- the tables
+
+abbrev pub classesIn : List ℕ → List ℕ
+classesIn p = part classesFrom classLimit p
+
+abbrev pub startsIn : List ℕ → List ℕ
+startsIn p = part startsFrom (rootGroup + 2) p
+
+abbrev pub careIn : List ℕ → List ℕ
+careIn p = part careFrom (ruleLimit Plain) p
+
+abbrev pub wantIn : List ℕ → List ℕ
+wantIn p = part wantFrom (ruleLimit Plain) p
+
+-- two plans with the same tables
+abbrev pub SameTables : List ℕ → List ℕ → Type 0
+SameTables p q = drop classesFrom p ≡ drop classesFrom q
+
+-- a plan of which the groups end within the rules
+pub record HasTables (p : List ℕ) : Type 0 where
+  pub words : length p ≡ planWords
+  pub bounded : Bounded (startsIn p)
+
+-- the plan's tables are these classes, and these rules' masks in groups
+pub record TablesOf (cs ws classes p : List ℕ) : Type 0 where
+  pub words : length p ≡ planWords
+  pub classes-are : classesIn p ≡ classes
+  pub groups : GroupsOf cs ws (careIn p) (wantIn p) (startsIn p)

@@ -1,0 +1,3 @@
+// The masks of the rules in groups by their last atom (document 02, W-207).
+pub mod grouping;
+pub mod plan;

@@ -1,0 +1,3 @@
+-- The next state over masks.
+pub mod NextMasks
+pub mod SortedNext

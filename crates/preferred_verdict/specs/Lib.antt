@@ -1,0 +1,2 @@
+-- The search with the rules sorted.
+pub mod SortedSearch
