@@ -9,15 +9,13 @@ use lib.Dec.{eqb}
 use lib.Pow.{pow-mono}
 use lib.Bits.{bitAnd}
 use lib.ListN.{length, getD, drop}
-use Rattle.kinds.specs.Limits.{walkAtoms, classLimit, ruleLimit}
-use Rattle.kinds.specs.declared.limits.Kind.the-variants.{Plain}
+use Rattle.kinds.specs.Limits.{walkAtoms, classLimit}
 use Rattle.rules.specs.Lists.{some, from}
 use Rattle.rules.specs.Sets.{has}
 use Rattle.masks.specs.Masks.{sparesM}
 use Rattle.masks.proofs.MaskBits.{bit-test}
 use Rattle.masks.proofs.MaskLoops.{shifted, spares-none, spares-found, spares-more}
-use Rattle.rules.proofs.Booleans.{or-false}
-use Rattle.groups.specs.Groups.{groupAt, rootGroup, brokenAt, brokenFrom, brokenIn, Bounded}
+use Rattle.groups.specs.Groups.{groupAt, rootGroup, brokenAt, brokenFrom, brokenIn, placeLimit, Bounded, Paired}
 use Rattle.groups.specs.Plans.{classesFrom, startsFrom, careFrom, wantFrom, planWords, classesIn, startsIn, careIn, wantIn}
 use Rattle.groups.proofs.PlanParts.{part-at, part-length}
 use Rattle.descent.specs.Descent.{Found, Nothing, unitsOf, foundMark, Told}
@@ -26,8 +24,8 @@ use Rattle.descent.proofs.Told.{told-nothing, told-found}
 
 -- a rule's masks and a class, read from the plan
 module _ (p : List ℕ) (i : ℕ) where
-  pub rule-planned : (s : ℕ) → i < ruleLimit Plain → eqb (bitAnd s (getD p (careFrom + i) 0)) (getD p (wantFrom + i) 0) ≡ brokenAt (careIn p) (wantIn p) s i
-  rule-planned s h = ap₂ (λ (x y : ℕ). eqb (bitAnd s x) y) (sym (part-at careFrom (ruleLimit Plain) p i h)) (sym (part-at wantFrom (ruleLimit Plain) p i h))
+  pub rule-planned : (s : ℕ) → i < placeLimit → eqb (bitAnd s (getD p (careFrom + i) 0)) (getD p (wantFrom + i) 0) ≡ brokenAt (careIn p) (wantIn p) s i
+  rule-planned s h = ap₂ (λ (x y : ℕ). eqb (bitAnd s x) y) (sym (part-at careFrom placeLimit p i h)) (sym (part-at wantFrom placeLimit p i h))
 
 module _ (p : List ℕ) (m s i : ℕ) (whole : length p ≡ planWords) (e : sparesM m s (classesIn p) ≡ sparesM m s (drop i (classesIn p))) where
   class-room : length (classesIn p) ≡ classLimit
@@ -51,16 +49,16 @@ module _ (cs ws : List ℕ) (s a b : ℕ) where
   unfolding brokenFrom
   broken-cons i h = let e : b - i ≡ suc (b - suc i) = omega arith in ap (λ (k : ℕ). some (brokenAt cs ws s) (from i k)) e
 
-  -- two rules are tested at a time, the last of an odd number by itself
+  -- two rules are tested at a time: between even places there is never one alone
   module _ (i : ℕ) (e : brokenFrom cs ws s a b ≡ brokenFrom cs ws s i b) where
-    module _ (h : i + 1 < b) {p q : Bool} (first : p ≡ brokenAt cs ws s i) (second : q ≡ brokenAt cs ws s (i + 1)) where
+    module _ (h : i < b) (begins : i % 2 ≡ 0) (ends : b % 2 ≡ 0) {p q : Bool} (first : p ≡ brokenAt cs ws s i) (second : q ≡ brokenAt cs ws s (i + 1)) where
       broken-two : brokenFrom cs ws s a b ≡ (p || (q || brokenFrom cs ws s (i + 2) b))
       broken-two =
           let one : i + 1 ≡ suc i = omega arith in
           let two : suc (i + 1) ≡ i + 2 = omega arith in
-          e ∙ broken-cons i (omega arith)
+          e ∙ broken-cons i h
           ∙ ap (λ (k : ℕ). brokenAt cs ws s i || brokenFrom cs ws s k b) (sym one)
-          ∙ ap (λ (t : Bool). brokenAt cs ws s i || t) (broken-cons (i + 1) h)
+          ∙ ap (λ (t : Bool). brokenAt cs ws s i || t) (broken-cons (i + 1) (omega arith))
           ∙ (λ j. sym first j || (sym second j || brokenFrom cs ws s (two j) b))
 
       pub broken-found : (p || q) ≡ true → true ≡ brokenFrom cs ws s a b
@@ -79,15 +77,9 @@ module _ (cs ws : List ℕ) (s a b : ℕ) where
           neither false true t = absurd (let z : _≡_ {A = ℕ} 0 1 = cc in omega arith)
           neither false false t = refl
 
-    broken-end : (k : ℕ) → b ≤ k → brokenFrom cs ws s k b ≡ false
-    unfolding brokenFrom
-    broken-end k h = let z : b - k ≡ 0 = omega arith in ap (λ (c : ℕ). some (brokenAt cs ws s) (from k c)) z
-
-    pub broken-last : {p : Bool} → i < b → b ≤ i + 1 → p ≡ brokenAt cs ws s i → p ≡ brokenFrom cs ws s a b
-    broken-last h l first = first ∙ sym (e ∙ broken-cons i h ∙ ap (λ (t : Bool). brokenAt cs ws s i || t) (broken-end (suc i) (omega arith)) ∙ or-false (brokenAt cs ws s i))
-
     pub broken-none : b ≤ i → false ≡ brokenFrom cs ws s a b
-    broken-none h = sym (e ∙ broken-end i h)
+    unfolding brokenFrom
+    broken-none h = sym (e ∙ (let z : b - i ≡ 0 = omega arith in ap (λ (k : ℕ). some (brokenAt cs ws s) (from i k)) z))
 
 -- the group of a value, read from the plan
 module _ (p : List ℕ) (k : ℕ) (h : k < walkAtoms) where
@@ -99,8 +91,11 @@ module _ (p : List ℕ) (k : ℕ) (h : k < walkAtoms) where
       let z : j ≡ startsFrom + (2 * k + i) = omega arith in
       ap (λ (x : ℕ). getD p x 0) z ∙ sym (part-at startsFrom (rootGroup + 2) p (2 * k + i) (omega arith))
 
-  pub start-fits : Bounded ss → (i j : ℕ) → i ≤ 2 → startsFrom + 2 * k + i ≡ j → getD p j 0 ≤ ruleLimit Plain
+  pub start-fits : Bounded ss → (i j : ℕ) → i ≤ 2 → startsFrom + 2 * k + i ≡ j → getD p j 0 ≤ placeLimit
   start-fits b i j l e = omega (arith, b (2 * k + i), start-at i j l e)
+
+  pub start-even : Paired ss → (i j : ℕ) → i ≤ 2 → startsFrom + 2 * k + i ≡ j → getD p j 0 % 2 ≡ 0
+  start-even b i j l e = ap (λ (x : ℕ). x % 2) (start-at i j l e) ∙ b (2 * k + i)
 
   pub group-in : (s : ℕ) {r : Bool} (v : Bool) → v ≡ true → r ≡ brokenFrom (careIn p) (wantIn p) s (getD p (startsFrom + 2 * k + 1) 0) (getD p (startsFrom + 2 * k + 2) 0) → r ≡ brokenIn (careIn p) (wantIn p) ss (groupAt k v) s
   unfolding brokenIn

@@ -4,9 +4,8 @@ use mathlib.Core.Path.{_≡_, refl, sym, ap, _∙_, subst}
 use mathlib.Core.List.{List, [], _∷_}
 use native.Mathlib.Omega.{arith}
 use lib.ListN.{length, set, length-set}
-use Rattle.kinds.specs.Limits.{budgetLimit, classLimit, ruleLimit}
-use Rattle.kinds.specs.declared.limits.Kind.the-variants.{Plain}
-use Rattle.groups.specs.Groups.{rootGroup, Bounded}
+use Rattle.kinds.specs.Limits.{budgetLimit, classLimit}
+use Rattle.groups.specs.Groups.{rootGroup, placeLimit, Bounded, Paired}
 use Rattle.groups.specs.Plans.{classesFrom, startsFrom, careFrom, wantFrom, outsIn, insIn, ofIn, budgetIn, classesIn, startsIn, careIn, wantIn, SameTables, HasTables}
 use Rattle.groups.proofs.PlanParts.{tables-part}
 use Rattle.descent.specs.Descent.{Asked, descend, Told}
@@ -39,15 +38,15 @@ module _ (outs ins of b : ℕ) where
     starts-stay = tables-part startsFrom (rootGroup + 2) q p (omega arith) (terms .1)
 
     pub tables-stay : HasTables q × SameTables q p
-    tables-stay = (record { words = same-length ∙ has .words; bounded = subst Bounded (sym starts-stay) (has .bounded) }, terms .1)
+    tables-stay = (record { words = same-length ∙ has .words; bounded = subst Bounded (sym starts-stay) (has .bounded); paired = subst Paired (sym starts-stay) (has .paired) }, terms .1)
 
     pub searchable : b ≤ budgetLimit + 1 → Searchable q
     searchable small = record { tables = tables-stay .0; budget-small = subst (λ (x : ℕ). x ≤ budgetLimit + 1) (sym (terms .0 .budget-is)) small }
 
     asked : planned q ≡ betterSet (careIn p) (wantIn p) (startsIn p) (classesIn p) outs ins of
     asked j = betterSet
-        (tables-part careFrom (ruleLimit Plain) q p (omega arith) (terms .1) j)
-        (tables-part wantFrom (ruleLimit Plain) q p (omega arith) (terms .1) j)
+        (tables-part careFrom placeLimit q p (omega arith) (terms .1) j)
+        (tables-part wantFrom placeLimit q p (omega arith) (terms .1) j)
         (starts-stay j)
         (tables-part classesFrom classLimit q p (omega arith) (terms .1) j)
         (terms .0 .outs-are j) (terms .0 .ins-are j) (terms .0 .of-is j)

@@ -2,11 +2,10 @@
 use groups::plan::Plan;
 use kinds::limits::Preference;
 ghost use mathlib.Core.Path.{_≡_};
-ghost use Prim.Native.Nat.{_+_, _<_, _≤_, _^_};
+ghost use Prim.Native.Nat.{_+_, _%_, _<_, _≤_, _^_};
 ghost use lib.ListN.{length};
-ghost use Rattle.kinds.specs.Limits.{walkAtoms, ruleLimit};
-ghost use Rattle.kinds.specs.declared.limits.Kind.the-variants.{Plain as KindPlain};
-ghost use Rattle.groups.specs.Groups.{groupAt, brokenAt, brokenFrom, brokenIn, Bounded};
+ghost use Rattle.kinds.specs.Limits.{walkAtoms};
+ghost use Rattle.groups.specs.Groups.{groupAt, brokenAt, brokenFrom, brokenIn, placeLimit, Bounded, Paired};
 ghost use Rattle.groups.specs.Plans.{planWords, outsIn, insIn, ofIn, budgetIn, classesIn, startsIn, careIn, wantIn};
 ghost use Rattle.rules.specs.Sets.{has};
 ghost use Rattle.masks.specs.Masks.{sparesM};
@@ -22,26 +21,24 @@ impl Told {
 
 // Whether rule i is broken at `set`.
 fn is_broken(plan: &[u64; Plan::WORDS], i: usize, set: u64) -> bool
-    requires { ⌜ i < ruleLimit KindPlain ⌝ }
+    requires { ⌜ i < placeLimit ⌝ }
     ensures { λ r. ⌜ r ≡ brokenAt (careIn (now (plan .entry))) (wantIn (now (plan .entry))) set i ⌝ }
 {
     set & plan[Plan::CARE + i] == plan[Plan::WANT + i]
 }
 
-// Whether some rule from number `from` on and below `to` is broken at `set`: two at a time, since a test costs less than a branch.
+// Whether some rule from place `from` on and below `to` is broken at `set`: two at a time, since a test costs less than a branch.
 pub fn breaks(plan: &[u64; Plan::WORDS], from: usize, to: usize, set: u64) -> bool
-    requires { ⌜ (from ≤ ruleLimit KindPlain) × (to ≤ ruleLimit KindPlain) ⌝ }
+    requires { ⌜ to ≤ placeLimit ⌝ }
+    requires { ⌜ (from % 2 ≡ 0) × (to % 2 ≡ 0) ⌝ }
     ensures { λ r. ⌜ r ≡ brokenFrom (careIn (now (plan .entry))) (wantIn (now (plan .entry))) set from to ⌝ }
 {
     let mut i = from;
-    while i + 1 < to {
+    while i < to {
         if is_broken(plan, i, set) | is_broken(plan, i + 1, set) {
             return true;
         }
         i += 2;
-    }
-    if i < to {
-        return is_broken(plan, i, set);
     }
     false
 }
@@ -92,6 +89,7 @@ fn may_be(plan: &[u64; Plan::WORDS], rest: usize, value: bool) -> bool
 // Whether a choice with `rest` atoms left is closed, where the one above is not: its last atom has just been given the value.
 pub fn closes(plan: &[u64; Plan::WORDS], rest: usize, value: bool, set: u64) -> bool
     requires { ⌜ Bounded (startsIn (now plan)) ⌝ }
+    requires { ⌜ Paired (startsIn (now plan)) ⌝ }
     requires { ⌜ rest < walkAtoms ⌝ }
     ensures { λ r. ⌜ r ≡ brokenIn (careIn (now (plan .entry))) (wantIn (now (plan .entry))) (startsIn (now (plan .entry))) (groupAt rest value) set ⌝ }
 {

@@ -3,9 +3,8 @@ use Prim.Native.Nat.{ℕ, _+_}
 use mathlib.Core.Path.{_≡_}
 use mathlib.Core.List.{List}
 use lib.ListN.{length, getD, take, drop}
-use Rattle.kinds.specs.Limits.{classLimit, ruleLimit}
-use Rattle.kinds.specs.declared.limits.Kind.the-variants.{Plain}
-use Rattle.groups.specs.Groups.{rootGroup, Bounded, GroupsOf}
+use Rattle.kinds.specs.Limits.{classLimit}
+use Rattle.groups.specs.Groups.{rootGroup, placeLimit, Bounded, Paired, GroupsOf}
 
 -- the n words from number a on
 unfoldable pub part : ℕ → ℕ → List ℕ → List ℕ
@@ -21,10 +20,10 @@ abbrev pub careFrom : ℕ
 careFrom = startsFrom + (rootGroup + 2)
 
 abbrev pub wantFrom : ℕ
-wantFrom = careFrom + ruleLimit Plain
+wantFrom = careFrom + placeLimit
 
 abbrev pub planWords : ℕ
-planWords = wantFrom + ruleLimit Plain
+planWords = wantFrom + placeLimit
 
 -- the terms
 
@@ -49,19 +48,20 @@ abbrev pub startsIn : List ℕ → List ℕ
 startsIn p = part startsFrom (rootGroup + 2) p
 
 abbrev pub careIn : List ℕ → List ℕ
-careIn p = part careFrom (ruleLimit Plain) p
+careIn p = part careFrom placeLimit p
 
 abbrev pub wantIn : List ℕ → List ℕ
-wantIn p = part wantFrom (ruleLimit Plain) p
+wantIn p = part wantFrom placeLimit p
 
 -- two plans with the same tables
 abbrev pub SameTables : List ℕ → List ℕ → Type 0
 SameTables p q = drop classesFrom p ≡ drop classesFrom q
 
--- a plan of which the groups end within the rules
+-- a plan of which the groups end within the places
 pub record HasTables (p : List ℕ) : Type 0 where
   pub words : length p ≡ planWords
   pub bounded : Bounded (startsIn p)
+  pub paired : Paired (startsIn p)
 
 -- the plan's tables are these classes, and these rules' masks in groups
 pub record TablesOf (cs ws classes p : List ℕ) : Type 0 where

@@ -1,6 +1,5 @@
 // All that a search goes by, in one array: one reference is handed down, and every word lies at a fixed distance from it.
 use crate::grouping::Group;
-use kinds::limits::Plain;
 use kinds::limits::Preference;
 
 pub struct Plan;
@@ -22,7 +21,7 @@ impl Plan {
 
     pub const CARE: usize = Plan::STARTS + Group::STARTS;
 
-    pub const WANT: usize = Plan::CARE + Plain::RULES;
+    pub const WANT: usize = Plan::CARE + Group::PLACES;
 
-    pub const WORDS: usize = Plan::WANT + Plain::RULES;
+    pub const WORDS: usize = Plan::WANT + Group::PLACES;
 }

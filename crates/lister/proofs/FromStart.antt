@@ -8,8 +8,7 @@ use native.Mathlib.Decide.{decLe}
 use lib.Dec.{leb, ltb}
 use lib.ListN.{getD}
 use borrow.Author.Tests.{lt-ltb, le-ltb, le-leb, lt-leb}
-use Rattle.kinds.specs.Limits.{walkAtoms, budgetLimit, classLimit, ruleLimit}
-use Rattle.kinds.specs.declared.limits.Kind.the-variants.{Plain}
+use Rattle.kinds.specs.Limits.{walkAtoms, budgetLimit, classLimit}
 use Rattle.kinds.specs.declared.refusals.Refusal.{Refusal}
 use Rattle.walks.specs.Walk.{capped, cappedNext}
 use Rattle.walks.specs.declared.answers.Verdict.{Verdict}
@@ -18,7 +17,7 @@ use Rattle.walks.specs.declared.answers.NextState.{NextState}
 use Rattle.walks.specs.declared.answers.NextState.the-variants.{State, Nothing as NoState, Spent as NextSpent, Refused as NextRefused}
 use Rattle.walks.proofs.Searches.{Answered, Walked, walked-answered, unitsOf as verdictUnits, capped-same, capped-spent, never-refused}
 use Rattle.masks.proofs.MaskLoops.{shifted}
-use Rattle.groups.specs.Groups.{rootGroup, brokenFrom, brokenIn}
+use Rattle.groups.specs.Groups.{rootGroup, brokenFrom, brokenIn, placeLimit}
 use Rattle.groups.specs.Plans.{classesFrom, startsFrom, careFrom, wantFrom, classesIn, startsIn, careIn, wantIn, SameTables, HasTables}
 use Rattle.groups.proofs.PlanParts.{part-at, tables-part}
 use Rattle.descent.specs.Descent.{Outcome, Found, Nothing, unitsOf, Asked, visit, descend, foundMark, Told, spent}
@@ -104,8 +103,8 @@ module _ (v : Verdict) (walked : Walked v) {u b : ℕ} (l : u ≤ b) (small : b 
 module _ (p q : List ℕ) (e : SameTables q p) where
   same-listed : (fixed n start : ℕ) → listed q fixed n start ≡ listed p fixed n start
   same-listed fixed n start j = fromStart
-      (tables-part careFrom (ruleLimit Plain) q p (omega arith) e j)
-      (tables-part wantFrom (ruleLimit Plain) q p (omega arith) e j)
+      (tables-part careFrom placeLimit q p (omega arith) e j)
+      (tables-part wantFrom placeLimit q p (omega arith) e j)
       (tables-part startsFrom (rootGroup + 2) q p (omega arith) e j)
       (tables-part classesFrom classLimit q p (omega arith) e j)
       fixed n start
@@ -115,8 +114,8 @@ module _ (p q : List ℕ) (e : SameTables q p) where
 
   pub next-same : (fixed n start b : ℕ) → nextM (careIn q) (wantIn q) (startsIn q) (classesIn q) fixed n start b ≡ nextM (careIn p) (wantIn p) (startsIn p) (classesIn p) fixed n start b
   next-same fixed n start b j = nextM
-      (tables-part careFrom (ruleLimit Plain) q p (omega arith) e j)
-      (tables-part wantFrom (ruleLimit Plain) q p (omega arith) e j)
+      (tables-part careFrom placeLimit q p (omega arith) e j)
+      (tables-part wantFrom placeLimit q p (omega arith) e j)
       (tables-part startsFrom (rootGroup + 2) q p (omega arith) e j)
       (tables-part classesFrom classLimit q p (omega arith) e j)
       fixed n start b
@@ -126,8 +125,11 @@ module _ (p : List ℕ) where
   root-at : (i : ℕ) → i ≤ 1 → getD p (startsFrom + rootGroup + i) 0 ≡ getD (startsIn p) (rootGroup + i) 0
   root-at i h = let z : startsFrom + rootGroup + i ≡ startsFrom + (rootGroup + i) = omega arith in ap (λ (j : ℕ). getD p j 0) z ∙ sym (part-at startsFrom (rootGroup + 2) p (rootGroup + i) (omega arith))
 
-  pub root-fits : HasTables p → (i : ℕ) → i ≤ 1 → getD p (startsFrom + rootGroup + i) 0 ≤ ruleLimit Plain
+  pub root-fits : HasTables p → (i : ℕ) → i ≤ 1 → getD p (startsFrom + rootGroup + i) 0 ≤ placeLimit
   root-fits has i h = omega (arith, root-at i h, has .bounded (rootGroup + i))
+
+  pub root-even : HasTables p → (i : ℕ) → i ≤ 1 → getD p (startsFrom + rootGroup + i) 0 % 2 ≡ 0
+  root-even has i h = ap (λ (x : ℕ). x % 2) (root-at i h) ∙ has .paired (rootGroup + i)
 
   pub root-read : {t : Bool} → t ≡ brokenFrom (careIn p) (wantIn p) 0 (getD p (startsFrom + rootGroup) 0) (getD p (startsFrom + rootGroup + 1) 0) → t ≡ brokenFrom (careIn p) (wantIn p) 0 (getD (startsIn p) rootGroup 0) (getD (startsIn p) (rootGroup + 1) 0)
   root-read e = e ∙ ap₂ (λ (x y : ℕ). brokenFrom (careIn p) (wantIn p) 0 x y) (root-at 0 (omega arith)) (root-at 1 (omega arith))

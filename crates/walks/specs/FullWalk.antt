@@ -1,4 +1,4 @@
--- The full walk, set by set (document 01, in the order of document 02, W-206). It stays for one theorem: where neither is spent, its verdict, better set and next state are those of the walk that stops at a broken rule (document 02, W-207).
+-- The full walk, set by set (document 01, in the order of document 02, W-206). It stays for a theorem: where neither is spent, its verdict, better set and next state are those of the walk that stops at a broken rule (document 02, W-207). What the answers mean is proved from it too.
 use Prim.Native.Nat.{ℕ, _^_, _<_}
 use mathlib.Core.Path.{_≡_}
 use mathlib.Core.Bool.{Bool, true, not, _&&_}

@@ -119,7 +119,7 @@ visit-closes-requires : (t : ℕ) → visit-lts.Need-closes-requires (
   descend-below t,
   descend.Post,
 ) (visit-at t) visit.Post
-visit-closes-requires t c κs = (c .before .before .pre .1 .0 .tables .bounded, c .before .before .pre .1 .1 .0)
+visit-closes-requires t c κs = (c .before .before .pre .1 .0 .tables .bounded, (c .before .before .pre .1 .0 .tables .paired, c .before .before .pre .1 .1 .0))
 
 visit-returns-2 : (t : ℕ) → visit-lts.Need-returns-2 (
   may-be-reads.Asked,

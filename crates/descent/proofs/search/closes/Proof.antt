@@ -1,6 +1,6 @@
 use mathlib.Core.Path.{refl}
 use native.Mathlib.Omega.{arith}
-use Rattle.descent.proofs.Loops.{start-fits, group-in, group-out}
+use Rattle.descent.proofs.Loops.{start-fits, start-even, group-in, group-out}
 use borrow.Author.Needs.{needs}
 use Rattle.descent.proofs.search.closes.Statement.{statement}
 use Rattle.descent.proofs.search.closes.Tie as tie
@@ -30,10 +30,10 @@ element-copy-out-breaks : tie.Need-element-copy-out-breaks
 element-copy-out-breaks c = search needs
 
 breaks-requires : tie.Need-breaks-requires
-breaks-requires c κs = (start-fits (c .before .before .before .args .plan .now) (c .before .before .before .args .rest) (c .before .before .before .pre .1) (c .before .before .before .pre .0) 1 _ (omega arith) refl, start-fits (c .before .before .before .args .plan .now) (c .before .before .before .args .rest) (c .before .before .before .pre .1) (c .before .before .before .pre .0) 2 _ (omega arith) refl)
+breaks-requires c κs = (start-fits (c .before .before .before .args .plan .now) (c .before .before .before .args .rest) (c .before .before .before .pre .1 .1) (c .before .before .before .pre .0) 2 _ (omega arith) refl, (start-even (c .before .before .before .args .plan .now) (c .before .before .before .args .rest) (c .before .before .before .pre .1 .1) (c .before .before .before .pre .1 .0) 1 _ (omega arith) refl, start-even (c .before .before .before .args .plan .now) (c .before .before .before .args .rest) (c .before .before .before .pre .1 .1) (c .before .before .before .pre .1 .0) 2 _ (omega arith) refl))
 
 returns : tie.Need-returns
-returns c = group-in (c .before .before .before .before .args .plan .now) (c .before .before .before .before .args .rest) (c .before .before .before .before .pre .1) _ _ (c .before .before .if1 .taken) (c .breaks .ensures)
+returns c = group-in (c .before .before .before .before .args .plan .now) (c .before .before .before .before .args .rest) (c .before .before .before .before .pre .1 .1) _ _ (c .before .before .if1 .taken) (c .breaks .ensures)
 
 mul-breaks-2 : tie.Need-mul-breaks-2
 mul-breaks-2 c = search needs
@@ -42,10 +42,10 @@ element-copy-out-breaks-2 : tie.Need-element-copy-out-breaks-2
 element-copy-out-breaks-2 c = search needs
 
 breaks-requires-2 : tie.Need-breaks-requires-2
-breaks-requires-2 c κs = (start-fits (c .before .before .before .args .plan .now) (c .before .before .before .args .rest) (c .before .before .before .pre .1) (c .before .before .before .pre .0) 0 _ (omega arith) (omega arith), start-fits (c .before .before .before .args .plan .now) (c .before .before .before .args .rest) (c .before .before .before .pre .1) (c .before .before .before .pre .0) 1 _ (omega arith) refl)
+breaks-requires-2 c κs = (start-fits (c .before .before .before .args .plan .now) (c .before .before .before .args .rest) (c .before .before .before .pre .1 .1) (c .before .before .before .pre .0) 1 _ (omega arith) refl, (start-even (c .before .before .before .args .plan .now) (c .before .before .before .args .rest) (c .before .before .before .pre .1 .1) (c .before .before .before .pre .1 .0) 0 _ (omega arith) (omega arith), start-even (c .before .before .before .args .plan .now) (c .before .before .before .args .rest) (c .before .before .before .pre .1 .1) (c .before .before .before .pre .1 .0) 1 _ (omega arith) refl))
 
 returns-2 : tie.Need-returns-2
-returns-2 c = group-out (c .before .before .before .before .args .plan .now) (c .before .before .before .before .args .rest) (c .before .before .before .before .pre .1) _ _ (c .before .before .if1 .left) (c .breaks2 .ensures)
+returns-2 c = group-out (c .before .before .before .before .args .plan .now) (c .before .before .before .before .args .rest) (c .before .before .before .before .pre .1 .1) _ _ (c .before .before .if1 .left) (c .breaks2 .ensures)
 
 pub closes-spec : {M : Type 1} → statement M
 closes-spec =

@@ -113,7 +113,7 @@ visit-closes-requires : (t : ℕ) → visit-lts.Need-closes-requires (
   descend-below t,
   descend.Post,
 ) (visit-at t) visit.Post
-visit-closes-requires t c κs = (c .before .before .before .pre .1 .0 .bounded, c .before .before .before .pre .1 .1 .1 .1 .0)
+visit-closes-requires t c κs = (c .before .before .before .pre .1 .0 .bounded, (c .before .before .before .pre .1 .0 .paired, c .before .before .before .pre .1 .1 .1 .1 .0))
 
 visit-returns-2 : (t : ℕ) → visit-lts.Need-returns-2 (
   is-before-reads.Asked,

@@ -2,7 +2,7 @@ use mathlib.Core.Path.{refl}
 use native.Mathlib.Omega.{arith}
 use Rattle.descent.proofs.Told.{final-told}
 use Rattle.descent.proofs.Loops.{room-whole}
-use Rattle.lister.proofs.FromStart.{ends-rise, root-fits, root-read, all-before, empty-closed, empty-open}
+use Rattle.lister.proofs.FromStart.{ends-rise, root-fits, root-even, root-read, all-before, empty-closed, empty-open}
 use borrow.Author.Needs.{needs}
 use Rattle.lister.proofs.candidates.search_from.Statement.{statement}
 use Rattle.lister.proofs.candidates.search_from.Tie as tie
@@ -35,7 +35,7 @@ element-copy-out-to : tie.Need-element-copy-out-to
 element-copy-out-to c = search needs
 
 breaks-requires : tie.Need-breaks-requires
-breaks-requires c κs = (root-fits _ (c .before .before .before .before .pre .0) 0 (omega arith), root-fits _ (c .before .before .before .before .pre .0) 1 (omega arith))
+breaks-requires c κs = (root-fits _ (c .before .before .before .before .pre .0) 1 (omega arith), (root-even _ (c .before .before .before .before .pre .0) 0 (omega arith), root-even _ (c .before .before .before .before .pre .0) 1 (omega arith)))
 
 returns-2 : tie.Need-returns-2
 returns-2 c = (empty-closed _ _ _ _ _ _ _ _ _ (c .before .before .before .before .before .before .pre .1 .1) (omega (arith, c .before .before .before .before .before .if1 .left)) (root-read _ (c .before .breaks .ensures)) (c .if2 .taken), (c .before .before .before .before .before .before .pre .0, refl))
