@@ -1,6 +1,7 @@
 -- The laws of the descent.
 pub mod Told
 pub mod Terms
+pub mod SameSearches
 pub mod Loops
 pub mod VerdictsTold
 pub mod Decided

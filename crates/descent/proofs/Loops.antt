@@ -118,8 +118,8 @@ bit-told x k h = ap (λ (b : ℕ). not (eqb (bitAnd x b) 0)) (shifted k (omega a
     twice false = refl
 
 module _ (outs ins k : ℕ) (h : k < 60) where
-  pub may-in : (v : Bool) → v ≡ true → not (eqb (bitAnd ins ((1 * 2 ^ k) % 2 ^ 64)) 0) ≡ has (mayBe outs ins v) k
-  may-in v e = bit-told ins k h ∙ ap (λ (b : Bool). has (mayBe outs ins b) k) (sym e)
+  pub may-in : {one : ℕ} → one ≡ 1 → (v : Bool) → v ≡ true → not (eqb (bitAnd ins ((one * 2 ^ k) % 2 ^ 64)) 0) ≡ has (mayBe outs ins v) k
+  may-in o v e = ap (λ (x : ℕ). not (eqb (bitAnd ins ((x * 2 ^ k) % 2 ^ 64)) 0)) o ∙ bit-told ins k h ∙ ap (λ (b : Bool). has (mayBe outs ins b) k) (sym e)
 
   pub may-out : (v : Bool) → v ≡ false → not (eqb (bitAnd outs ((1 * 2 ^ k) % 2 ^ 64)) 0) ≡ has (mayBe outs ins v) k
   may-out v e = bit-told outs k h ∙ ap (λ (b : Bool). has (mayBe outs ins b) k) (sym e)
@@ -142,14 +142,14 @@ module _ (left s : ℕ) (some-left : 0 < left) (few : left ≤ 60) (room : s + 2
   halves : 2 ^ left ≡ 2 ^ (left - 1) + 2 ^ (left - 1)
   halves = ap (λ (k : ℕ). 2 ^ k) one-less ∙ pow-suc 2 (left - 1) ∙ (omega arith)
 
-  pub bit-is : (1 * 2 ^ (left - 1)) % 2 ^ 64 ≡ 2 ^ (left - 1)
-  bit-is = shifted (left - 1) (omega arith)
+  pub bit-is : {one : ℕ} → one ≡ 1 → (one * 2 ^ (left - 1)) % 2 ^ 64 ≡ 2 ^ (left - 1)
+  bit-is o = ap (λ (x : ℕ). (x * 2 ^ (left - 1)) % 2 ^ 64) o ∙ shifted (left - 1) (omega arith)
 
   pub room-out : s + 2 ^ (left - 1) ≤ 2 ^ 60
   room-out = omega (arith, halves)
 
-  pub room-in : s + (1 * 2 ^ (left - 1)) % 2 ^ 64 + 2 ^ (left - 1) ≤ 2 ^ 60
-  room-in = omega (arith, halves, bit-is)
+  pub room-in : {one : ℕ} → one ≡ 1 → s + (one * 2 ^ (left - 1)) % 2 ^ 64 + 2 ^ (left - 1) ≤ 2 ^ 60
+  room-in o = omega (arith, halves, bit-is o)
 
 pub room-whole : (n : ℕ) → n ≤ 60 → 0 + 2 ^ n ≤ 2 ^ 60
 room-whole n h = omega (arith, pow-mono {i = n} {j = 60} h)

@@ -5,9 +5,9 @@ use mathlib.Core.List.{List, [], _∷_}
 use native.Mathlib.Omega.{arith}
 use lib.ListN.{length, set, length-set}
 use Rattle.kinds.specs.Limits.{budgetLimit, classLimit}
-use Rattle.groups.specs.Groups.{rootGroup, placeLimit, Bounded, Paired}
-use Rattle.groups.specs.Plans.{classesFrom, startsFrom, careFrom, wantFrom, outsIn, insIn, ofIn, budgetIn, classesIn, startsIn, careIn, wantIn, SameTables, HasTables}
-use Rattle.groups.proofs.PlanParts.{tables-part}
+use Rattle.groups.specs.Groups.{rootGroup, placeLimit}
+use Rattle.groups.specs.Plans.{classesFrom, startsFrom, careFrom, wantFrom, outsIn, insIn, ofIn, budgetIn, oneIn, classesIn, startsIn, careIn, wantIn, SameTables, HasTables}
+use Rattle.groups.proofs.PlanParts.{tables-part, has-tables}
 use Rattle.descent.specs.Descent.{Asked, descend, Told}
 use Rattle.descent.specs.Search.{betterSet, planned, Searchable, withTerms}
 
@@ -17,14 +17,17 @@ module _ (outs ins of b : ℕ) where
     pub ins-are : insIn q ≡ ins
     pub of-is : ofIn q ≡ of
     pub budget-is : budgetIn q ≡ b
+    pub one-is : oneIn q ≡ 1
 
-  terms-set : (p : List ℕ) → classesFrom ≤ length p → Terms (withTerms outs ins of b p) × SameTables (withTerms outs ins of b p) p
+  terms-set : (p : List ℕ) → startsFrom ≤ length p → Terms (withTerms outs ins of b p) × SameTables (withTerms outs ins of b p) p
   unfolding withTerms
   terms-set [] h = absurd (omega arith)
   terms-set (x ∷ []) h = absurd (omega arith)
   terms-set (x ∷ y ∷ []) h = absurd (omega arith)
   terms-set (x ∷ y ∷ z ∷ []) h = absurd (omega arith)
-  terms-set (x ∷ y ∷ z ∷ w ∷ p) h = (record { outs-are = refl; ins-are = refl; of-is = refl; budget-is = refl }, refl)
+  terms-set (x ∷ y ∷ z ∷ w ∷ []) h = absurd (omega arith)
+  terms-set (x ∷ y ∷ z ∷ w ∷ v ∷ []) h = absurd (omega arith)
+  terms-set (x ∷ y ∷ z ∷ w ∷ v ∷ u ∷ p) h = (record { outs-are = refl; ins-are = refl; of-is = refl; budget-is = refl; one-is = refl }, refl)
 
   module _ (p q : List ℕ) (e : q ≡ withTerms outs ins of b p) (has : HasTables p) where
     terms : Terms q × SameTables q p
@@ -32,22 +35,19 @@ module _ (outs ins of b : ℕ) where
 
     same-length : length q ≡ length p
     unfolding withTerms
-    same-length = ap length e ∙ length-set (set (set (set p 0 outs) 1 ins) 2 of) 3 b ∙ length-set (set (set p 0 outs) 1 ins) 2 of ∙ length-set (set p 0 outs) 1 ins ∙ length-set p 0 outs
-
-    starts-stay : startsIn q ≡ startsIn p
-    starts-stay = tables-part startsFrom (rootGroup + 2) q p (omega arith) (terms .1)
+    same-length = ap length e ∙ length-set (set (set (set (set p 1 outs) 2 ins) 3 of) 4 b) 5 1 ∙ length-set (set (set (set p 1 outs) 2 ins) 3 of) 4 b ∙ length-set (set (set p 1 outs) 2 ins) 3 of ∙ length-set (set p 1 outs) 2 ins ∙ length-set p 1 outs
 
     pub tables-stay : HasTables q × SameTables q p
-    tables-stay = (record { words = same-length ∙ has .words; bounded = subst Bounded (sym starts-stay) (has .bounded); paired = subst Paired (sym starts-stay) (has .paired) }, terms .1)
+    tables-stay = (has-tables p q same-length (terms .1) has, terms .1)
 
     pub searchable : b ≤ budgetLimit + 1 → Searchable q
-    searchable small = record { tables = tables-stay .0; budget-small = subst (λ (x : ℕ). x ≤ budgetLimit + 1) (sym (terms .0 .budget-is)) small }
+    searchable small = record { tables = tables-stay .0; budget-small = subst (λ (x : ℕ). x ≤ budgetLimit + 1) (sym (terms .0 .budget-is)) small; one-is = terms .0 .one-is }
 
     asked : planned q ≡ betterSet (careIn p) (wantIn p) (startsIn p) (classesIn p) outs ins of
     asked j = betterSet
         (tables-part careFrom placeLimit q p (omega arith) (terms .1) j)
         (tables-part wantFrom placeLimit q p (omega arith) (terms .1) j)
-        (starts-stay j)
+        (tables-part startsFrom (rootGroup + 2) q p (omega arith) (terms .1) j)
         (tables-part classesFrom classLimit q p (omega arith) (terms .1) j)
         (terms .0 .outs-are j) (terms .0 .ins-are j) (terms .0 .of-is j)
 

@@ -1,12 +1,13 @@
 -- What the search for a better set asks, by masks: the rules in groups by their last atom, the classes, and the values that an atom may have.
 use Prim.Native.Nat.{ℕ, _+_, _≤_}
+use mathlib.Core.Path.{_≡_}
 use mathlib.Core.Bool.{Bool, cond}
 use mathlib.Core.List.{List}
 use lib.ListN.{set}
 use Rattle.kinds.specs.Limits.{budgetLimit}
 use Rattle.rules.specs.Sets.{has}
 use Rattle.groups.specs.Groups.{groupAt, brokenIn}
-use Rattle.groups.specs.Plans.{HasTables, outsIn, insIn, ofIn, budgetIn, classesIn, startsIn, careIn, wantIn}
+use Rattle.groups.specs.Plans.{HasTables, outsIn, insIn, ofIn, budgetIn, oneIn, classesIn, startsIn, careIn, wantIn}
 use Rattle.masks.specs.Masks.{sparesM}
 use Rattle.descent.specs.Descent.{Outcome, Found, Nothing, Asked}
 
@@ -33,7 +34,8 @@ planned p = betterSet (careIn p) (wantIn p) (startsIn p) (classesIn p) (outsIn p
 pub record Searchable (p : List ℕ) : Type 0 where
   pub tables : HasTables p
   pub budget-small : budgetIn p ≤ budgetLimit + 1
+  pub one-is : oneIn p ≡ 1
 
 -- a plan with other terms
 unfoldable pub withTerms : ℕ → ℕ → ℕ → ℕ → List ℕ → List ℕ
-withTerms outs ins of budget p = set (set (set (set p 0 outs) 1 ins) 2 of) 3 budget
+withTerms outs ins of budget p = set (set (set (set (set p 1 outs) 2 ins) 3 of) 4 budget) 5 1

@@ -6,7 +6,7 @@ ghost use Prim.Native.Nat.{_+_, _%_, _<_, _≤_, _^_};
 ghost use lib.ListN.{length};
 ghost use Rattle.kinds.specs.Limits.{walkAtoms};
 ghost use Rattle.groups.specs.Groups.{groupAt, brokenAt, brokenFrom, brokenIn, placeLimit, Bounded, Paired};
-ghost use Rattle.groups.specs.Plans.{planWords, outsIn, insIn, ofIn, budgetIn, classesIn, startsIn, careIn, wantIn};
+ghost use Rattle.groups.specs.Plans.{planWords, foundIn, outsIn, insIn, ofIn, budgetIn, oneIn, classesIn, startsIn, careIn, wantIn, SameSearch};
 ghost use Rattle.rules.specs.Sets.{has};
 ghost use Rattle.masks.specs.Masks.{sparesM};
 ghost use Rattle.descent.specs.Descent.{visit as visitBy, descend as descendBy, Told as ToldBy};
@@ -62,13 +62,14 @@ fn spares(plan: &[u64; Plan::WORDS], set: u64) -> bool
 }
 
 // An open final choice, its unit counted.
-fn test_set(plan: &[u64; Plan::WORDS], set: u64, units: u64, found: &mut u64) -> u64
+fn test_set(plan: &mut [u64; Plan::WORDS], set: u64, units: u64) -> u64
     requires { ⌜ Searchable (now plan) ⌝ }
     requires { ⌜ units ≤ budgetIn (now plan) + walkAtoms + 1 ⌝ }
-    ensures { λ r. ⌜ ToldBy (budgetIn (now (plan .entry))) (better (classesIn (now (plan .entry))) (ofIn (now (plan .entry))) set units) (now (found .entry)) r (now (found .exit)) ⌝ }
+    ensures { λ r. ⌜ ToldBy (budgetIn (now (plan .entry))) (better (classesIn (now (plan .entry))) (ofIn (now (plan .entry))) set units) (foundIn (now (plan .entry))) r (foundIn (now (plan .exit))) ⌝ }
+    ensures { λ _. ⌜ SameSearch (now (plan .exit)) (now (plan .entry)) ⌝ }
 {
     if spares(plan, set) {
-        *found = set;
+        plan[Plan::FOUND] = set;
         return Told::FOUND + units;
     }
     units
@@ -76,14 +77,14 @@ fn test_set(plan: &[u64; Plan::WORDS], set: u64, units: u64, found: &mut u64) ->
 
 // Whether the atom with `rest` atoms after it may have the value.
 fn may_be(plan: &[u64; Plan::WORDS], rest: usize, value: bool) -> bool
+    requires { ⌜ oneIn (now plan) ≡ 1 ⌝ }
     requires { ⌜ rest < walkAtoms ⌝ }
     ensures { λ r. ⌜ r ≡ has (mayBe (outsIn (now (plan .entry))) (insIn (now (plan .entry))) value) rest ⌝ }
 {
-    let bit = 1u64 << rest;
     if value {
-        return plan[Plan::INS] & bit != 0;
+        return plan[Plan::INS] & (plan[Plan::ONE] << rest) != 0;
     }
-    plan[Plan::OUTS] & bit != 0
+    plan[Plan::OUTS] & (1u64 << rest) != 0
 }
 
 // Whether a choice with `rest` atoms left is closed, where the one above is not: its last atom has just been given the value.
@@ -102,19 +103,13 @@ pub fn closes(plan: &[u64; Plan::WORDS], rest: usize, value: bool, set: u64) -> 
 }
 
 // A choice with `rest` atoms left, whose last atom has just been given the value, and what lies below it.
-fn visit(
-    plan: &[u64; Plan::WORDS],
-    rest: usize,
-    value: bool,
-    set: u64,
-    units: u64,
-    found: &mut u64,
-) -> u64
+fn visit(plan: &mut [u64; Plan::WORDS], rest: usize, value: bool, set: u64, units: u64) -> u64
     requires { ⌜ Searchable (now plan) ⌝ }
     requires { ⌜ rest < walkAtoms ⌝ }
     requires { ⌜ set + 2 ^ rest ≤ 2 ^ walkAtoms ⌝ }
     requires { ⌜ units + rest ≤ budgetIn (now plan) + walkAtoms ⌝ }
-    ensures { λ r. ⌜ ToldBy (budgetIn (now (plan .entry))) (visitBy (planned (now (plan .entry))) rest value (λ s u. descendBy (planned (now (plan .entry))) rest s u) set units) (now (found .entry)) r (now (found .exit)) ⌝ }
+    ensures { λ r. ⌜ ToldBy (budgetIn (now (plan .entry))) (visitBy (planned (now (plan .entry))) rest value (λ s u. descendBy (planned (now (plan .entry))) rest s u) set units) (foundIn (now (plan .entry))) r (foundIn (now (plan .exit))) ⌝ }
+    ensures { λ _. ⌜ SameSearch (now (plan .exit)) (now (plan .entry)) ⌝ }
 {
     if !may_be(plan, rest, value) {
         return units;
@@ -124,37 +119,39 @@ fn visit(
         return used;
     }
     if rest == 0 {
-        return test_set(plan, set, used, found);
+        return test_set(plan, set, used);
     }
-    descend(plan, rest, set, used, found)
+    descend(plan, rest, set, used)
 }
 
 // What lies below an open choice with `left` atoms to be decided, its unit counted: the next atom is out, then in.
 // The budget is looked at where a choice is left, so a search counts on past it for as long as one way down.
-fn descend(plan: &[u64; Plan::WORDS], left: usize, set: u64, units: u64, found: &mut u64) -> u64
+fn descend(plan: &mut [u64; Plan::WORDS], left: usize, set: u64, units: u64) -> u64
     requires { ⌜ Searchable (now plan) ⌝ }
     requires { ⌜ (0 < left) × (left ≤ walkAtoms) ⌝ }
     requires { ⌜ set + 2 ^ left ≤ 2 ^ walkAtoms ⌝ }
     requires { ⌜ units + left ≤ budgetIn (now plan) + walkAtoms + 1 ⌝ }
-    ensures { λ r. ⌜ ToldBy (budgetIn (now (plan .entry))) (descendBy (planned (now (plan .entry))) left set units) (now (found .entry)) r (now (found .exit)) ⌝ }
+    ensures { λ r. ⌜ ToldBy (budgetIn (now (plan .entry))) (descendBy (planned (now (plan .entry))) left set units) (foundIn (now (plan .entry))) r (foundIn (now (plan .exit))) ⌝ }
+    ensures { λ _. ⌜ SameSearch (now (plan .exit)) (now (plan .entry)) ⌝ }
 {
     let rest = left - 1;
-    let with = set + (1u64 << rest);
-    let after = visit(plan, rest, false, set, units, found);
+    let after = visit(plan, rest, false, set, units);
     if plan[Plan::BUDGET] < after {
         return after;
     }
-    visit(plan, rest, true, with, after, found)
+    let with = set + (plan[Plan::ONE] << rest);
+    visit(plan, rest, true, with, after)
 }
 
 // The search from the empty choice, which is open.
-pub fn search(plan: &[u64; Plan::WORDS], atoms: usize, found: &mut u64) -> u64
+pub fn search(plan: &mut [u64; Plan::WORDS], atoms: usize) -> u64
     requires { ⌜ Searchable (now plan) ⌝ }
     requires { ⌜ atoms ≤ walkAtoms ⌝ }
-    ensures { λ r. ⌜ ToldBy (budgetIn (now (plan .entry))) (descendBy (planned (now (plan .entry))) atoms 0 1) (now (found .entry)) r (now (found .exit)) ⌝ }
+    ensures { λ r. ⌜ ToldBy (budgetIn (now (plan .entry))) (descendBy (planned (now (plan .entry))) atoms 0 1) (foundIn (now (plan .entry))) r (foundIn (now (plan .exit))) ⌝ }
+    ensures { λ _. ⌜ SameSearch (now (plan .exit)) (now (plan .entry)) ⌝ }
 {
     if atoms == 0 {
-        return test_set(plan, 0, 1, found);
+        return test_set(plan, 0, 1);
     }
-    descend(plan, atoms, 0, 1, found)
+    descend(plan, atoms, 0, 1)
 }

@@ -27,6 +27,7 @@ fn set_terms(plan: &mut [u64; Plan::WORDS], outs: u64, ins: u64, of: u64, budget
     plan[Plan::INS] = ins;
     plan[Plan::OF] = of;
     plan[Plan::BUDGET] = budget;
+    plan[Plan::ONE] = 1;
 }
 
 // Whether some set of so many atoms beats `of`, which is a model: fixed atoms take only its value.
@@ -46,8 +47,7 @@ pub fn preferred_search(
     let all = all_of(atoms);
     let held = fixed & of;
     set_terms(plan, all ^ held, all ^ (fixed ^ held), of, budget);
-    let mut found: u64 = 0;
-    let number = search(plan, atoms, &mut found);
+    let number = search(plan, atoms);
     if number <= budget {
         return Verdict::Yes { units: number };
     }
@@ -59,7 +59,7 @@ pub fn preferred_search(
         return Verdict::Spent { units: budget };
     }
     Verdict::Beaten {
-        set: found,
+        set: plan[Plan::FOUND],
         units: units,
     }
 }
@@ -74,8 +74,7 @@ pub fn stable_search(plan: &mut [u64; Plan::WORDS], atoms: usize, of: u64, budge
 {
     let all = all_of(atoms);
     set_terms(plan, all, of, of, budget + 1);
-    let mut found: u64 = 0;
-    let number = search(plan, atoms, &mut found);
+    let number = search(plan, atoms);
     if number <= budget + 1 {
         return Verdict::Yes { units: number - 1 };
     }
@@ -87,7 +86,7 @@ pub fn stable_search(plan: &mut [u64; Plan::WORDS], atoms: usize, of: u64, budge
         return Verdict::Spent { units: budget };
     }
     Verdict::Beaten {
-        set: found,
+        set: plan[Plan::FOUND],
         units: units,
     }
 }

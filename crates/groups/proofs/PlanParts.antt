@@ -1,12 +1,13 @@
 -- The parts of a plan, read and written.
 use Prim.Native.Nat.{ℕ, zero, suc, _+_, _-_, _≤_, _<_}
-use mathlib.Core.Path.{_≡_, refl, sym, ap, _∙_}
+use mathlib.Core.Path.{_≡_, refl, sym, ap, _∙_, subst}
 use mathlib.Core.List.{List, [], _∷_, _++_}
 use native.Mathlib.Omega.{arith}
 use lib.ListN.{length, getD, set, take, drop, length-drop, replicate, length-replicate, getD-replicate}
 use lib.Seq.{length-take-le, getD-take, getD-drop, drop-set-add, drop-set-lt, take-set-lt, take-set-le, drop-drop, take-take, take-at, drop-at, ext-getD}
 use borrow.Rule.Slice.PartMut.{postOf, putMid, take-put, drop-put}
-use Rattle.groups.specs.Plans.{part, classesFrom, SameTables}
+use Rattle.groups.specs.Groups.{rootGroup, Bounded, Paired}
+use Rattle.groups.specs.Plans.{part, startsFrom, startsIn, SameTables, HasTables}
 
 module _ (a n : ℕ) (p : List ℕ) where
   pub part-at : (i : ℕ) → i < n → getD (part a n p) i 0 ≡ getD p (a + i) 0
@@ -34,12 +35,15 @@ module _ (a n : ℕ) (p : List ℕ) where
 
 -- plans that are the same from a word on, or up to it, have the same parts there
 
-part-later : (e a n : ℕ) (p q : List ℕ) → e ≤ a → drop e p ≡ drop e q → part a n p ≡ part a n q
-unfolding part
-part-later e a n p q h same =
+pub drop-later : (e a : ℕ) (p q : List ℕ) → e ≤ a → drop e p ≡ drop e q → drop a p ≡ drop a q
+drop-later e a p q h same =
     let k : a ≡ e + (a - e) = omega arith in
     let cut : (l : List ℕ) → drop a l ≡ drop (a - e) (drop e l) = λ l. ap (λ (j : ℕ). drop j l) k ∙ sym (drop-drop (a - e) e l) in
-    ap (take n) (cut p ∙ ap (drop (a - e)) same ∙ sym (cut q))
+    cut p ∙ ap (drop (a - e)) same ∙ sym (cut q)
+
+part-later : (e a n : ℕ) (p q : List ℕ) → e ≤ a → drop e p ≡ drop e q → part a n p ≡ part a n q
+unfolding part
+part-later e a n p q h same = ap (take n) (drop-later e a p q h same)
 
 part-of-front : (e a n : ℕ) (l : List ℕ) → a + n ≤ e → take n (drop a (take e l)) ≡ take n (drop a l)
 part-of-front e zero n l h = take-take n e l (omega arith)
@@ -51,8 +55,13 @@ part-earlier : (e a n : ℕ) (p q : List ℕ) → a + n ≤ e → take e p ≡ t
 unfolding part
 part-earlier e a n p q h same = sym (part-of-front e a n p h) ∙ ap (λ (l : List ℕ). take n (drop a l)) same ∙ part-of-front e a n q h
 
-pub tables-part : (a n : ℕ) (p q : List ℕ) → classesFrom ≤ a → SameTables p q → part a n p ≡ part a n q
-tables-part a n p q h same = part-later classesFrom a n p q h same
+pub tables-part : (a n : ℕ) (p q : List ℕ) → startsFrom ≤ a → SameTables p q → part a n p ≡ part a n q
+tables-part a n p q h same = part-later startsFrom a n p q h same
+
+pub has-tables : (p q : List ℕ) → length q ≡ length p → SameTables q p → HasTables p → HasTables q
+has-tables p q long same has =
+    let starts : startsIn p ≡ startsIn q = sym (tables-part startsFrom (rootGroup + 2) q p (omega arith) same) in
+    record { words = long ∙ has .words; bounded = subst Bounded starts (has .bounded); paired = subst Paired starts (has .paired) }
 
 -- words put in the place of those from a up to e
 module _ (a e : ℕ) (p ys : List ℕ) (h : a ≤ e) (inside : e ≤ length p) (long : length ys ≡ e - a) where

@@ -1,4 +1,4 @@
--- The parts of a plan, the one array that a search goes by: four terms that each search is given anew, then the tables that stay.
+-- The parts of a plan, the one array that a search goes by: the set found, the terms that each search is given anew, then the tables that stay.
 use Prim.Native.Nat.{ℕ, _+_}
 use mathlib.Core.Path.{_≡_}
 use mathlib.Core.List.{List}
@@ -10,14 +10,14 @@ use Rattle.groups.specs.Groups.{rootGroup, placeLimit, Bounded, Paired, 
 unfoldable pub part : ℕ → ℕ → List ℕ → List ℕ
 part a n p = take n (drop a p)
 
-abbrev pub classesFrom : ℕ
-classesFrom = 4
-
 abbrev pub startsFrom : ℕ
-startsFrom = classesFrom + classLimit
+startsFrom = 6
+
+abbrev pub classesFrom : ℕ
+classesFrom = startsFrom + (rootGroup + 2)
 
 abbrev pub careFrom : ℕ
-careFrom = startsFrom + (rootGroup + 2)
+careFrom = classesFrom + classLimit
 
 abbrev pub wantFrom : ℕ
 wantFrom = careFrom + placeLimit
@@ -25,27 +25,33 @@ wantFrom = careFrom + placeLimit
 abbrev pub planWords : ℕ
 planWords = wantFrom + placeLimit
 
--- the terms
+-- the set found, and the terms
+
+abbrev pub foundIn : List ℕ → ℕ
+foundIn p = getD p 0 0
 
 abbrev pub outsIn : List ℕ → ℕ
-outsIn p = getD p 0 0
+outsIn p = getD p 1 0
 
 abbrev pub insIn : List ℕ → ℕ
-insIn p = getD p 1 0
+insIn p = getD p 2 0
 
 abbrev pub ofIn : List ℕ → ℕ
-ofIn p = getD p 2 0
+ofIn p = getD p 3 0
 
 abbrev pub budgetIn : List ℕ → ℕ
-budgetIn p = getD p 3 0
+budgetIn p = getD p 4 0
+
+abbrev pub oneIn : List ℕ → ℕ
+oneIn p = getD p 5 0
 
 -- the tables
 
-abbrev pub classesIn : List ℕ → List ℕ
-classesIn p = part classesFrom classLimit p
-
 abbrev pub startsIn : List ℕ → List ℕ
 startsIn p = part startsFrom (rootGroup + 2) p
+
+abbrev pub classesIn : List ℕ → List ℕ
+classesIn p = part classesFrom classLimit p
 
 abbrev pub careIn : List ℕ → List ℕ
 careIn p = part careFrom placeLimit p
@@ -53,9 +59,13 @@ careIn p = part careFrom placeLimit p
 abbrev pub wantIn : List ℕ → List ℕ
 wantIn p = part wantFrom placeLimit p
 
+-- two plans that differ in no more than the set found
+abbrev pub SameSearch : List ℕ → List ℕ → Type 0
+SameSearch p q = drop 1 p ≡ drop 1 q
+
 -- two plans with the same tables
 abbrev pub SameTables : List ℕ → List ℕ → Type 0
-SameTables p q = drop classesFrom p ≡ drop classesFrom q
+SameTables p q = drop startsFrom p ≡ drop startsFrom q
 
 -- a plan of which the groups end within the places
 pub record HasTables (p : List ℕ) : Type 0 where

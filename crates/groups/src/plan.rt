@@ -5,21 +5,27 @@ use kinds::limits::Preference;
 pub struct Plan;
 
 impl Plan {
+    // The better set that a search has found.
+    pub const FOUND: usize = 0;
+
     // What one search is asked: the atoms that may be out, those that may be in, the set to be bettered, the budget.
-    pub const OUTS: usize = 0;
+    pub const OUTS: usize = 1;
 
-    pub const INS: usize = 1;
+    pub const INS: usize = 2;
 
-    pub const OF: usize = 2;
+    pub const OF: usize = 3;
 
-    pub const BUDGET: usize = 3;
+    pub const BUDGET: usize = 4;
 
-    // What the program gives: the masks of its classes, where each group of its rules begins, and the rules' masks.
-    pub const CLASSES: usize = 4;
+    // A 1. The compiler keeps a bit made of a constant in a saved register; one made of this it makes anew after a call, which costs less.
+    pub const ONE: usize = 5;
 
-    pub const STARTS: usize = Plan::CLASSES + Preference::CLASSES;
+    // What the program gives: where each group of its rules begins, the masks of its classes, and the rules' masks.
+    pub const STARTS: usize = 6;
 
-    pub const CARE: usize = Plan::STARTS + Group::STARTS;
+    pub const CLASSES: usize = Plan::STARTS + Group::STARTS;
+
+    pub const CARE: usize = Plan::CLASSES + Preference::CLASSES;
 
     pub const WANT: usize = Plan::CARE + Group::PLACES;
 

@@ -1,6 +1,7 @@
 use native.Mathlib.Omega.{arith}
 use Rattle.descent.proofs.Told.{final-told}
 use Rattle.descent.proofs.Loops.{room-whole, better-rises}
+use borrow.Author.Needs.{needs}
 use Rattle.descent.proofs.search.search.Statement.{statement}
 use Rattle.descent.proofs.search.search.Tie as tie
 
@@ -8,7 +9,7 @@ test-set-requires : tie.Need-test-set-requires
 test-set-requires c κs = (c .before .before .pre .0, omega arith)
 
 returns : tie.Need-returns
-returns c = final-told _ (better-rises _ _) _ _ _ _ _ (c .before .before .if1 .taken) (c .test-set .ensures)
+returns c = (final-told _ (better-rises _ _) _ _ _ _ _ (c .before .before .if1 .taken) (c .test-set .ensures .0), c .test-set .ensures .1)
 
 descend-requires : tie.Need-descend-requires
 descend-requires c κs = (c .before .before .pre .0, ((omega (arith, c .before .if1 .left), c .before .before .pre .1), (room-whole _ (c .before .before .pre .1), omega (arith, c .before .before .pre .1))))

@@ -16,6 +16,9 @@ element-write-plan-3 c = search needs
 element-write-plan-4 : tie.Need-element-write-plan-4
 element-write-plan-4 c = search needs
 
+element-write-plan-5 : tie.Need-element-write-plan-5
+element-write-plan-5 c = search needs
+
 returns : tie.Need-returns
 unfolding withTerms
 returns c = refl
@@ -28,4 +31,5 @@ set-terms-spec =
     element-write-plan-2
     element-write-plan-3
     element-write-plan-4
+    element-write-plan-5
     returns)

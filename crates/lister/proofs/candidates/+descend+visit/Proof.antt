@@ -47,7 +47,7 @@ descend-shl-with t c = omega (arith, c .pre .1 .1 .1 .1 .0 .1)
 
 descend-add-with :
     (t : ℕ) → descend-lts.Need-add-with (visit-below t, visit.Post) (descend-at t) descend.Post
-descend-add-with t c = omega (arith, room-in _ _ (c .pre .1 .1 .1 .1 .0 .0) (c .pre .1 .1 .1 .1 .0 .1) (c .pre .1 .1 .1 .1 .1 .0))
+descend-add-with t c = omega (arith, room-in _ _ (c .pre .1 .1 .1 .1 .0 .0) (c .pre .1 .1 .1 .1 .0 .1) (c .pre .1 .1 .1 .1 .1 .0) refl)
 
 descend-visit-requires :
     (t : ℕ) →
@@ -61,11 +61,11 @@ descend-returns t c = (descend-over _ (ends-rise _ _ _ _ _ _) _ _ _ _ _ _ (one-l
 descend-visit-requires-2 :
     (t : ℕ) →
     descend-lts.Need-visit-requires-2 (visit-below t, visit.Post) (descend-at t) descend.Post
-descend-visit-requires-2 t c κs = (omega (arith, c .before .before .before .before .before .before .pre .0, c .before .before .before .before .before .before .pre .1 .1 .1 .1 .0 .0), (c .before .before .before .visit .ensures .1 .0, (c .before .before .before .before .before .before .pre .1 .1 .0, (c .before .before .before .before .before .before .pre .1 .1 .1 .0, (omega (arith, c .before .before .before .before .before .before .pre .1 .1 .1 .1 .0), (room-in _ _ (c .before .before .before .before .before .before .pre .1 .1 .1 .1 .0 .0) (c .before .before .before .before .before .before .pre .1 .1 .1 .1 .0 .1) (c .before .before .before .before .before .before .pre .1 .1 .1 .1 .1 .0), omega (arith, c .before .before .before .before .before .before .pre .1 .1 .1 .1 .0, c .before .before .if1 .left)))))))
+descend-visit-requires-2 t c κs = (omega (arith, c .before .before .before .before .before .before .pre .0, c .before .before .before .before .before .before .pre .1 .1 .1 .1 .0 .0), (c .before .before .before .visit .ensures .1 .0, (c .before .before .before .before .before .before .pre .1 .1 .0, (c .before .before .before .before .before .before .pre .1 .1 .1 .0, (omega (arith, c .before .before .before .before .before .before .pre .1 .1 .1 .1 .0), (room-in _ _ (c .before .before .before .before .before .before .pre .1 .1 .1 .1 .0 .0) (c .before .before .before .before .before .before .pre .1 .1 .1 .1 .0 .1) (c .before .before .before .before .before .before .pre .1 .1 .1 .1 .1 .0) refl, omega (arith, c .before .before .before .before .before .before .pre .1 .1 .1 .1 .0, c .before .before .if1 .left)))))))
 
 descend-returns-2 :
     (t : ℕ) → descend-lts.Need-returns-2 (visit-below t, visit.Post) (descend-at t) descend.Post
-descend-returns-2 t c = (descend-on _ (ends-rise _ _ _ _ _ _) _ _ _ _ _ _ (one-less _ _ (c .before .before .before .before .before .before .before .pre .1 .1 .1 .1 .0 .0) (c .before .before .before .before .before .before .before .pre .1 .1 .1 .1 .0 .1) (c .before .before .before .before .before .before .before .pre .1 .1 .1 .1 .1 .0)) _ (bit-is _ _ (c .before .before .before .before .before .before .before .pre .1 .1 .1 .1 .0 .0) (c .before .before .before .before .before .before .before .pre .1 .1 .1 .1 .0 .1) (c .before .before .before .before .before .before .before .pre .1 .1 .1 .1 .1 .0)) (omega (arith, c .before .before .before .before .before .before .before .pre .1 .1 .0)) (c .before .before .before .if1 .left) (c .before .before .before .before .visit .ensures .0) (told-listed _ _ (c .before .before .before .before .visit .ensures .1 .1) _ _ _ _ _ _ _ (c .visit2 .ensures .0)), (c .visit2 .ensures .1 .0, c .visit2 .ensures .1 .1 ∙ c .before .before .before .before .visit .ensures .1 .1))
+descend-returns-2 t c = (descend-on _ (ends-rise _ _ _ _ _ _) _ _ _ _ _ _ (one-less _ _ (c .before .before .before .before .before .before .before .pre .1 .1 .1 .1 .0 .0) (c .before .before .before .before .before .before .before .pre .1 .1 .1 .1 .0 .1) (c .before .before .before .before .before .before .before .pre .1 .1 .1 .1 .1 .0)) _ (bit-is _ _ (c .before .before .before .before .before .before .before .pre .1 .1 .1 .1 .0 .0) (c .before .before .before .before .before .before .before .pre .1 .1 .1 .1 .0 .1) (c .before .before .before .before .before .before .before .pre .1 .1 .1 .1 .1 .0) refl) (omega (arith, c .before .before .before .before .before .before .before .pre .1 .1 .0)) (c .before .before .before .if1 .left) (c .before .before .before .before .visit .ensures .0) (told-listed _ _ (c .before .before .before .before .visit .ensures .1 .1) _ _ _ _ _ _ _ (c .visit2 .ensures .0)), (c .visit2 .ensures .1 .0, c .visit2 .ensures .1 .1 ∙ c .before .before .before .before .visit .ensures .1 .1))
 
 visit-is-before-requires : (t : ℕ) → visit-lts.Need-is-before-requires (
   is-before-reads.Asked,
