@@ -4,7 +4,7 @@ use mathlib.Core.Path.{_≡_, refl, sym, ap, _∙_, subst}
 use mathlib.Core.Bool.{Bool}
 use mathlib.Core.List.{List, [], _∷_}
 use native.Mathlib.Omega.{arith}
-use lib.ListN.{length, getD, set, drop, length-drop}
+use lib.ListN.{length, getD, set, length-drop}
 use lib.Seq.{getD-drop}
 use Rattle.kinds.specs.Limits.{budgetLimit, classLimit}
 use Rattle.groups.specs.Groups.{rootGroup, placeLimit}

@@ -2,9 +2,11 @@
 use Prim.Native.Nat.{ℕ, _+_, _-_, _*_, _%_, _^_, _≤_, _<_}
 use mathlib.Core.Path.{_≡_, refl, sym, ap, _∙_}
 use mathlib.Core.List.{List, _∷_}
+use native.Mathlib.Decide.{decLt, decLe}
 use native.Mathlib.Omega.{arith}
 use lib.Bits.{bitAnd, bitXor}
 use lib.ListN.{replicate}
+use borrow.Author.Tests.{le-leb, lt-leb}
 use Rattle.kinds.specs.Limits.{walkAtoms, budgetLimit, classLimit}
 use Rattle.walks.specs.Walk.{capped}
 use Rattle.walks.specs.declared.answers.Verdict.{Verdict}
@@ -13,7 +15,32 @@ use Rattle.walks.proofs.Searches.{Answered, unitsOf as verdictUnits, capped-wit
 use Rattle.masks.proofs.MaskLoops.{shifted}
 use Rattle.descent.specs.Descent.{Outcome, Found, Nothing, unitsOf, descend, foundMark, Told, found, nothing, spent}
 use Rattle.descent.specs.Search.{betterSet}
-use Rattle.descent.specs.Verdicts.{allOf, outsOf, insOf, verdictOf, preferredM, stableOf, oneClass, stableM}
+use Rattle.descent.specs.Verdicts.{allOf, outsOf, insOf, verdictOf, pastBudget, preferredM, stableOf, oneClass, stableM}
+
+-- a number past the budget
+module _ (b r g : ℕ) where
+  pub past-low : r < foundMark → Spent b ≡ pastBudget b r g
+  unfolding pastBudget
+  past-low h = rw (lt-leb foundMark r h)
+
+  module _ (l : foundMark ≤ r) where
+    pub past-late : b < r - foundMark → Spent b ≡ pastBudget b r g
+    unfolding pastBudget
+    past-late h = rw (le-leb foundMark r l, lt-leb (r - foundMark) b h)
+
+    pub past-found : r - foundMark ≤ b → Beaten g (r - foundMark) ≡ pastBudget b r g
+    unfolding pastBudget
+    past-found h = rw (le-leb foundMark r l, le-leb (r - foundMark) b h)
+
+  past-spent : (foundMark ≤ r → foundMark + b < r) → Spent b ≡ pastBudget b r g
+  past-spent beyond = step (decLt r foundMark)
+    where
+      step : Dec (r < foundMark) → Spent b ≡ pastBudget b r g
+      step (yes h) = past-low h
+      step (no h) = let l : foundMark ≤ r = omega arith in past-late l (omega (arith, beyond l))
+
+  past-beaten : (s u : ℕ) → r ≡ foundMark + u → g ≡ s → u ≤ b → pastBudget b r g ≡ Beaten s u
+  past-beaten s u i j h = let z : r - foundMark ≡ u = omega arith in sym (past-found (omega arith) (omega arith)) ∙ (λ t. Beaten (j t) (z t))
 
 -- the verdict by an outcome of which the units of a search without a find may count for less
 module _ (verdict : Outcome → Verdict) (answered : (o : Outcome) → Answered (verdict o)) (b : ℕ) where
@@ -44,29 +71,13 @@ module _ {b : ℕ} (o : Outcome) {f r g : ℕ} (told : Told b o f r g) (small : 
       step (nothing u p q i j) = ap Yes i ∙ within verdictOf preferred-answers b (Nothing u) q ∙ ap (λ (x : Outcome). capped b (verdictOf x)) (sym p)
       step (spent p i j) = absurd (omega arith)
 
-  pub told-over : b < r → r < foundMark → Spent b ≡ capped b (verdictOf o)
-  told-over l h = step told
+  pub told-past : b < r → pastBudget b r g ≡ capped b (verdictOf o)
+  told-past l = step told
     where
-      step : Told b o f r g → Spent b ≡ capped b (verdictOf o)
-      step (found s u p q i j) = absurd (omega arith)
+      step : Told b o f r g → pastBudget b r g ≡ capped b (verdictOf o)
+      step (found s u p q i j) = past-beaten b r g s u i j q ∙ within verdictOf preferred-answers b (Found s u) q ∙ ap (λ (x : Outcome). capped b (verdictOf x)) (sym p)
       step (nothing u p q i j) = absurd (omega arith)
-      step (spent p i j) = beyond verdictOf preferred-answers b o (omega (arith, same-units o))
-
-  pub told-late : foundMark ≤ r → b < r - foundMark → Spent b ≡ capped b (verdictOf o)
-  told-late l h = step told
-    where
-      step : Told b o f r g → Spent b ≡ capped b (verdictOf o)
-      step (found s u p q i j) = absurd (omega arith)
-      step (nothing u p q i j) = absurd (omega arith)
-      step (spent p i j) = beyond verdictOf preferred-answers b o (omega (arith, same-units o))
-
-  pub told-beaten : foundMark ≤ r → r - foundMark ≤ b → Beaten g (r - foundMark) ≡ capped b (verdictOf o)
-  told-beaten l h = step told
-    where
-      step : Told b o f r g → Beaten g (r - foundMark) ≡ capped b (verdictOf o)
-      step (found s u p q i j) = (λ t. Beaten (j t) (let z : r - foundMark ≡ u = omega arith in z t)) ∙ within verdictOf preferred-answers b (Found s u) q ∙ ap (λ (x : Outcome). capped b (verdictOf x)) (sym p)
-      step (nothing u p q i j) = absurd (omega arith)
-      step (spent p i j) = absurd (omega (arith, j l))
+      step (spent p i j) = sym (past-spent b r g j) ∙ beyond verdictOf preferred-answers b o (omega (arith, same-units o))
 
 -- with one unit more for the final choice that is not counted
 module _ {b : ℕ} (o : Outcome) {f r g : ℕ} (told : Told (b + 1) o f r g) (small : b ≤ budgetLimit) where
@@ -86,39 +97,22 @@ module _ {b : ℕ} (o : Outcome) {f r g : ℕ} (told : Told (b + 1) o f r g) (sm
       step (nothing u p q i j) = ap (λ (x : ℕ). Yes (x - 1)) i ∙ within stableOf stable-answers b (Nothing u) (omega arith) ∙ ap (λ (x : Outcome). capped b (stableOf x)) (sym p)
       step (spent p i j) = absurd (omega arith)
 
-  late : b + 1 < unitsOf o → Spent b ≡ capped b (stableOf o)
-  late h = beyond stableOf stable-answers b o (step o h)
+  pub stable-past : b + 1 < r → pastBudget b r g ≡ capped b (stableOf o)
+  stable-past l = step told
     where
-      step : (o : Outcome) → b + 1 < unitsOf o → b < verdictUnits (stableOf o)
-      step (Found s u) h = omega arith
-      step (Nothing u) h = omega arith
+      late : (o : Outcome) → b + 1 < unitsOf o → b < verdictUnits (stableOf o)
+      late (Found s u) h = omega arith
+      late (Nothing u) h = omega arith
 
-  pub stable-over : b + 1 < r → r < foundMark → Spent b ≡ capped b (stableOf o)
-  stable-over l h = step told
-    where
-      step : Told (b + 1) o f r g → Spent b ≡ capped b (stableOf o)
-      step (found s u p q i j) = absurd (omega arith)
-      step (nothing u p q i j) = absurd (omega arith)
-      step (spent p i j) = late p
+      -- the set found may lie one unit past the budget
+      within-lent : (s u : ℕ) → r ≡ foundMark + u → g ≡ s → Dec (u ≤ b) → pastBudget b r g ≡ capped b (stableOf (Found s u))
+      within-lent s u i j (yes h) = past-beaten b r g s u i j h ∙ within stableOf stable-answers b (Found s u) h
+      within-lent s u i j (no h) = sym (past-spent b r g (λ _. omega arith)) ∙ beyond stableOf stable-answers b (Found s u) (omega arith)
 
-  -- the set found may lie one unit past the budget
-  pub stable-late : foundMark ≤ r → b < r - foundMark → Spent b ≡ capped b (stableOf o)
-  stable-late l h = step told
-    where
-      step : Told (b + 1) o f r g → Spent b ≡ capped b (stableOf o)
-      step (found s u p q i j) = beyond stableOf stable-answers b (Found s u) (omega arith) ∙ ap (λ (x : Outcome). capped b (stableOf x)) (sym p)
+      step : Told (b + 1) o f r g → pastBudget b r g ≡ capped b (stableOf o)
+      step (found s u p q i j) = within-lent s u i j (decLe u b) ∙ ap (λ (x : Outcome). capped b (stableOf x)) (sym p)
       step (nothing u p q i j) = absurd (omega arith)
-      step (spent p i j) = late p
-
-  pub stable-beaten : foundMark ≤ r → r - foundMark ≤ b → Beaten g (r - foundMark) ≡ capped b (stableOf o)
-  stable-beaten l h = step told
-    where
-      step : Told (b + 1) o f r g → Beaten g (r - foundMark) ≡ capped b (stableOf o)
-      step (found s u p q i j) =
-          let less : u ≤ b = omega arith in
-          (λ t. Beaten (j t) (let z : r - foundMark ≡ u = omega arith in z t)) ∙ within stableOf stable-answers b (Found s u) less ∙ ap (λ (x : Outcome). capped b (stableOf x)) (sym p)
-      step (nothing u p q i j) = absurd (omega arith)
-      step (spent p i j) = absurd (omega (arith, j l))
+      step (spent p i j) = sym (past-spent b r g (λ k. omega (arith, j k))) ∙ beyond stableOf stable-answers b o (late o p)
 
 -- the masks of the atoms, as the code has them
 pub all-atoms : (n : ℕ) → n ≤ walkAtoms → (1 * 2 ^ n) % 2 ^ 64 - 1 ≡ allOf n

@@ -1,12 +1,14 @@
 -- The verdicts over masks: the outcome of the descent from the empty choice, as an answer over places.
 use Prim.Native.Nat.{ℕ, _-_, _^_}
+use mathlib.Core.Bool.{cond, _&&_}
 use mathlib.Core.List.{List, _∷_}
+use lib.Dec.{leb}
 use lib.Bits.{bitAnd, bitXor}
 use lib.ListN.{replicate}
 use Rattle.kinds.specs.Limits.{classLimit}
 use Rattle.walks.specs.declared.answers.Verdict.{Verdict}
-use Rattle.walks.specs.declared.answers.Verdict.the-variants.{Yes, Beaten}
-use Rattle.descent.specs.Descent.{Outcome, Found, Nothing, descend}
+use Rattle.walks.specs.declared.answers.Verdict.the-variants.{Yes, Beaten, Spent}
+use Rattle.descent.specs.Descent.{Outcome, Found, Nothing, descend, foundMark}
 use Rattle.descent.specs.Search.{betterSet}
 
 -- all of n atoms
@@ -23,6 +25,10 @@ insOf n fixed of = bitXor (allOf n) (bitXor fixed (bitAnd fixed of))
 abbrev pub verdictOf : Outcome → Verdict
 verdictOf (Found s u) = Beaten s u
 verdictOf (Nothing u) = Yes u
+
+-- what a number past the budget tells (`Told`), with the set found
+unfoldable pub pastBudget : ℕ → ℕ → ℕ → Verdict
+pastBudget budget number set = cond (leb foundMark number && leb (number - foundMark) budget) (Beaten set (number - foundMark)) (Spent budget)
 
 -- the units needed, whatever the budget; the set is a model
 unfoldable pub preferredM : List ℕ → List ℕ → List ℕ → List ℕ → ℕ → ℕ → ℕ → Verdict

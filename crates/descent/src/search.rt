@@ -27,7 +27,7 @@ fn is_broken(plan: &[u64; Plan::WORDS], i: usize, set: u64) -> bool
     set & plan[Plan::CARE + i] == plan[Plan::WANT + i]
 }
 
-// Whether some rule from place `from` on and below `to` is broken at `set`: two at a time, since a test costs less than a branch.
+// Whether some rule from place `from` on and below `to` is broken at `set`: two in each step.
 pub fn breaks(plan: &[u64; Plan::WORDS], from: usize, to: usize, set: u64) -> bool
     requires { ⌜ to ≤ placeLimit ⌝ }
     requires { ⌜ (from % 2 ≡ 0) × (to % 2 ≡ 0) ⌝ }

@@ -6,10 +6,10 @@ use walks::answers::Verdict;
 ghost use mathlib.Core.Path.{_≡_};
 ghost use Prim.Native.Nat.{_≤_};
 ghost use Rattle.kinds.specs.Limits.{walkAtoms, budgetLimit};
-ghost use Rattle.groups.specs.Plans.{classesIn, startsIn, careIn, wantIn, SameTables, HasTables};
+ghost use Rattle.groups.specs.Plans.{foundIn, classesIn, startsIn, careIn, wantIn, SameTables, HasTables};
 ghost use Rattle.walks.specs.Walk.{capped};
 ghost use Rattle.descent.specs.Search.{withTerms};
-ghost use Rattle.descent.specs.Verdicts.{allOf, oneClass, preferredM, stableM};
+ghost use Rattle.descent.specs.Verdicts.{allOf, pastBudget, oneClass, preferredM, stableM};
 
 // All of so many atoms.
 pub fn all_of(atoms: usize) -> u64
@@ -28,6 +28,23 @@ fn set_terms(plan: &mut [u64; Plan::WORDS], outs: u64, ins: u64, of: u64, budget
     plan[Plan::OF] = of;
     plan[Plan::BUDGET] = budget;
     plan[Plan::ONE] = 1;
+}
+
+// What a number past the budget tells: the set found, or that the budget is spent.
+fn past_budget(plan: &[u64; Plan::WORDS], number: u64, budget: u64) -> Verdict
+    ensures { λ r. ⌜ r ≡ pastBudget budget number (foundIn (now (plan .entry))) ⌝ }
+{
+    if number < Told::FOUND {
+        return Verdict::Spent { units: budget };
+    }
+    let units = number - Told::FOUND;
+    if budget < units {
+        return Verdict::Spent { units: budget };
+    }
+    Verdict::Beaten {
+        set: plan[Plan::FOUND],
+        units: units,
+    }
 }
 
 // Whether some set of so many atoms beats `of`, which is a model: fixed atoms take only its value.
@@ -51,17 +68,7 @@ pub fn preferred_search(
     if number <= budget {
         return Verdict::Yes { units: number };
     }
-    if number < Told::FOUND {
-        return Verdict::Spent { units: budget };
-    }
-    let units = number - Told::FOUND;
-    if budget < units {
-        return Verdict::Spent { units: budget };
-    }
-    Verdict::Beaten {
-        set: plan[Plan::FOUND],
-        units: units,
-    }
+    past_budget(plan, number, budget)
 }
 
 // Whether some proper subset of `of`, which is a model of the rules, is one too; all atoms are one class. The final choice `of` comes last; its unit is taken back.
@@ -78,15 +85,5 @@ pub fn stable_search(plan: &mut [u64; Plan::WORDS], atoms: usize, of: u64, budge
     if number <= budget + 1 {
         return Verdict::Yes { units: number - 1 };
     }
-    if number < Told::FOUND {
-        return Verdict::Spent { units: budget };
-    }
-    let units = number - Told::FOUND;
-    if budget < units {
-        return Verdict::Spent { units: budget };
-    }
-    Verdict::Beaten {
-        set: plan[Plan::FOUND],
-        units: units,
-    }
+    past_budget(plan, number, budget)
 }

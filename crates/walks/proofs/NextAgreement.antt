@@ -5,7 +5,7 @@ use mathlib.Core.Bool.{Bool, true, false, not, cond, _&&_}
 use mathlib.Core.List.{List, [], _∷_, _++_, map, map-id}
 use native.Mathlib.Omega.{arith}
 use native.Mathlib.Decide.{decLe}
-use lib.Dec.{T, eqb, eqb→eq, leb, leb→le, le→leb}
+use lib.Dec.{T, eqb→eq, leb, leb→le, le→leb}
 use lib.ListN.{length, drop}
 use Rattle.rules.specs.Lists.{All, keep, filter, from}
 use Rattle.rules.specs.Sets.{has}

@@ -1,7 +1,6 @@
 use native.Mathlib.Omega.{arith}
 use Rattle.descent.proofs.Told.{final-told}
 use Rattle.descent.proofs.Loops.{room-whole, better-rises}
-use borrow.Author.Needs.{needs}
 use Rattle.descent.proofs.search.search.Statement.{statement}
 use Rattle.descent.proofs.search.search.Tie as tie
 
