@@ -9,7 +9,7 @@ use lib.Dec.{T, eqb}
 use lib.ListN.{length, getD}
 use borrow.Author.Tests.{eq-eqb, ne-eqb}
 use Rattle.kinds.specs.Limits.{walkAtoms, classLimit, fixed}
-use Rattle.rules.specs.Lists.{All, every, filter, from}
+use Rattle.rules.specs.Lists.{All, filter, from}
 use Rattle.rules.specs.Sets.{has}
 use Rattle.rules.specs.Rules.{Rule, model?, firstBroken}
 use Rattle.rules.specs.Preferred.{ofClass, same?, agree?, spares?, beats?}

@@ -12,7 +12,7 @@ use lib.Bits.{bitAnd, bitOr, or-zero-l, or-zero-r}
 use lib.ListN.{length, getD, drop, drop-of-length-le}
 use lib.Seq.{drop-cons}
 use borrow.Author.Tests.{ne-eqb, eq-eqb}
-use Rattle.rules.specs.Lists.{All, keep}
+use Rattle.rules.specs.Lists.{All}
 use Rattle.rules.proofs.Lists.{all-at}
 use Rattle.rules.specs.Rules.{countIf}
 use Rattle.places.specs.Places.{mirror}
