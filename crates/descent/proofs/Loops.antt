@@ -7,7 +7,7 @@ use native.Mathlib.Nat.{pow-suc}
 use native.Mathlib.Omega.{arith}
 use lib.Dec.{eqb}
 use lib.Pow.{pow-mono}
-use lib.Bits.{bitAnd}
+use lib.Bits.{bitAnd, bitXor}
 use lib.ListN.{length, getD, drop}
 use Rattle.kinds.specs.Limits.{walkAtoms, classLimit}
 use Rattle.rules.specs.Lists.{some, from}
@@ -15,8 +15,9 @@ use Rattle.rules.specs.Sets.{has}
 use Rattle.masks.specs.Masks.{sparesM}
 use Rattle.masks.proofs.MaskBits.{bit-test}
 use Rattle.masks.proofs.MaskLoops.{shifted, spares-none, spares-found, spares-more}
+use Rattle.masks.proofs.Unions.{union-agrees}
 use Rattle.groups.specs.Groups.{groupAt, rootGroup, brokenAt, brokenFrom, brokenIn, placeLimit, Bounded, Paired}
-use Rattle.groups.specs.Plans.{classesFrom, startsFrom, careFrom, wantFrom, planWords, classesIn, startsIn, careIn, wantIn}
+use Rattle.groups.specs.Plans.{classesFrom, startsFrom, careFrom, wantFrom, planWords, classesIn, minimisedIn, startsIn, careIn, wantIn, HasTables}
 use Rattle.groups.proofs.PlanParts.{part-at, part-length}
 use Rattle.descent.specs.Descent.{Found, Nothing, unitsOf, foundMark, Told}
 use Rattle.descent.specs.Search.{mayBe, better}
@@ -43,6 +44,9 @@ module _ (p : List ℕ) (m s i : ℕ) (whole : length p ≡ planWords) (e : spar
 
   pub class-none : classLimit ≤ i → false ≡ sparesM m s (classesIn p)
   class-none h = spares-none m s (classesIn p) i (omega (arith, class-room)) e
+
+pub classes-agree : (p : List ℕ) (m s : ℕ) → HasTables p → bitAnd (bitXor s m) (minimisedIn p) ≡ 0 → false ≡ sparesM m s (classesIn p)
+classes-agree p m s tables e = union-agrees m s (classesIn p) (ap (bitAnd (bitXor s m)) (sym (tables .united)) ∙ e)
 
 module _ (cs ws : List ℕ) (s a b : ℕ) where
   broken-cons : (i : ℕ) → i < b → brokenFrom cs ws s i b ≡ (brokenAt cs ws s i || brokenFrom cs ws s (suc i) b)

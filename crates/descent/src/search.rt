@@ -3,10 +3,9 @@ use groups::plan::Plan;
 use kinds::limits::Preference;
 ghost use mathlib.Core.Path.{_≡_};
 ghost use Prim.Native.Nat.{_+_, _%_, _<_, _≤_, _^_};
-ghost use lib.ListN.{length};
 ghost use Rattle.kinds.specs.Limits.{walkAtoms};
 ghost use Rattle.groups.specs.Groups.{groupAt, brokenAt, brokenFrom, brokenIn, placeLimit, Bounded, Paired};
-ghost use Rattle.groups.specs.Plans.{planWords, foundIn, outsIn, insIn, ofIn, budgetIn, oneIn, classesIn, startsIn, careIn, wantIn, SameSearch};
+ghost use Rattle.groups.specs.Plans.{foundIn, outsIn, insIn, ofIn, budgetIn, oneIn, classesIn, startsIn, careIn, wantIn, SameSearch, HasTables};
 ghost use Rattle.rules.specs.Sets.{has};
 ghost use Rattle.masks.specs.Masks.{sparesM};
 ghost use Rattle.descent.specs.Descent.{visit as visitBy, descend as descendBy, Told as ToldBy};
@@ -43,9 +42,9 @@ pub fn breaks(plan: &[u64; Plan::WORDS], from: usize, to: usize, set: u64) -> bo
     false
 }
 
-// Whether at the first class on which the two differ `set` has a part of what is to be bettered.
+// Whether at the first class on which the two differ `set` has a part of what is to be bettered. Where they agree on the first, they may agree on all.
 fn spares(plan: &[u64; Plan::WORDS], set: u64) -> bool
-    requires { ⌜ length (now plan) ≡ planWords ⌝ }
+    requires { ⌜ HasTables (now plan) ⌝ }
     ensures { λ r. ⌜ r ≡ sparesM (ofIn (now (plan .entry))) set (classesIn (now (plan .entry))) ⌝ }
 {
     let of = plan[Plan::OF];
@@ -55,6 +54,9 @@ fn spares(plan: &[u64; Plan::WORDS], set: u64) -> bool
         let a = set & c;
         if a != of & c {
             return a & of == a;
+        }
+        if (set ^ of) & plan[Plan::MINIMISED] == 0 {
+            return false;
         }
         i += 1;
     }

@@ -6,8 +6,10 @@ use native.Mathlib.Omega.{arith}
 use lib.ListN.{length, getD, set, take, drop, length-drop, replicate, length-replicate, getD-replicate}
 use lib.Seq.{length-take-le, getD-take, getD-drop, drop-set-add, drop-set-lt, take-set-lt, take-set-le, drop-drop, take-take, take-at, drop-at, ext-getD}
 use borrow.Rule.Slice.PartMut.{postOf, putMid, take-put, drop-put}
+use Rattle.kinds.specs.Limits.{classLimit}
+use Rattle.masks.specs.Masks.{unionOf}
 use Rattle.groups.specs.Groups.{rootGroup, Bounded, Paired}
-use Rattle.groups.specs.Plans.{part, startsFrom, startsIn, SameTables, HasTables}
+use Rattle.groups.specs.Plans.{part, classesFrom, minimisedFrom, startsFrom, startsIn, classesIn, minimisedIn, SameTables, HasTables}
 
 module _ (a n : ℕ) (p : List ℕ) where
   pub part-at : (i : ℕ) → i < n → getD (part a n p) i 0 ≡ getD p (a + i) 0
@@ -61,7 +63,9 @@ tables-part a n p q h same = part-later startsFrom a n p q h same
 pub has-tables : (p q : List ℕ) → length q ≡ length p → SameTables q p → HasTables p → HasTables q
 has-tables p q long same has =
     let starts : startsIn p ≡ startsIn q = sym (tables-part startsFrom (rootGroup + 2) q p (omega arith) same) in
-    record { words = long ∙ has .words; bounded = subst Bounded starts (has .bounded); paired = subst Paired starts (has .paired) }
+    let minimised : minimisedIn q ≡ minimisedIn p = sym (getD-drop startsFrom q (minimisedFrom - startsFrom) 0) ∙ ap (λ (l : List ℕ). getD l (minimisedFrom - startsFrom) 0) same ∙ getD-drop startsFrom p (minimisedFrom - startsFrom) 0 in
+    let classes : classesIn p ≡ classesIn q = sym (tables-part classesFrom classLimit q p (omega arith) same) in
+    record { words = long ∙ has .words; united = minimised ∙ has .united ∙ ap unionOf classes; bounded = subst Bounded starts (has .bounded); paired = subst Paired starts (has .paired) }
 
 -- words put in the place of those from a up to e
 module _ (a e : ℕ) (p ys : List ℕ) (h : a ≤ e) (inside : e ≤ length p) (long : length ys ≡ e - a) where

@@ -4,6 +4,7 @@ use mathlib.Core.Path.{_≡_}
 use mathlib.Core.List.{List}
 use lib.ListN.{length, getD, take, drop}
 use Rattle.kinds.specs.Limits.{classLimit}
+use Rattle.masks.specs.Masks.{unionOf}
 use Rattle.groups.specs.Groups.{rootGroup, placeLimit, Bounded, Paired, GroupsOf}
 
 -- the n words from number a on
@@ -16,8 +17,11 @@ startsFrom = 6
 abbrev pub classesFrom : ℕ
 classesFrom = startsFrom + (rootGroup + 2)
 
+abbrev pub minimisedFrom : ℕ
+minimisedFrom = classesFrom + classLimit
+
 abbrev pub careFrom : ℕ
-careFrom = classesFrom + classLimit
+careFrom = minimisedFrom + 1
 
 abbrev pub wantFrom : ℕ
 wantFrom = careFrom + placeLimit
@@ -53,6 +57,10 @@ startsIn p = part startsFrom (rootGroup + 2) p
 abbrev pub classesIn : List ℕ → List ℕ
 classesIn p = part classesFrom classLimit p
 
+-- the atoms of all classes
+abbrev pub minimisedIn : List ℕ → ℕ
+minimisedIn p = getD p minimisedFrom 0
+
 abbrev pub careIn : List ℕ → List ℕ
 careIn p = part careFrom placeLimit p
 
@@ -67,14 +75,22 @@ SameSearch p q = drop 1 p ≡ drop 1 q
 abbrev pub SameTables : List ℕ → List ℕ → Type 0
 SameTables p q = drop startsFrom p ≡ drop startsFrom q
 
--- a plan of which the groups end within the places
+-- a plan that has the atoms of all its classes, and of which the groups end within the places
 pub record HasTables (p : List ℕ) : Type 0 where
   pub words : length p ≡ planWords
+  pub united : minimisedIn p ≡ unionOf (classesIn p)
   pub bounded : Bounded (startsIn p)
   pub paired : Paired (startsIn p)
 
--- the plan's tables are these classes, and these rules' masks in groups
+-- the plan has these classes, and these rules' masks in groups
+pub record Grouped (cs ws classes p : List ℕ) : Type 0 where
+  pub words : length p ≡ planWords
+  pub classes-are : classesIn p ≡ classes
+  pub groups : GroupsOf cs ws (careIn p) (wantIn p) (startsIn p)
+
+-- the plan's tables are these, and the atoms of all classes
 pub record TablesOf (cs ws classes p : List ℕ) : Type 0 where
   pub words : length p ≡ planWords
   pub classes-are : classesIn p ≡ classes
+  pub united : minimisedIn p ≡ unionOf (classesIn p)
   pub groups : GroupsOf cs ws (careIn p) (wantIn p) (startsIn p)

@@ -25,7 +25,10 @@ impl Plan {
 
     pub const CLASSES: usize = Plan::STARTS + Group::STARTS;
 
-    pub const CARE: usize = Plan::CLASSES + Preference::CLASSES;
+    // The atoms of all classes.
+    pub const MINIMISED: usize = Plan::CLASSES + Preference::CLASSES;
+
+    pub const CARE: usize = Plan::MINIMISED + 1;
 
     pub const WANT: usize = Plan::CARE + Group::PLACES;
 

@@ -5,6 +5,7 @@ pub mod RuleMasks
 pub mod ClassMasks
 pub mod MaskSizes
 pub mod MaskLoops
+pub mod Unions
 pub mod BrokenRules
 pub mod RulesFill
 pub mod ClassFill

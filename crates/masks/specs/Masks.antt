@@ -60,3 +60,8 @@ withinM m s c = eqb (bitAnd (bitAnd s c) m) (bitAnd s c)
 unfoldable pub sparesM : ℕ → ℕ → List ℕ → Bool
 sparesM m s [] = false
 sparesM m s (c ∷ cs) = cond (agreeM m s c) (sparesM m s cs) (withinM m s c)
+
+-- the atoms of some masks together
+unfoldable pub unionOf : List ℕ → ℕ
+unionOf [] = 0
+unionOf (c ∷ cs) = bitOr c (unionOf cs)

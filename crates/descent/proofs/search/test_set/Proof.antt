@@ -7,7 +7,7 @@ use Rattle.descent.proofs.search.test_set.Statement.{statement}
 use Rattle.descent.proofs.search.test_set.Tie as tie
 
 spares-requires : tie.Need-spares-requires
-spares-requires c κs = c .before .pre .0 .tables .words
+spares-requires c κs = c .before .pre .0 .tables
 
 element-write-plan : tie.Need-element-write-plan
 element-write-plan c = search needs

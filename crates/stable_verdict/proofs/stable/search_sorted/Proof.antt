@@ -20,7 +20,7 @@ fill-tables-requires : tie.Need-fill-tables-requires
 fill-tables-requires c κs = (c .before .before .before .before .before .pre .0, (c .before .before .before .before .before .pre .1 .0, (c .before .before .before .before .before .pre .1 .1 .0, (refl, refl))))
 
 stable-search-requires : tie.Need-stable-search-requires
-stable-search-requires c κs = (record { words = c .before .before .fill-tables .ensures .words; bounded = c .before .before .fill-tables .ensures .groups .bounded; paired = c .before .before .fill-tables .ensures .groups .paired }, (c .before .before .fill-tables .ensures .classes-are ∙ one-class _ _ (c .before .before .before .before .before .all-of .ensures), (c .before .before .before .before .before .before .before .before .pre .1 .1 .1 .1, c .before .before .before .before .before .before .before .before .pre .1 .1 .1 .0)))
+stable-search-requires c κs = (record { words = c .before .before .fill-tables .ensures .words; united = c .before .before .fill-tables .ensures .united; bounded = c .before .before .fill-tables .ensures .groups .bounded; paired = c .before .before .fill-tables .ensures .groups .paired }, (c .before .before .fill-tables .ensures .classes-are ∙ one-class _ _ (c .before .before .before .before .before .all-of .ensures), (c .before .before .before .before .before .before .before .before .pre .1 .1 .1 .1, c .before .before .before .before .before .before .before .before .pre .1 .1 .1 .0)))
 
 returns : tie.Need-returns
 returns c = search needs
