@@ -42,7 +42,7 @@ pub fn breaks(plan: &[u64; Plan::WORDS], from: usize, to: usize, set: u64) -> bo
     false
 }
 
-// Whether at the first class on which the two differ `set` has a part of what is to be bettered. Where they agree on the first, they may agree on all.
+// Whether at the first class on which the two differ `set` has a part of what is to be bettered. One test tells that they agree on all.
 fn spares(plan: &[u64; Plan::WORDS], set: u64) -> bool
     requires { ⌜ HasTables (now plan) ⌝ }
     ensures { λ r. ⌜ r ≡ sparesM (ofIn (now (plan .entry))) set (classesIn (now (plan .entry))) ⌝ }
