@@ -8,7 +8,7 @@ use mathlib.Core.List.{List, [], _∷_, _++_, map, map-id}
 use lib.ListN.{length, getD, drop, drop-of-length-le}
 use lib.Seq.{drop-cons}
 use Rattle.rules.specs.Lists.{keep, filter, flat, from}
-use Rattle.pairing.proofs.ListLaws.{map-eq}
+use Rattle.rules.proofs.ListLaws.{map-eq}
 use Rattle.output.proofs.Emitting.{Ahead}
 use Rattle.atom_lists.specs.ListWords.{each, single, raised}
 

@@ -14,7 +14,7 @@ use Rattle.rules.proofs.Lists.{all-imp, every-from}
 use Rattle.rules.proofs.MappedLists.{map-keep}
 use Rattle.places.specs.Places.{setAt}
 use Rattle.choices.specs.Choices.{Choice, choice, Course, visited, final?, fits?}
-use Rattle.choices.proofs.Filtered.{filter-app, filter-and, filter-none}
+use Rattle.rules.proofs.Filtered.{filter-app, filter-and, filter-none}
 use Rattle.choices.proofs.MoreAtoms.{top-out, top-in, low-in, wide-out, wide-in, Extends}
 use Rattle.choices.proofs.SetsBelow.{sets, sets-extend, sets-place}
 use Rattle.choices.proofs.Trees.{branch, visited-closed, visited-open}

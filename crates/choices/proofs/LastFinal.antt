@@ -12,7 +12,7 @@ use Rattle.rules.specs.Sets.{has}
 use Rattle.rules.proofs.Booleans.{T-of, T-and, T-and-l, T-and-r, T-not-in, T-not-out}
 use Rattle.rules.proofs.Lists.{all-imp}
 use Rattle.choices.specs.Choices.{Choice, choice, Course, visited, final?, isSet?}
-use Rattle.choices.proofs.Filtered.{filter-app, filter-none, filter-every}
+use Rattle.rules.proofs.Filtered.{filter-app, filter-none, filter-every}
 use Rattle.choices.proofs.MoreAtoms.{top-out, wide-out, cut-out, cut-in}
 use Rattle.choices.proofs.Trees.{branch, visited-open, all-branch, Below, visited-extend}
 

@@ -1,5 +1,4 @@
 -- What is visited: the final choices come in the order of their places, and those that are models are all models with allowed values.
-pub mod Filtered
 pub mod MoreAtoms
 pub mod MorePlaces
 pub mod SetsBelow

@@ -11,7 +11,7 @@ use Rattle.rules.proofs.Booleans.{T-not-out}
 use Rattle.rules.proofs.Lists.{all-imp}
 use Rattle.places.specs.Places.{place}
 use Rattle.choices.specs.Choices.{Choice, choice, Course, visited, before?}
-use Rattle.choices.proofs.Filtered.{filter-none}
+use Rattle.rules.proofs.Filtered.{filter-none}
 use Rattle.choices.proofs.MorePlaces.{place-in}
 use Rattle.choices.proofs.Trees.{visited-all}
 

@@ -20,7 +20,7 @@ use Rattle.places.specs.Places.{place}
 use Rattle.places.proofs.Places.{place-atoms}
 use Rattle.choices.specs.Choices.{Choice, choice, RulesBelow, closed?, visited}
 use Rattle.choices.proofs.Closing.{closed-in, closed-out, prefix-open}
-use Rattle.choices.proofs.Filtered.{filter-every}
+use Rattle.rules.proofs.Filtered.{filter-every}
 use Rattle.walks.specs.Walk.{preferredCourse, preferredWalk, finalAnd?, search, preferredNeeds}
 use Rattle.walks.specs.declared.answers.Verdict.the-variants.{Broken}
 use Rattle.masks.specs.AnswersAt.{verdictAt}

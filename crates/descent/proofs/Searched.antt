@@ -11,7 +11,7 @@ use Rattle.rules.specs.Sets.{has}
 use Rattle.rules.proofs.Booleans.{T-of, is-true}
 use Rattle.places.specs.Places.{place}
 use Rattle.choices.specs.Choices.{Choice, choice, Course, visited}
-use Rattle.choices.proofs.Filtered.{filter-app}
+use Rattle.rules.proofs.Filtered.{filter-app}
 use Rattle.choices.proofs.MorePlaces.{place-in}
 use Rattle.choices.proofs.Trees.{branch, visited-closed, visited-open}
 use Rattle.descent.specs.Descent.{Outcome, Found, Nothing, goOn, Asked, visit, descend}

@@ -17,4 +17,4 @@ pub first-at : (n : ℕ) (rs : List (Rule ℕ)) → All (Within (λ a. a < n)) r
 first-at n rs below plain m =
     ap₂ (firstM (place n m)) (sym (map-map careOf (rename (mirror n)) rs)) (sym (map-map wantOf (rename (mirror n)) rs))
     ∙ first-mask (place n m) (map (rename (mirror n)) rs) (all-map (λ r. r .nots ≡ []) (rename (mirror n)) rs (all-imp (λ r. r .nots ≡ []) _ (λ r e. ap (map (mirror n)) e) rs plain))
-    ∙ first-moved (mirror n) n m (place n m) (place-atoms n m) rs below
+    ∙ first-moved (mirror n) (λ a. a < n) m (place n m) (place-atoms n m) rs below

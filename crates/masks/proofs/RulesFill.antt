@@ -1,8 +1,8 @@
 -- The rules of a store, read one after another.
-use Prim.Native.Nat.{ℕ, zero, suc, _+_, _-_, _≤_, _<_}
+use Prim.Native.Nat.{ℕ, suc, _+_, _-_, _≤_, _<_}
 use mathlib.Core.Path.{_≡_, refl, sym, ap, ap₂, _∙_, subst}
 use mathlib.Core.Bool.{Bool, true, false, cond}
-use mathlib.Core.List.{List, [], _∷_, _++_, map}
+use mathlib.Core.List.{List, _∷_, _++_, map}
 use native.Mathlib.Nat.{sub-zero}
 use native.Mathlib.Numerals.{add-one}
 use native.Mathlib.Omega.{arith}
@@ -11,7 +11,7 @@ use lib.ListN.{length, getD, take, drop, set, length-set, length-map, length-dro
 use lib.Seq.{drop-cons, drop-drop, set-at, length-take-le, append-snoc, take-suc, take-all, take-at}
 use Rattle.rules.specs.Lists.{All, over}
 use Rattle.rules.specs.Rules.{Rule}
-use Rattle.rules.proofs.Lists.{part-sized, part-rest}
+use Rattle.rules.proofs.Lists.{part-sized, part-rest, map-at}
 use Rattle.stores.specs.RuleStore.{heads, bodies, nots, places, ruleAt, rulesFrom}
 use Rattle.stores.specs.StoredRules.{StoredRule, StoredRules}
 use Rattle.stores.proofs.RuleStores.{rules-count}
@@ -72,12 +72,6 @@ module _ (ws : List ℕ) where
     read-breakable e = (ap (λ (b : Bool). cond b (bitOr hm bm) 0) (sym e) ∙ care-is, ap (λ (b : Bool). cond b bm 1) (sym e) ∙ want-is)
 
 -- filling the masks of one rule after another
-
-module _ {A : Type 0} where
-  mapped : (f : A → ℕ) (l : List A) (j : ℕ) (d : A) → j < length l → getD (map f l) j 0 ≡ f (getD l j d)
-  mapped f [] j d h = absurd (omega arith)
-  mapped f (r ∷ l) zero d h = refl
-  mapped f (r ∷ l) (suc j) d h = mapped f l j d (omega arith)
 
 -- the first j entries of s in front of d
 abbrev part : List ℕ → List ℕ → ℕ → List ℕ
@@ -149,7 +143,7 @@ module _ (ws : List ℕ) (rules n : ℕ) (c₀ w₀ : List ℕ) where
     after = ap (λ (k : ℕ). drop k All-rules) (add-one j) ∙ cc parts
 
     entry : (g : Rule ℕ → ℕ) → g (ruleAt front) ≡ getD (map g All-rules) j 0
-    entry g = sym (mapped g All-rules j (ruleAt front) in-rules ∙ ap g here)
+    entry g = sym (map-at g All-rules j (ruleAt front) 0 in-rules ∙ ap g here)
 
     in-map : (g : Rule ℕ → ℕ) → j < length (map g All-rules)
     in-map g = omega (arith, length-map All-rules g, in-rules)

@@ -1,12 +1,12 @@
 -- What the form of a preference program says of each atom and rule.
-use Prim.Native.Nat.{ℕ, zero, suc, _≤_, _<_}
+use Prim.Native.Nat.{ℕ, _≤_, _<_}
 use native.Mathlib.Omega.{arith}
 use native.Mathlib.Decide.{ℕ-discrete, decLe}
 use mathlib.Core.Path.{_≡_, sym, subst}
-use mathlib.Core.List.{List, [], _∷_}
+use mathlib.Core.List.{[]}
 use mathlib.Core.Logic.{_⊎_, inl, inr}
 use lib.Dec.{T, eqb→eq}
-use lib.ListN.{length, getD}
+use lib.ListN.{length}
 use Rattle.kinds.specs.Limits.{atomLimit, ruleLimit, occurrenceLimit, classLimit, varying, fixed}
 use Rattle.kinds.specs.declared.limits.Kind.{Kind}
 use Rattle.kinds.specs.declared.limits.Kind.the-variants.{Preference}
@@ -14,9 +14,9 @@ use Rattle.rules.specs.Lists.{All, Distinct, sum}
 use Rattle.rules.specs.Rules.{Rule, occurrences}
 use Rattle.rules.proofs.Booleans.{decide, T-not-in}
 use Rattle.rules.proofs.Lists.{all-imp, all-at}
-use Rattle.stores.specs.Program.{Program, ProgramForm, ClassesForm, RuleForm, RoleForm, NeverFalling, roleOf}
+use Rattle.stores.specs.Program.{Program, ProgramForm, ClassesForm, RuleForm, RoleForm, roleOf}
 use Rattle.stores.proofs.ClassWord.{minimised, below, above}
-use Rattle.stores.proofs.RuleTests.{rising-from}
+use Rattle.stores.proofs.RuleTests.{rising-at}
 use Rattle.pairing.specs.Atoms.{classWord, fixed?, unfixed?}
 
 abbrev pub Minimised : Program → ℕ → Type 0
@@ -41,13 +41,6 @@ pub record Fit (p : Program) : Type 0 where
   pub atoms-fit : p .atoms ≤ atomLimit Preference
   pub rules-fit : length (p .rules) ≤ ruleLimit Preference
   pub occurrences-fit : sum occurrences (p .rules) ≤ occurrenceLimit Preference
-
-rising-at : (b : ℕ) (l : List ℕ) → NeverFalling b l → (i j : ℕ) → i < j → j < length l → getD l i 0 ≤ getD l j 0
-rising-at b [] h i j m u = absurd (omega arith)
-rising-at b (x ∷ l) h zero zero m u = absurd (omega arith)
-rising-at b (x ∷ l) h zero (suc j) m u = rising-from x l (h .1) j (omega arith)
-rising-at b (x ∷ l) h (suc i) zero m u = absurd (omega arith)
-rising-at b (x ∷ l) h (suc i) (suc j) m u = rising-at x l (h .1) i j (omega arith) (omega arith)
 
 -- 1 to 16 a class that is there, 17 varying, 18 fixed
 record Word (k w : ℕ) : Type 0 where

@@ -1,6 +1,5 @@
 -- The laws of the translation.
 pub mod Quantified
-pub mod ListLaws
 pub mod Fit
 pub mod Asked
 pub mod Numbering

@@ -17,7 +17,8 @@ use Rattle.pairing.specs.Atoms.{Atom, original, N, S, D, E, U, originals
 use Rattle.pairing.specs.Steps.{step1, step2, step3, step4, step5, step6, step7, step8, step9, step10, translation}
 use Rattle.pairing.specs.Translated.{translated, translatedRules, translatedNames}
 use Rattle.pairing.specs.Loops.{below, beyond, loop1, loop2, loop3, loop4, loop5, loop6, loop789, loop10, looped, dot, loopedNames}
-use Rattle.pairing.proofs.ListLaws.{map-flat, map-eq, map-same, flat-same, filter-same, entries}
+use Rattle.rules.proofs.Filtered.{filter-same}
+use Rattle.rules.proofs.ListLaws.{map-flat, map-eq, map-same, flat-same, entries}
 use Rattle.pairing.proofs.SumLaws.{length-parts}
 use Rattle.pairing.proofs.Fit.{Fit, Inside, fit-of}
 use Rattle.pairing.proofs.Numbering.{unfixed-first, minimised-first, minimised-below, unminimised-beyond, unfixed-below, fixed-beyond}

@@ -9,7 +9,7 @@ use Rattle.rules.specs.Lists.{All, from}
 use Rattle.rules.specs.Sets.{has}
 use Rattle.rules.proofs.Lists.{all-zip, all-map, map-all, all-from, from-all}
 use Rattle.rules.proofs.Sets.{number, number-lt, has-number}
-use Rattle.pairing.proofs.ListLaws.{found}
+use Rattle.rules.proofs.ListLaws.{found}
 
 module _ {A : Type 0} (num : A → ℕ) (d : A) (atoms : List A) (order : map num atoms ≡ from 0 (length atoms)) where
   -- what holds of the atoms' numbers holds of each number below their count

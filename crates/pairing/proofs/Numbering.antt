@@ -15,7 +15,7 @@ use Rattle.stores.specs.Program.{Program}
 use Rattle.pairing.specs.Atoms.{Atom, original, N, S, D, E, U, originals, classWord, minimised?, unminimised?, fixed?, unfixed?, minimisedAtoms, unfixedAtoms, declared, atomNumber}
 use Rattle.pairing.specs.Loops.{below, beyond}
 use Rattle.pairing.proofs.Quantified.{Each·simp}
-use Rattle.pairing.proofs.ListLaws.{shifted, map-eq, filter-first, first-part, found}
+use Rattle.rules.proofs.ListLaws.{shifted, map-eq, filter-first, first-part, found}
 use Rattle.pairing.proofs.Fit.{Fit, Minimised}
 
 not-not : (b : Bool) → not (not b) ≡ b

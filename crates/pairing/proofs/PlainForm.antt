@@ -13,13 +13,14 @@ use Rattle.rules.specs.Rules.{Rule}
 use Rattle.rules.specs.Renumbering.{Within}
 use Rattle.rules.specs.Preferred.{ofClass}
 use Rattle.rules.proofs.Booleans.{T-not-out, eq→eqb}
-use Rattle.rules.proofs.Lists.{all-imp, all-both, all-zip, all-map, app-iff, map-iff, length-from, distinct-map}
+use Rattle.rules.proofs.Lists.{all-imp, all-both, all-zip, all-map, app-iff, map-iff, length-from, distinct-from, distinct-map}
 use Rattle.stores.specs.Program.{Program, ProgramForm, ListForm, RuleForm}
 use Rattle.pairing.specs.Atoms.{Atom, original, N, S, D, E, U, originals, classWord, fixed?, unfixed?, minimised?, unminimised?, declared, atomNumber}
 use Rattle.pairing.specs.Steps.{step1, step2, step3, step4, step5, step6, step7, step8, step9, step10, translation}
 use Rattle.pairing.specs.Translated.{translated, translatedRules, numbers}
 use Rattle.pairing.proofs.Quantified.{Each·simp}
-use Rattle.pairing.proofs.ListLaws.{all-each, distinct-filter, distinct-from, distinct-inj, distinct-map-app, NoImage}
+use Rattle.rules.proofs.Filtered.{distinct-filter}
+use Rattle.rules.proofs.ListLaws.{all-each, distinct-inj, distinct-map-app, NoImage}
 use Rattle.pairing.proofs.SumLaws.{length-parts}
 use Rattle.pairing.proofs.Fit.{Fit, Inside, fit-of}
 use Rattle.pairing.proofs.Numbering.{order, known}

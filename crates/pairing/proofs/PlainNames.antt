@@ -14,7 +14,7 @@ use Rattle.kinds.specs.Words.{digits, decimal}
 use Rattle.kinds.specs.declared.limits.Kind.the-variants.{Plain, Preference}
 use Rattle.rules.specs.Lists.{All, Distinct, from}
 use Rattle.rules.proofs.Booleans.{T-not-out, eq→eqb}
-use Rattle.rules.proofs.Lists.{all-imp, all-app, all-map, all-from, app-iff, every-from}
+use Rattle.rules.proofs.Lists.{all-imp, all-app, all-map, all-from, app-iff, every-from, distinct-from}
 use Rattle.stores.specs.Program.{Program, ProgramForm}
 use Rattle.names.specs.Names.{firstByte?, house?, classNumber?, nameClass, byLength, dotted, generated, takes, allowed}
 use Rattle.name_store.specs.NameStore.{NamesForm}
@@ -23,7 +23,7 @@ use Rattle.names.specs.declared.forms.NameClass.the-variants.{House, Generated,
 use Rattle.pairing.specs.Atoms.{unfixedAtoms, minimisedAtoms, declared, nameOf}
 use Rattle.pairing.specs.Translated.{translated, translatedNames}
 use Rattle.pairing.specs.Loops.{dot, loopedNames}
-use Rattle.pairing.proofs.ListLaws.{all-each, all-take, distinct-app, distinct-take, distinct-from, distinct-map-app, NoImage}
+use Rattle.rules.proofs.ListLaws.{all-each, all-take, distinct-app, distinct-take, distinct-map-app, NoImage}
 use Rattle.pairing.proofs.Fit.{fit-of}
 use Rattle.pairing.proofs.Looped.{looped-names}
 use Rattle.pairing.proofs.Decimals.{short, shorts}

@@ -19,7 +19,7 @@ use Rattle.rules.proofs.Lacking.{lacking-beats}
 use Rattle.stores.specs.Program.{Program}
 use Rattle.pairing.specs.Atoms.{Atom, original, N, S, D, E, U, classWord, minimised?, unminimised?, fixed?, unfixed?, declared}
 use Rattle.pairing.specs.Steps.{translation}
-use Rattle.pairing.proofs.ListLaws.{all-each}
+use Rattle.rules.proofs.ListLaws.{all-each}
 use Rattle.pairing.proofs.Fit.{Fit, Minimised, Inside, minimised-unfixed}
 use Rattle.pairing.proofs.Asked.{Kept, Copied, Steps, to-steps, of-steps}
 use Rattle.pairing.proofs.Numbering.{Declared, to-declared, of-declared}

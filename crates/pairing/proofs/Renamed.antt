@@ -15,7 +15,7 @@ use Rattle.rules.proofs.Lists.{all-imp, all-zip, any-zip, all-map, map-all, any
 use Rattle.rules.proofs.Sets.{same-set, has-below}
 use Rattle.rules.proofs.Rules.{Asks, model→asks, asks→model, reduct→asks, asks→reduct}
 use Rattle.rules.proofs.Stable.{proper-lt}
-use Rattle.pairing.proofs.ListLaws.{all-each}
+use Rattle.rules.proofs.ListLaws.{all-each}
 use Rattle.pairing.proofs.NumberedSets.{to-numbers, setOf, set-lt, set-has}
 
 module _ {A : Type 0} (x y : A → Bool) where

@@ -12,7 +12,7 @@ use Rattle.rules.specs.Lists.{keep, filter, flat, from, sum}
 use Rattle.rules.proofs.Booleans.{eq→eqb}
 use Rattle.rules.proofs.Sets.{digit}
 use Rattle.rules.proofs.Lists.{sum-app, sum-eq}
-use Rattle.pairing.proofs.ListLaws.{all-each}
+use Rattle.rules.proofs.ListLaws.{all-each}
 
 module _ {A : Type 0} where
   pub sum-add : (f g : A → ℕ) (l : List A) → sum (λ a. f a + g a) l ≡ sum f l + sum g l

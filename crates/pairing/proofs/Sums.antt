@@ -10,17 +10,18 @@ use lib.ListN.{length, length-append, length-map}
 use Rattle.kinds.specs.Limits.{classLimit, varying, fixed}
 use Rattle.kinds.specs.declared.limits.Kind.the-variants.{Preference}
 use Rattle.rules.specs.Lists.{filter, from, sum}
-use Rattle.rules.specs.Rules.{Rule, occurrences, rename}
+use Rattle.rules.specs.Rules.{occurrences}
 use Rattle.rules.specs.Preferred.{ofClass}
 use Rattle.rules.proofs.Booleans.{eq→eqb}
 use Rattle.rules.proofs.Lists.{all-imp, all-from, length-from, sum-app, sum-eq, sum-twice}
 use Rattle.rules.proofs.MappedLists.{sum-map}
+use Rattle.rules.proofs.Rules.{rename-occurrences}
 use Rattle.rules.proofs.Sets.{digit}
 use Rattle.stores.specs.Program.{Program, ProgramForm}
-use Rattle.pairing.specs.Atoms.{Atom, original, S, originals, classWord, minimised?, unminimised?, varying?, fixed?, unfixed?, minimisedAtoms, fixedAtoms, unfixedAtoms, atomNumber}
+use Rattle.pairing.specs.Atoms.{original, S, originals, classWord, minimised?, unminimised?, varying?, fixed?, unfixed?, minimisedAtoms, fixedAtoms, unfixedAtoms, atomNumber}
 use Rattle.pairing.specs.Steps.{step1, step2, step3, step4, step5, step6, step7, step8, step9, step10, translation}
 use Rattle.pairing.specs.Translated.{translated, translatedRules, numbers, atomsSum, rulesSum, occurrencesSum}
-use Rattle.pairing.proofs.ListLaws.{all-each}
+use Rattle.rules.proofs.ListLaws.{all-each}
 use Rattle.pairing.proofs.SumLaws.{sum-add, sum-const, sum-flat, sum-swap, length-flat, length-filter, length-parts, length-keep, sum-keep, digit-same, digit-other, met, met-not, met-once}
 use Rattle.pairing.proofs.Fit.{Fit, Minimised, Inside, fit-of}
 use Rattle.pairing.proofs.Numbering.{count}
@@ -181,9 +182,6 @@ module _ (p : Program) where
     unfolding translation
     places-all = simp (sum-app, places1, places2, places3, places4, places5, places6, places7, places8, places9, places10)
 
-rename-places : (num : Atom → ℕ) (l : List (Rule Atom)) → sum occurrences (map (rename num) l) ≡ sum occurrences l
-rename-places num l = simp sum-map (sum-eq _ occurrences l (all-each _ (λ q. simp length-map) l))
-
 module _ (p : Program) (kind : p .kind ≡ Preference) (form : ProgramForm p) where
   pub atoms-sum : translated p .atoms ≡ atomsSum (numbers p)
   unfolding numbers
@@ -195,7 +193,7 @@ module _ (p : Program) (kind : p .kind ≡ Preference) (form : ProgramForm p) wh
 
   pub occurrences-sum : sum occurrences (translated p .rules) ≡ occurrencesSum (numbers p)
   unfolding numbers translatedRules
-  occurrences-sum = rename-places (atomNumber p) (translation p) ∙ omega (arith, places-all p (fit-of p kind form), parts p, others p)
+  occurrences-sum = rename-occurrences (atomNumber p) (translation p) ∙ omega (arith, places-all p (fit-of p kind form), parts p, others p)
 
   -- n counts all three
   pub atoms-three : numbers p .n ≡ numbers p .p + numbers p .v + numbers p .f

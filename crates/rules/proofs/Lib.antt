@@ -1,6 +1,8 @@
 -- The laws of the theory.
 pub mod Booleans
 pub mod Lists
+pub mod Filtered
+pub mod ListLaws
 pub mod MappedLists
 pub mod Sets
 pub mod Rules

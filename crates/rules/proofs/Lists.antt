@@ -268,6 +268,23 @@ all-at P d [] h i l = absurd (omega arith)
 all-at P d (x ∷ xs) h zero l = h .0
 all-at P d (x ∷ xs) h (suc i) l = all-at P d xs (h .1) i (omega arith)
 
+pub map-at : {A B : Type 0} (f : A → B) (l : List A) (i : ℕ) (d : A) (e : B) → i < length l → getD (map f l) i e ≡ f (getD l i d)
+map-at f [] i d e h = absurd (omega arith)
+map-at f (x ∷ l) zero d e h = refl
+map-at f (x ∷ l) (suc i) d e h = map-at f l i d e (omega arith)
+
+-- each entry that passes a test makes it pass somewhere
+pub some-each : {A B : Type 0} (p : B → A → Bool) (l : List A) → All (λ x. (b : B) → T (p b x) → T (some (p b) l)) l
+some-each p [] = tt
+some-each {B} p (x ∷ l) = (
+  λ b t. T-or (p b x) (some (p b) l) (inl t),
+  all-imp (λ y. (b : B) → T (p b y) → T (some (p b) l)) _ (λ y h b t. T-or (p b x) (some (p b) l) (inr (h b t))) l (some-each p l),
+)
+
+pub distinct-from : (s c : ℕ) → Distinct (from s c)
+distinct-from s zero = tt
+distinct-from s (suc c) = (all-from (λ y. s ≢ y) (suc s) c (λ a l u. omega arith), distinct-from (suc s) c)
+
 -- f tells the entries of l apart
 pub distinct-map : {A B : Type 0} (f : A → B) (P : A → Type 0) → ((a b : A) → P a → P b → f a ≡ f b → a ≡ b) → (l : List A) → All P l → Distinct l → Distinct (map f l)
 distinct-map f P i [] h d = tt

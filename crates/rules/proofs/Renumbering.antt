@@ -1,13 +1,14 @@
 -- Renumbering the atoms, class words and rules alike, keeps the preferred sets, both ways.
-use Prim.Native.Nat.{ℕ, _^_, _<_}
+use Prim.Native.Nat.{ℕ, _^_, _≤_, _<_}
 use mathlib.Core.Path.{_≡_, refl, sym, ap, ap₂, subst, _∙_}
 use mathlib.Core.List.{List, [], _∷_, map}
 use mathlib.Core.Bool.{Bool, not, _&&_, _||_}
-use mathlib.Core.Logic.{_↔_}
+use mathlib.Core.Logic.{_⊎_, inl, inr, _↔_}
 use native.Mathlib.Omega.{arith}
 use lib.ListN.{length, getD, length-map}
+use Rattle.kinds.specs.Limits.{classLimit, fixed}
 use Rattle.rules.specs.Lists.{All, every, some, from}
-use Rattle.rules.specs.Sets.{has, Agree}
+use Rattle.rules.specs.Sets.{has, In, Out, Agree}
 use Rattle.rules.specs.Rules.{Rule, Model, holds?, model?, firstBroken, countIf, rename}
 use Rattle.rules.specs.Preferred.{OfClass, Beats, Preferred}
 use Rattle.rules.specs.CutClass.{CutClass}
@@ -28,30 +29,68 @@ words-renumbered f g ws k = record {
 
 -- rules
 
-module _ (f : ℕ → ℕ) (n s s′ : ℕ) (same : SameAtoms f n s s′) where
-  every-moved : (xs : List ℕ) → All (λ a. a < n) xs → every (has s′) (map f xs) ≡ every (has s) xs
-  every-moved xs h = every-map f (has s′) (has s) xs (all-imp (λ a. a < n) _ same xs h)
+-- s′ has, by their new numbers, the atoms that are Q as s has them
+module _ (f : ℕ → ℕ) (Q : ℕ → Type 0) (s s′ : ℕ) (same : (a : ℕ) → Q a → has s′ (f a) ≡ has s a) where
+  every-moved : (xs : List ℕ) → All Q xs → every (has s′) (map f xs) ≡ every (has s) xs
+  every-moved xs h = every-map f (has s′) (has s) xs (all-imp Q _ same xs h)
 
-  some-moved : (xs : List ℕ) → All (λ a. a < n) xs → some (has s′) (map f xs) ≡ some (has s) xs
-  some-moved xs h = some-map f (has s′) (has s) xs (all-imp (λ a. a < n) _ same xs h)
+  some-moved : (xs : List ℕ) → All Q xs → some (has s′) (map f xs) ≡ some (has s) xs
+  some-moved xs h = some-map f (has s′) (has s) xs (all-imp Q _ same xs h)
 
-  holds-moved : (r : Rule ℕ) → Within (λ a. a < n) r → holds? (has s′) (rename f r) ≡ holds? (has s) r
+  holds-moved : (r : Rule ℕ) → Within Q r → holds? (has s′) (rename f r) ≡ holds? (has s) r
   holds-moved r h = ap₂ (λ (x y : Bool). not x || y) (ap₂ (λ (x y : Bool). x && not y) (every-moved (r .body) (h .body)) (some-moved (r .nots) (h .nots))) (some-moved (r .head) (h .head))
 
-  model-moved : (rs : List (Rule ℕ)) → All (Within (λ a. a < n)) rs → model? (map (rename f) rs) (has s′) ≡ model? rs (has s)
-  model-moved rs h = every-map (rename f) (holds? (has s′)) (holds? (has s)) rs (all-imp (Within (λ a. a < n)) _ holds-moved rs h)
+  model-moved : (rs : List (Rule ℕ)) → All (Within Q) rs → model? (map (rename f) rs) (has s′) ≡ model? rs (has s)
+  model-moved rs h = every-map (rename f) (holds? (has s′)) (holds? (has s)) rs (all-imp (Within Q) _ holds-moved rs h)
 
-  pub first-moved : (rs : List (Rule ℕ)) → All (Within (λ a. a < n)) rs → firstBroken (map (rename f) rs) (has s′) ≡ firstBroken rs (has s)
+  pub first-moved : (rs : List (Rule ℕ)) → All (Within Q) rs → firstBroken (map (rename f) rs) (has s′) ≡ firstBroken rs (has s)
   first-moved [] h = refl
   first-moved (r ∷ rs) h = ap₂ countIf (holds-moved r (h .0)) (first-moved rs (h .1))
 
-  model-renumbered : (rs : List (Rule ℕ)) → All (Within (λ a. a < n)) rs → Model rs (has s) ↔ Model (map (rename f) rs) (has s′)
+  pub model-renumbered : (rs : List (Rule ℕ)) → All (Within Q) rs → Model rs (has s) ↔ Model (map (rename f) rs) (has s′)
   model-renumbered rs h = (
     λ m. model-law (map (rename f) rs) (has s′) .0 (T-of (sym (model-moved rs h)) (model-law rs (has s) .1 m)),
     λ m. model-law rs (has s) .0 (T-of (model-moved rs h) (model-law (map (rename f) rs) (has s′) .1 m)),
   )
 
 -- sets
+
+-- s′ beats m′ over ws′ as s beats m over ws
+module _ (ws ws′ : List ℕ) (s m s′ m′ : ℕ) where
+  -- s′ and m′ have atom i as s and m have an atom of the same class word, or both alike
+  abbrev pub Like : ℕ → ℕ → Type 0
+  Like j i = ((a : ℕ) × OfClass ws j a × (has s′ i ≡ has s a) × (has m′ i ≡ has m a)) ⊎ (has s′ i ≡ has m′ i)
+
+  module _ (rs rs′ : List (Rule ℕ)) (like : (j i : ℕ) → OfClass ws′ j i → Like j i) where
+    agree : (j : ℕ) → Agree (OfClass ws j) s m → Agree (OfClass ws′ j) s′ m′
+    agree j h i c = step (like j i c)
+      where
+        step : Like j i → In (has s′) i ↔ In (has m′) i
+        step (inl q) =
+            let k = h (q .0) (q .1) in
+            (λ t. T-of (sym (q .3)) (k .0 (T-of (q .2) t)), λ t. T-of (sym (q .2)) (k .1 (T-of (q .3) t)))
+        step (inr e) = (T-of e, T-of (sym e))
+
+    part : (j : ℕ) → ((a : ℕ) → OfClass ws j a → In (has s) a → In (has m) a) → (i : ℕ) → OfClass ws′ j i → In (has s′) i → In (has m′) i
+    part j h i c t = step (like j i c)
+      where
+        step : Like j i → In (has m′) i
+        step (inl q) = T-of (sym (q .3)) (h (q .0) (q .1) (T-of (q .2) t))
+        step (inr e) = T-of e t
+
+    pub beats-moved : ((j a : ℕ) → 1 ≤ j → j ≤ classLimit → OfClass ws j a → In (has m) a → Out (has s) a → (i : ℕ) × OfClass ws′ j i × In (has m′) i × Out (has s′) i)
+        → Model rs′ (has s′) → Beats ws rs s m → Beats ws′ rs′ s′ m′
+    beats-moved lacks model b =
+        let q = b .proper in
+        record {
+          model = model;
+          agrees = agree fixed (b .agrees);
+          class = b .class;
+          is-class = b .is-class;
+          earlier = λ j l u. agree j (b .earlier j l u);
+          subset = part (b .class) (b .subset);
+          proper = lacks (b .class) (q .0) (b .is-class .0) (b .is-class .1) (q .1) (q .2) (q .3);
+        }
 
 module _ (f g : ℕ → ℕ) (ws ws′ : List ℕ) (k : Renumbered f g ws ws′) where
   abbrev n : ℕ
@@ -92,30 +131,15 @@ module _ (f g : ℕ → ℕ) (ws ws′ : List ℕ) (k : Renumbered f g ws ws′)
   of-class j a c = (k .bijection .back a (inside a (c .0)), turned .words a (c .0) ∙ c .1)
 
   module _ (s s′ m m′ : ℕ) (same-s : SameAtoms f n s s′) (same-m : SameAtoms f n m m′) where
-    agree : (j : ℕ) → Agree (OfClass ws j) s m → Agree (OfClass ws′ j) s′ m′
-    agree j h a c =
-        let e = atoms-turned s s′ same-s a (c .0) in
-        let d = atoms-turned m m′ same-m a (c .0) in
-        let i = h (g a) (of-class j a c) in
-        (λ t. T-of d (i .0 (T-of (sym e) t)), λ t. T-of e (i .1 (T-of (sym d) t)))
-
     beats-renumbered : (rs rs′ : List (Rule ℕ)) → Model rs′ (has s′) → Beats ws rs s m → Beats ws′ rs′ s′ m′
-    beats-renumbered rs rs′ model b =
-        let q = b .proper in
-        record {
-          model = model;
-          agrees = agree _ (b .agrees);
-          class = b .class;
-          is-class = b .is-class;
-          earlier = λ j l u. agree j (b .earlier j l u);
-          subset = λ a c t. T-of (atoms-turned m m′ same-m a (c .0)) (b .subset (g a) (of-class (b .class) a c) (T-of (sym (atoms-turned s s′ same-s a (c .0))) t));
-          proper = (
-            f (q .0),
-            (outside (f (q .0)) (k .bijection .there (q .0) (q .1 .0)), k .words (q .0) (q .1 .0) ∙ q .1 .1),
-            T-of (sym (same-m (q .0) (q .1 .0))) (q .2),
-            λ t. q .3 (T-of (same-s (q .0) (q .1 .0)) t),
-          );
-        }
+    beats-renumbered rs rs′ = beats-moved ws ws′ s m s′ m′ rs rs′
+        (λ j a c. inl (g a, of-class j a c, sym (atoms-turned s s′ same-s a (c .0)), sym (atoms-turned m m′ same-m a (c .0))))
+        (λ j a l u c h o. (
+          f a,
+          (outside (f a) (k .bijection .there a (c .0)), k .words a (c .0) ∙ c .1),
+          T-of (sym (same-m a (c .0))) h,
+          λ t. o (T-of (same-s a (c .0)) t),
+        ))
 
 -- one way, for any rules that have the same models
 module _ (f g : ℕ → ℕ) (ws ws′ : List ℕ) (k : Renumbered f g ws ws′) (rs rs′ : List (Rule ℕ)) where
@@ -133,8 +157,8 @@ module _ (f g : ℕ → ℕ) (ws ws′ : List ℕ) (k : Renumbered f g ws ws′)
 module _ (f g : ℕ → ℕ) (ws ws′ : List ℕ) (k : Renumbered f g ws ws′) (rs : List (Rule ℕ)) (below : All (Within (λ a. a < length ws)) rs) where
   pub preferred-renumbered : SamePreferred f ws ws′ rs
   preferred-renumbered m m′ same = (
-    preferred-moved f g ws ws′ k rs (map (rename f) rs) (λ s s′ h. model-renumbered f (length ws) s s′ h rs below) m m′ same,
-    preferred-moved g f ws′ ws back (map (rename f) rs) rs (λ s′ s h. let i = model-renumbered f (length ws) s s′ (atoms-turned g f ws′ ws back s′ s h) rs below in (i .1, i .0)) m′ m (atoms-turned f g ws ws′ k m m′ same),
+    preferred-moved f g ws ws′ k rs (map (rename f) rs) (λ s s′ h. model-renumbered f (λ a. a < length ws) s s′ h rs below) m m′ same,
+    preferred-moved g f ws′ ws back (map (rename f) rs) rs (λ s′ s h. let i = model-renumbered f (λ a. a < length ws) s s′ (atoms-turned g f ws′ ws back s′ s h) rs below in (i .1, i .0)) m′ m (atoms-turned f g ws ws′ k m m′ same),
   )
     where
       back : Renumbered g f ws′ ws

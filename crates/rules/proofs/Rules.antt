@@ -1,17 +1,19 @@
 -- The tests of rules and models are their definitions; the first broken rule; what the reduct asks.
 use Prim.Native.Nat.{ℕ, zero, suc, _≤_, _<_}
 use mathlib.Core.Path.{_≡_, refl, ap}
-use mathlib.Core.List.{List, [], _∷_}
+use mathlib.Core.List.{List, [], _∷_, map}
 use mathlib.Core.Bool.{Bool, true, false, not, _&&_, _||_}
 use mathlib.Core.Logic.{_↔_}
 use native.Mathlib.Omega.{arith}
 use lib.Dec.{T}
-use lib.ListN.{length}
-use Rattle.rules.specs.Lists.{All, Any, every, some}
+use lib.ListN.{length, length-map}
+use Rattle.rules.specs.Lists.{All, Any, every, some, sum}
 use Rattle.rules.specs.Sets.{In, Out}
-use Rattle.rules.specs.Rules.{Rule, rule, Holds, Model, FirstBroken, reduct, holds?, model?, countIf, firstBroken}
+use Rattle.rules.specs.Rules.{Rule, rule, occurrences, Holds, Model, FirstBroken, reduct, holds?, model?, countIf, firstBroken, rename}
 use Rattle.rules.proofs.Booleans.{T-and, T-and-l, T-and-r, T-imp, T-imp-out}
-use Rattle.rules.proofs.Lists.{every-all, some-any, all-imp, all-keep, keep-all-head, keep-all-tail}
+use Rattle.rules.proofs.Lists.{every-all, some-any, all-imp, all-keep, keep-all-head, keep-all-tail, sum-eq}
+use Rattle.rules.proofs.ListLaws.{all-each}
+use Rattle.rules.proofs.MappedLists.{sum-map}
 
 module _ {A : Type 0} where
   pub all-in : (m : A → Bool) (l : List A) → T (every m l) ↔ All (In m) l
@@ -113,3 +115,7 @@ module _ {A : Type 0} where
   -- the reduct by m and the program agree at m
   pub reduct-agrees : (rs : List (Rule A)) (m : A → Bool) → Model (reduct rs m) m ↔ Model rs m
   reduct-agrees rs m = (λ h. asks→model rs m (reduct→asks rs m m h), λ h. asks→reduct rs m m (model→asks rs m h))
+
+-- other atoms, the same occurrences
+pub rename-occurrences : {A B : Type 0} (f : A → B) (rs : List (Rule A)) → sum occurrences (map (rename f) rs) ≡ sum occurrences rs
+rename-occurrences f rs = simp sum-map (sum-eq _ occurrences rs (all-each _ (λ r. simp length-map) rs))

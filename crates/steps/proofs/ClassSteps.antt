@@ -11,7 +11,7 @@ use Rattle.rules.specs.Rules.{countIf}
 use Rattle.rules.specs.Preferred.{ofClass}
 use Rattle.rules.proofs.Lists.{length-from}
 use Rattle.stores.specs.Program.{NeverFalling}
-use Rattle.pairing.proofs.ListLaws.{shifted}
+use Rattle.rules.proofs.ListLaws.{shifted}
 use Rattle.text.specs.ClassRuns.{upTo}
 use Rattle.output.specs.Emitted.{Emitted, InRange}
 use Rattle.text.proofs.ClassWords.{up-to-le, up-to-rises, class-run}

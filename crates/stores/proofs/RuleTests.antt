@@ -195,3 +195,10 @@ pub rising-from : (b : ℕ) (ws : List ℕ) → NeverFalling b ws → (i : ℕ) 
 rising-from b [] r i l = absurd (omega arith)
 rising-from b (x ∷ ws) r zero l = r .0
 rising-from b (x ∷ ws) r (suc i) l = omega (arith, rising-from x ws (r .1) i (omega arith), r .0)
+
+pub rising-at : (b : ℕ) (ws : List ℕ) → NeverFalling b ws → (i j : ℕ) → i < j → j < length ws → getD ws i 0 ≤ getD ws j 0
+rising-at b [] h i j m u = absurd (omega arith)
+rising-at b (x ∷ ws) h zero zero m u = absurd (omega arith)
+rising-at b (x ∷ ws) h zero (suc j) m u = rising-from x ws (h .1) j (omega arith)
+rising-at b (x ∷ ws) h (suc i) zero m u = absurd (omega arith)
+rising-at b (x ∷ ws) h (suc i) (suc j) m u = rising-at x ws (h .1) i j (omega arith) (omega arith)

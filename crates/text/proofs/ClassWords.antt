@@ -12,17 +12,10 @@ use Rattle.rules.specs.Lists.{keep, filter, from}
 use Rattle.rules.specs.Rules.{countIf}
 use Rattle.rules.specs.Preferred.{ofClass}
 use Rattle.rules.proofs.Lists.{from-append}
+use Rattle.rules.proofs.Filtered.{filter-app}
 use Rattle.stores.specs.Program.{NeverFalling}
 use Rattle.stores.proofs.RuleTests.{rising-from}
 use Rattle.text.specs.ClassRuns.{upTo}
-
-filter-append : (p : ℕ → Bool) (xs ys : List ℕ) → filter p (xs ++ ys) ≡ filter p xs ++ filter p ys
-filter-append p [] ys = refl
-filter-append p (x ∷ xs) ys = go (p x) (filter-append p xs ys)
-  where
-    go : (b : Bool) → filter p (xs ++ ys) ≡ filter p xs ++ filter p ys → keep b x (filter p (xs ++ ys)) ≡ keep b x (filter p xs) ++ filter p ys
-    go true e = ap (λ (l : List ℕ). x ∷ l) e
-    go false e = e
 
 module _ (p : ℕ → Bool) where
   filter-none : (s c : ℕ) → ((a : ℕ) → s ≤ a → a < s + c → p a ≡ false) → filter p (from s c) ≡ []
@@ -48,9 +41,9 @@ module _ (p : ℕ → Bool) where
       let y : a + (b - a) ≡ b = omega arith in
       ap (λ (k : ℕ). filter p (from 0 k)) e
       ∙ ap (filter p) (sym (from-append 0 a (b - a + (n - b))) ∙ ap (λ (k : ℕ). from 0 a ++ from k (b - a + (n - b))) z)
-      ∙ filter-append p (from 0 a) (from a (b - a + (n - b)))
+      ∙ filter-app p (from 0 a) (from a (b - a + (n - b)))
       ∙ ap₂ (λ (x : List ℕ) (q : List ℕ). x ++ filter p q) (filter-none 0 a (λ i k m. before i (omega arith))) (sym (from-append a (b - a) (n - b)) ∙ ap (λ (k : ℕ). from a (b - a) ++ from k (n - b)) y)
-      ∙ filter-append p (from a (b - a)) (from b (n - b))
+      ∙ filter-app p (from a (b - a)) (from b (n - b))
       ∙ ap₂ (λ (x z : List ℕ). x ++ z) (filter-every a (b - a) (λ i k m. inside i k (omega arith))) (filter-none b (n - b) (λ i k m. after i k (omega arith)))
       ∙ append-nil (from a (b - a))
 

@@ -3,7 +3,6 @@ use Prim.Native.Nat.{ℕ, zero, suc, _+_, _*_, _≤_}
 use native.Mathlib.Omega.{arith}
 use native.Mathlib.Nat.{mul-le-mul}
 use mathlib.Core.Path.{_≡_}
-use mathlib.Core.Bool.{Bool, true, false}
 use mathlib.Core.List.{List, [], _∷_, _++_}
 use lib.Dec.{T, eqb}
 use lib.ListN.{length, getD, length-append, length-map}
@@ -11,10 +10,11 @@ use Rattle.kinds.specs.Sizes.{longestName, longestEntry}
 use Rattle.kinds.specs.Limits.{atomLimit, ruleLimit, occurrenceLimit, classLimit, textLimit, varying, fixed}
 use Rattle.kinds.specs.declared.limits.Kind.{Kind}
 use Rattle.kinds.specs.declared.limits.Kind.the-variants.{Plain, Preference}
-use Rattle.rules.specs.Lists.{All, keep, filter, sum, flat, from}
+use Rattle.rules.specs.Lists.{All, sum, flat, from}
 use Rattle.rules.specs.Rules.{Rule, occurrences}
 use Rattle.rules.specs.Preferred.{ofClass}
 use Rattle.rules.proofs.Lists.{all-imp, length-from}
+use Rattle.rules.proofs.Filtered.{filter-length}
 use Rattle.stores.specs.Program.{Program, ClassesForm, ProgramForm}
 use Rattle.names.specs.Names.{allowed}
 use Rattle.name_store.specs.NameStore.{NamesForm}
@@ -50,14 +50,6 @@ module _ (names : List (List ℕ)) (short : Short names) where
   rules-length : (rs : List (Rule ℕ)) → length (flat (ruleText names) rs) ≤ 27 * length rs + longestEntry * sum occurrences rs
   rules-length [] = omega arith
   rules-length (r ∷ rs) = omega (arith, length-append (ruleText names r) (flat (ruleText names) rs), rule-length r, rules-length rs)
-
-filter-length : (p : ℕ → Bool) (xs : List ℕ) → length (filter p xs) ≤ length xs
-filter-length p [] = omega arith
-filter-length p (x ∷ xs) = go (p x) (filter-length p xs)
-  where
-    go : (b : Bool) → length (filter p xs) ≤ length xs → length (keep b x (filter p xs)) ≤ suc (length xs)
-    go true h = omega arith
-    go false h = omega arith
 
 class-length : (ws : List ℕ) (w : ℕ) → length (ofClass ws w) ≤ length ws
 class-length ws w = omega (arith, filter-length (λ a. eqb (getD ws a 0) w) (from 0 (length ws)), length-from 0 (length ws))

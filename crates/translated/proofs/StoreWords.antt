@@ -8,7 +8,7 @@ use Rattle.rules.specs.Lists.{flat, from}
 use Rattle.rules.specs.Rules.{Rule}
 use Rattle.stores.specs.RuleStore.{ruleWords}
 use Rattle.pairing.specs.Loops.{loop1, loop2, loop3, loop4, loop5, loop6, loop789, loop10}
-use Rattle.pairing.proofs.ListLaws.{shifted}
+use Rattle.rules.proofs.ListLaws.{shifted}
 use Rattle.output.proofs.Emitting.{Ahead}
 use Rattle.steps.specs.declared.offsets.Offsets.{Offsets}
 use Rattle.atom_lists.specs.ListWords.{each}

@@ -19,7 +19,7 @@ use Rattle.rules.proofs.Stable.{subset-law}
 use Rattle.choices.specs.Choices.{Choice, closed?, visited, final?, isSet?, fits?}
 use Rattle.choices.proofs.Closing.{closed-out}
 use Rattle.choices.proofs.Finals.{finals-tested}
-use Rattle.choices.proofs.Filtered.{filter-and, filter-same}
+use Rattle.rules.proofs.Filtered.{filter-and, filter-same}
 use Rattle.walks.specs.Order.{walkOrder}
 use Rattle.walks.specs.Walk.{preferredCourse, stableCourse, finalAnd?, preferredWalk, stableWalk, search, preferredNeeds, stableNeeds}
 use Rattle.walks.specs.FullWalk.{agreeing, proper?, properSubsets, fullPreferredNeeds, fullStableNeeds, bare}

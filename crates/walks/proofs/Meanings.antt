@@ -18,7 +18,7 @@ use Rattle.rules.proofs.Rules.{model-law}
 use Rattle.rules.proofs.Preferred.{beats-law}
 use Rattle.places.specs.Places.{Earlier}
 use Rattle.choices.specs.Choices.{Choice, choice, final?}
-use Rattle.choices.proofs.Filtered.{filter-none}
+use Rattle.rules.proofs.Filtered.{filter-none}
 use Rattle.walks.specs.Order.{walkOrder}
 use Rattle.walks.specs.Walk.{finalAnd?, capped, preferredWalk, stableWalk, preferredNeeds, stableNeeds, preferredVerdict, stableVerdict}
 use Rattle.walks.specs.FullWalk.{agreeing, properSubsets, fullPreferredNeeds, fullStableNeeds, bare}

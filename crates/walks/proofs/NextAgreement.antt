@@ -17,7 +17,7 @@ use Rattle.rules.proofs.Rules.{model-law}
 use Rattle.places.specs.Places.{place, setAt}
 use Rattle.places.proofs.Places.{by-place}
 use Rattle.choices.specs.Choices.{Choice, choice, visited, final?, before?, fits?}
-use Rattle.choices.proofs.Filtered.{filter-none, filter-every, filter-app, filter-and, filter-same}
+use Rattle.rules.proofs.Filtered.{filter-none, filter-every, filter-app, filter-and, filter-same}
 use Rattle.choices.proofs.Starts.{before-final}
 use Rattle.walks.specs.Order.{walkOrder}
 use Rattle.walks.specs.Walk.{freeCourse, finalAnd?, candidates, preferredNeeds, after, firstState, nextNeeds}

@@ -1,20 +1,20 @@
 -- The laws of the order of the walks: each set of n atoms once, earlier ones first; and of any other order, what every walk needs.
 use Prim.Native.Nat.{ℕ, zero, suc, _+_, _-_, _^_, _≤_, _<_}
 use mathlib.Core.Path.{_≡_, refl, sym, ap, ap₂, _∙_, subst}
-use mathlib.Core.Logic.{_↔_, inl, inr, _≢_}
+use mathlib.Core.Logic.{_↔_, inl, inr}
 use mathlib.Core.Bool.{Bool, true, false, not}
 use mathlib.Core.List.{List, [], _∷_, map}
 use native.Mathlib.Omega.{arith}
 use lib.Dec.{T, eqb, eqb→eq}
 use lib.ListN.{length, getD, drop, length-map}
-use Rattle.rules.specs.Lists.{All, Any, Distinct, keep, filter, from}
+use Rattle.rules.specs.Lists.{All, Any, keep, filter, from}
 use Rattle.rules.specs.Sets.{ProperSubset, Agree}
 use Rattle.rules.specs.Stable.{subset?}
 use Rattle.kinds.specs.Limits.{fixed}
 use Rattle.rules.specs.Preferred.{OfClass, ofClass, agree?}
 use Rattle.rules.proofs.Booleans.{eq→eqb, T-and, T-and-l, T-and-r, T-not-in, T-not-out}
 use Rattle.rules.specs.Renumbering.{Bijection}
-use Rattle.rules.proofs.Lists.{all-from, from-all, any-from, all-imp, all-any, any-imp, any-filter, all-filter, filter-all, all-map, map-all, any-map, distinct-map, map-from-at, length-from}
+use Rattle.rules.proofs.Lists.{all-from, from-all, any-from, all-imp, all-any, any-imp, any-filter, all-filter, filter-all, all-map, map-all, any-map, distinct-map, map-from-at, length-from, distinct-from}
 use Rattle.rules.proofs.Stable.{subset-law, proper-lt}
 use Rattle.rules.proofs.Preferred.{agree-law}
 use Rattle.places.specs.Places.{Earlier, place, setAt}
@@ -22,10 +22,6 @@ use Rattle.places.proofs.Places.{by-place, in-places}
 use Rattle.walks.specs.Order.{walkOrder}
 use Rattle.walks.specs.FullWalk.{agreeing, proper?, properSubsets}
 use Rattle.walks.specs.Meanings.{EachSetOnce, Ordered, First}
-
-from-distinct : (s c : ℕ) → Distinct (from s c)
-from-distinct s zero = tt
-from-distinct s (suc c) = (all-from (λ y. s ≢ y) (suc s) c (λ a l u e. omega arith), from-distinct (suc s) c)
 
 drop-map : (f : ℕ → ℕ) (k : ℕ) (l : List ℕ) → drop k (map f l) ≡ map f (drop k l)
 drop-map f zero l = refl
@@ -54,7 +50,7 @@ module _ (n : ℕ) (at place : ℕ → ℕ) (b : Bijection (2 ^ n) at place) whe
 
   pub sets-once : EachSetOnce n setsBy
   sets-once = record {
-    once = distinct-map at (λ p. p < 2 ^ n) (λ p q l k e. sym (b .there-back p l) ∙ ap place e ∙ b .there-back q k) (from 0 (2 ^ n)) (all-from (λ p. p < 2 ^ n) 0 (2 ^ n) (λ p l u. omega arith)) (from-distinct 0 (2 ^ n));
+    once = distinct-map at (λ p. p < 2 ^ n) (λ p q l k e. sym (b .there-back p l) ∙ ap place e ∙ b .there-back q k) (from 0 (2 ^ n)) (all-from (λ p. p < 2 ^ n) 0 (2 ^ n) (λ p l u. omega arith)) (distinct-from 0 (2 ^ n));
     only = all-sets (λ s. s < 2 ^ n) .1 (λ s l. l);
     each = λ s l. any-map (λ x. x ≡ s) at (from 0 (2 ^ n)) (any-from (λ p. at p ≡ s) 0 (2 ^ n) (place s) (omega arith) (omega (arith, b .back s l)) (b .back-there s l));
   }

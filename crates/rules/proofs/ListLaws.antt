@@ -8,9 +8,10 @@ use mathlib.Core.Logic.{_≢_}
 use lib.Dec.{T, ltb, lt→ltb, ltb→lt}
 use lib.ListN.{length, getD, take, length-append}
 use lib.Seq.{getD-append-seam}
 use Rattle.rules.specs.Lists.{All, Any, Distinct, keep, filter, flat, from}
 use Rattle.rules.proofs.Booleans.{T-of, bool-ext}
+use Rattle.rules.proofs.Filtered.{filter-none}
 use Rattle.rules.proofs.Lists.{all-imp, all-app, all-filter, any-filter, all-map, all-from, from-all, any-from, from-any, distinct-map}
 
 -- following numbers
 
@@ -65,19 +66,7 @@ pub flat-same : {A B : Type 0} (f g : A → List B) (l : List A) → All (λ a. 
 flat-same f g [] h = refl
 flat-same {B} f g (x ∷ l) h = ap₂ (λ (y r : List B). y ++ r) (h .0) (flat-same f g l (h .1))
 
-pub filter-same : {A : Type 0} (t u : A → Bool) (l : List A) → All (λ a. t a ≡ u a) l → filter t l ≡ filter u l
-filter-same t u [] h = refl
-filter-same {A} t u (x ∷ l) h = ap₂ (λ (b : Bool) (r : List A). keep b x r) (h .0) (filter-same t u l (h .1))
-
 -- chosen entries
-
-filter-none : (t : ℕ → Bool) (l : List ℕ) → All (λ a. T (t a) → ⊥) l → filter t l ≡ []
-filter-none t [] h = refl
-filter-none t (a ∷ l) h = step (t a) (h .0) (filter-none t l (h .1))
-  where
-    step : (b : Bool) → (T b → ⊥) → filter t l ≡ [] → keep b a (filter t l) ≡ []
-    step true n e = absurd (n tt)
-    step false n e = e
 
 -- a test that holds below wherever it holds chooses a first part
 pub filter-first : (t : ℕ → Bool) (s c : ℕ) → ((a b : ℕ) → s ≤ a → a < b → b < s + c → T (t b) → T (t a)) → filter t (from s c) ≡ from s (length (filter t (from s c)))
@@ -114,14 +103,6 @@ module _ {A : Type 0} where
   distinct-app [] ys h k a = k
   distinct-app (x ∷ xs) ys h k a = (all-app (λ y. x ≢ y) xs ys (h .0) (a .0), distinct-app xs ys (h .1) k (a .1))
 
-  pub distinct-filter : (t : A → Bool) (l : List A) → Distinct l → Distinct (filter t l)
-  distinct-filter t [] h = tt
-  distinct-filter t (x ∷ l) h = step (t x) (distinct-filter t l (h .1))
-    where
-      step : (b : Bool) → Distinct (filter t l) → Distinct (keep b x (filter t l))
-      step true rest = (all-filter (λ y. x ≢ y) t l (all-imp (λ y. x ≢ y) (λ y. T (t y) → x ≢ y) (λ y q u. q) l (h .0)), rest)
-      step false rest = rest
-
   pub all-take : (P : A → Type 0) (n : ℕ) (l : List A) → All P l → All P (take n l)
   all-take P zero l h = tt
   all-take P (suc n) [] h = tt
@@ -131,10 +112,6 @@ module _ {A : Type 0} where
   distinct-take zero l h = tt
   distinct-take (suc n) [] h = tt
   distinct-take (suc n) (x ∷ l) h = (all-take (λ y. x ≢ y) n l (h .0), distinct-take n l (h .1))
-
-pub distinct-from : (s c : ℕ) → Distinct (from s c)
-distinct-from s zero = tt
-distinct-from s (suc c) = (all-from (λ y. s ≢ y) (suc s) c (λ a l u. omega arith), distinct-from (suc s) c)
 
 module _ {A B : Type 0} (f : A → B) where
   pub distinct-inj : ((a b : A) → f a ≡ f b → a ≡ b) → (l : List A) → Distinct l → Distinct (map f l)

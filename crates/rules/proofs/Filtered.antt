@@ -1,10 +1,15 @@
 -- What a test keeps of a list.
+use Prim.Native.Nat.{suc, _≤_}
 use mathlib.Core.Path.{_≡_, refl, ap, ap₂, _∙_}
 use mathlib.Core.Bool.{Bool, true, false, _&&_}
 use mathlib.Core.List.{List, [], _∷_, _++_}
+use mathlib.Core.Logic.{_≢_}
+use native.Mathlib.Omega.{arith}
 use lib.Dec.{T}
-use Rattle.rules.specs.Lists.{All, keep, filter}
+use lib.ListN.{length}
+use Rattle.rules.specs.Lists.{All, Distinct, keep, filter}
 use Rattle.rules.proofs.Booleans.{is-true, is-false}
+use Rattle.rules.proofs.Lists.{all-imp, all-filter}
 
 module _ {A : Type 0} (p : A → Bool) where
   pub filter-none : (l : List A) → All (λ x. T (p x) → ⊥) l → filter p l ≡ []
@@ -30,6 +35,31 @@ module _ {A : Type 0} (p : A → Bool) where
       step : (b : Bool) → filter (λ x. p x && q x) l ≡ filter q (filter p l) → keep (b && q x) x (filter (λ x. p x && q x) l) ≡ filter q (keep b x (filter p l))
       step true e = ap (keep (q x) x) e
       step false e = e
+
+  pub distinct-filter : (l : List A) → Distinct l → Distinct (filter p l)
+  distinct-filter [] h = tt
+  distinct-filter (x ∷ l) h = step (p x) (distinct-filter l (h .1))
+    where
+      step : (b : Bool) → Distinct (filter p l) → Distinct (keep b x (filter p l))
+      step true rest = (all-filter (λ y. x ≢ y) p l (all-imp (λ y. x ≢ y) (λ y. T (p y) → x ≢ y) (λ y q u. q) l (h .0)), rest)
+      step false rest = rest
+
+  pub filter-length : (l : List A) → length (filter p l) ≤ length l
+  filter-length [] = omega arith
+  filter-length (x ∷ l) = step (p x) (filter-length l)
+    where
+      step : (b : Bool) → length (filter p l) ≤ length l → length (keep b x (filter p l)) ≤ suc (length l)
+      step true h = omega arith
+      step false h = omega arith
+
+  -- if none is lost, all pass
+  pub filter-full : (l : List A) → length (filter p l) ≡ length l → All (λ x. T (p x)) l
+  filter-full [] e = tt
+  filter-full (x ∷ l) e = step (p x) (filter-full l) (filter-length l) e
+    where
+      step : (b : Bool) → (length (filter p l) ≡ length l → All (λ x. T (p x)) l) → length (filter p l) ≤ length l → length (keep b x (filter p l)) ≡ suc (length l) → T b × All (λ x. T (p x)) l
+      step true f h q = (tt, f (omega arith))
+      step false f h q = absurd (omega arith)
 
 pub filter-same : {A : Type 0} (p q : A → Bool) (l : List A) → All (λ x. p x ≡ q x) l → filter p l ≡ filter q l
 filter-same p q [] h = refl
