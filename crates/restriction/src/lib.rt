@@ -1,0 +1,1 @@
+// Definitions and laws of programs over some of their atoms; no code.
