@@ -66,6 +66,7 @@ fn other_states() {
     states(b"many_states.pref");
     states(b"plain.plain");
     states(b"atoms_61.pref");
+    states(b"unused.pref");
 }
 
 fn translations() {

@@ -1,18 +1,14 @@
 -- The gathered stores in the two lent outputs.
 use Prim.Native.Nat.{ℕ, _≤_, _<_}
 use native.Mathlib.Omega.{arith}
-use mathlib.Core.Path.{_≡_, refl, sym, ap, _∙_}
-use mathlib.Core.Bool.{Bool, true, false, _&&_}
+use mathlib.Core.Path.{_≡_, sym, ap, _∙_}
 use mathlib.Core.List.{List, [], _∷_, _++_}
-use lib.Dec.{leb}
 use lib.ListN.{length, take, drop}
-use lib.Seq.{sets, take-at}
-use borrow.Author.Tests.{lt-leb, le-leb}
+use lib.Seq.{take-at}
 use Rattle.kinds.specs.declared.limits.Kind.{Kind}
 use Rattle.kinds.specs.declared.refusals.Refusal.the-variants.{Output}
 use Rattle.name_store.specs.NameStore.{encodeNames}
 use Rattle.stores.specs.RuleStore.{kindWord, encode}
-use Rattle.rules.specs.Lists.{over}
 use Rattle.output.specs.Emitted.{Emitted, InRange}
 use Rattle.answers.specs.declared.Read.the-variants.{Accepted, Refused}
 use Rattle.gathering.specs.declared.gathered.Gathered.{Gathered}
@@ -20,15 +16,9 @@ use Rattle.lines.specs.Faults.{SoFar}
 use Rattle.lines.specs.Said.{programOf}
 use Rattle.gathering.specs.Gathered.{storedWords, Held}
 use Rattle.delivery.specs.Delivered.{headerWords, Delivered}
-use Rattle.output.proofs.Emitting.{sets-seam}
+use Rattle.output.proofs.Emitting.{sets-seam, renamed}
 use Rattle.gathering.proofs.HeldState.{behind, atoms-is, rules-is, held-small}
-
-over-is : (d w : List ℕ) → length w ≤ length d → sets d 0 w ≡ over w d
-over-is d w l = sets-seam [] d w l
-
-and-false : (a : Bool) → (a && false) ≡ false
-and-false true = refl
-and-false false = refl
+use Rattle.delivery.proofs.Fitting.{rules-short, names-short, both-written}
 
 module _ {kind : Kind} {st : SoFar} {g : Gathered} {words bytes : List ℕ} (h : Held kind st g words bytes) where
   pub header-small : (g .counts .atoms < 65536) × (g .classes < 65536) × (g .counts .rules < 65536)
@@ -71,26 +61,14 @@ module _ {kind : Kind} {st : SoFar} {g : Gathered} {words bytes : List ℕ} (h :
   bytes-range = record { below = omega (arith, bytes-part-length, held-small h .bytes) }
 
   module _ (rules names : List ℕ) where
-    pub rules-short : length rules < g .words → Delivered st rules names rules names (Refused Output 0)
-    rules-short l =
-        let a : leb (length (encode (programOf st))) (length rules) ≡ false = lt-leb (length (encode (programOf st))) (length rules) (omega (arith, words-length)) in
-        record { answer = rw a; rules-after = refl; names-after = refl }
+    pub rules-lack : length rules < g .words → Delivered (programOf st) (st .names) rules names rules names (Refused Output 0)
+    rules-lack l = rules-short (programOf st) (st .names) words-length bytes-length rules names l
 
-    module _ (l : g .words ≤ length rules) where
-      pub names-short : length names < g .bytes → Delivered st rules names rules names (Refused Output 0)
-      names-short m =
-          let b : leb (length (encodeNames (st .names))) (length names) ≡ false = lt-leb (length (encodeNames (st .names))) (length names) (omega (arith, bytes-length)) in
-          record { answer = rw (b, and-false (leb (length (encode (programOf st))) (length rules))); rules-after = refl; names-after = refl }
+    pub names-lack : length names < g .bytes → Delivered (programOf st) (st .names) rules names rules names (Refused Output 0)
+    names-lack l = names-short (programOf st) (st .names) words-length bytes-length rules names l
 
-      pub both-written : g .bytes ≤ length names → {words′ : List ℕ} {e : ℕ} → Emitted words 0 (headerWords kind g) words′ e
-          → {rules′ : List ℕ} {p : ℕ} → Emitted rules 0 (take (g .words) words′) rules′ p
-          → {names′ : List ℕ} {q : ℕ} → Emitted names 0 (take (g .bytes) bytes) names′ q
-          → Delivered st rules names rules′ names′ (Accepted (g .words) (g .bytes))
-      both-written m w u v =
-          let a : leb (length (encode (programOf st))) (length rules) ≡ true = le-leb (length (encode (programOf st))) (length rules) (omega (arith, words-length)) in
-          let b : leb (length (encodeNames (st .names))) (length names) ≡ true = le-leb (length (encodeNames (st .names))) (length names) (omega (arith, bytes-length)) in
-          record {
-            answer = rw (a, b) (λ i. Accepted (sym words-length i) (sym bytes-length i));
-            rules-after = u .bytes ∙ ap (sets rules 0) (words-part w) ∙ over-is rules (encode (programOf st)) (omega (arith, words-length));
-            names-after = v .bytes ∙ ap (sets names 0) bytes-part ∙ over-is names (encodeNames (st .names)) (omega (arith, bytes-length));
-          }
+    pub all-written : g .words ≤ length rules → g .bytes ≤ length names → {words′ : List ℕ} {e : ℕ} → Emitted words 0 (headerWords kind g) words′ e
+        → {rules′ : List ℕ} {p : ℕ} → Emitted rules 0 (take (g .words) words′) rules′ p
+        → {names′ : List ℕ} {q : ℕ} → Emitted names 0 (take (g .bytes) bytes) names′ q
+        → Delivered (programOf st) (st .names) rules names rules′ names′ (Accepted (g .words) (g .bytes))
+    all-written l m w u v = both-written (programOf st) (st .names) words-length bytes-length rules names l m (renamed u (words-part w)) (renamed v bytes-part)

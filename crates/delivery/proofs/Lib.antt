@@ -1,2 +1,3 @@
 -- The laws of the delivery.
+pub mod Fitting
 pub mod Delivering

@@ -7,6 +7,7 @@ use output::words::push;
 ghost use mathlib.Core.Path.{_≡_};
 ghost use Prim.Native.Nat.{_<_};
 ghost use Rattle.stores.specs.RuleStore.{kindWord};
+ghost use Rattle.lines.specs.Said.{programOf};
 ghost use Rattle.output.specs.Emitted.{Emitted};
 ghost use Rattle.gathering.specs.Gathered.{stateOf, Held};
 ghost use Rattle.delivery.specs.Delivered.{Delivered, headerWords};
@@ -20,7 +21,7 @@ fn kind_word(kind: Kind) -> u16
     }
 }
 
-fn put_header(kind: Kind, gathered: Gathered, words: &mut [u16]) -> usize
+pub fn put_header(kind: Kind, gathered: Gathered, words: &mut [u16]) -> usize
     requires { ⌜ (gathered .counts .atoms < 65536) × (gathered .classes < 65536) × (gathered .counts .rules < 65536) ⌝ }
     ensures { λ r. ⌜ Emitted (now (words .entry)) 0 (headerWords kind gathered) (now (words .exit)) r ⌝ }
 {
@@ -34,7 +35,7 @@ fn put_header(kind: Kind, gathered: Gathered, words: &mut [u16]) -> usize
     push(rules as u16, words, fourth)
 }
 
-pub fn deliver(
+pub fn deliver_all(
     kind: Kind,
     gathered: Gathered,
     words: &mut [u16],
@@ -43,7 +44,7 @@ pub fn deliver(
     names: &mut [u8],
 ) -> Read
     requires { ⌜ Held kind (stateOf kind gathered (now words) (now bytes)) gathered (now words) (now bytes) ⌝ }
-    ensures { λ r. ⌜ Delivered (stateOf kind gathered (now (words .entry)) (now (bytes .entry))) (now (rules .entry)) (now (names .entry)) (now (rules .exit)) (now (names .exit)) r ⌝ }
+    ensures { λ r. ⌜ Delivered (programOf (stateOf kind gathered (now (words .entry)) (now (bytes .entry)))) (stateOf kind gathered (now (words .entry)) (now (bytes .entry)) .names) (now (rules .entry)) (now (names .entry)) (now (rules .exit)) (now (names .exit)) r ⌝ }
 {
     let filled = gathered.words;
     let used = gathered.bytes;

@@ -17,9 +17,9 @@ use Rattle.lines.specs.declared.stage.Stage.the-variants.{Ruling}
 use Rattle.lines.specs.Lines.{lines}
 use Rattle.lines.specs.Forms.{formOf}
 use Rattle.lines.specs.Faults.{SoFar, next, fault, ruling?, stepForm}
-use Rattle.lines.specs.Said.{Said, accepted, refused, start, programOf, onStep, readLines, said}
+use Rattle.lines.specs.Said.{Said, accepted, refused, start, programOf, onStep, readLines, typed, whatRemains, said}
 use Rattle.faults.specs.Sentences.{Lowest, Faultless, added, Sound}
-use Rattle.faults.specs.EarliestFault.{Passed, RefusedAt, AcceptedAs, Refuses, Accepts}
+use Rattle.faults.specs.EarliestFault.{Passed, RefusedAt, DeclaredAs, Refuses, Accepts}
 use Rattle.faults.proofs.Tests.{ruling-law}
 use Rattle.faults.proofs.LowestFault.{Answers, line-answers, fault-iff, next-iff, start-sound, added-sound}
 
@@ -110,7 +110,7 @@ accepted? : Said → Type 0
 accepted? (accepted p names) = Unit {0}
 accepted? (refused r k) = ⊥
 
-apart : {p : Program} {names : List (List ℕ)} {r : Refusal} {k : ℕ} → accepted p names ≡ refused r k → ⊥
+pub apart : {p : Program} {names : List (List ℕ)} {r : Refusal} {k : ℕ} → accepted p names ≡ refused r k → ⊥
 unfolding accepted?
 apart e = subst accepted? e tt
 
@@ -118,7 +118,7 @@ same-refusal : {q r : Refusal} {j k : ℕ} → refused q j ≡ refused r k → (
 unfolding refusal-of line-of
 same-refusal e = (ap refusal-of e, ap line-of e)
 
-same-accepted : {p q : Program} {xs ys : List (List ℕ)} → accepted p xs ≡ accepted q ys → (p ≡ q) × (xs ≡ ys)
+pub same-accepted : {p q : Program} {xs ys : List (List ℕ)} → accepted p xs ≡ accepted q ys → (p ≡ q) × (xs ≡ ys)
 unfolding program-of names-of
 same-accepted {p} e = (ap (program-of p) e, ap names-of e)
 
@@ -158,27 +158,27 @@ module _ (text : List ℕ) where
           let n : suc (length (lines text)) ≡ k = let m = h .number in omega arith in
           lines-passed (h .state) (h .passed) ∙ end-incomplete (suc (length (lines text))) (h .state) (h .incomplete) ∙ ap₂ refused (sym (h .refusal)) n
 
-  whole-accepted : (p : Program) (names : List (List ℕ)) → whole ≡ accepted p names ↔ AcceptedAs text p names
+  whole-accepted : (p : Program) (names : List (List ℕ)) → whole ≡ accepted p names ↔ DeclaredAs text p names
   whole-accepted p names = (λ e. there e (outcome 1 (start text) (start-sound text) (lines text)), back)
     where
-      ended : whole ≡ accepted p names → (o : Ended 1 (start text) (lines text) whole) → T (ruling? (o .state .stage)) ⊎ (T (ruling? (o .state .stage)) → ⊥) → AcceptedAs text p names
+      ended : whole ≡ accepted p names → (o : Ended 1 (start text) (lines text) whole) → T (ruling? (o .state .stage)) ⊎ (T (ruling? (o .state .stage)) → ⊥) → DeclaredAs text p names
       ended e o (inl t) =
           let c = ruling-law (o .state .stage) .0 t in
           let s = same-accepted (sym e ∙ o .answer ∙ end-complete (1 + length (lines text)) (o .state) c) in
           record { state = o .state; passed = o .passed; complete = c; program = s .0; are-names = s .1 }
       ended e o (inr t) = absurd (apart (sym e ∙ o .answer ∙ end-incomplete (1 + length (lines text)) (o .state) (λ q. t (ruling-law (o .state .stage) .1 q))))
 
-      there : whole ≡ accepted p names → Outcome 1 (start text) (lines text) whole → AcceptedAs text p names
+      there : whole ≡ accepted p names → Outcome 1 (start text) (lines text) whole → DeclaredAs text p names
       there e (inl o) = absurd (apart (sym e ∙ o .answer))
       there e (inr o) = ended e o (decide (ruling? (o .state .stage)))
 
-      back : AcceptedAs text p names → whole ≡ accepted p names
+      back : DeclaredAs text p names → whole ≡ accepted p names
       back h = lines-passed (h .state) (h .passed) ∙ end-complete (suc (length (lines text))) (h .state) (h .complete) ∙ ap₂ accepted (sym (h .program)) (sym (h .are-names))
 
   -- refusal 1 with line 0 exactly when the text is too long; any other with the earliest faulty line, or one past the last where a line is missing
-  pub said-refused : (r : Refusal) (k : ℕ) → said text ≡ refused r k ↔ Refuses text r k
-  unfolding said
-  said-refused r k = step (leb (length text) textLimit) (leb→le (length text) textLimit) (le→leb (length text) textLimit)
+  typed-refused : (r : Refusal) (k : ℕ) → typed text ≡ refused r k ↔ Refuses text r k
+  unfolding typed
+  typed-refused r k = step (leb (length text) textLimit) (leb→le (length text) textLimit) (le→leb (length text) textLimit)
     where
       step : (b : Bool) → (T b → length text ≤ textLimit) → (length text ≤ textLimit → T b) → cond b whole (refused TextTooLong 0) ≡ refused r k ↔ Refuses text r k
       step true f g = (λ e. inr (f tt, whole-refused r k .0 e), back (f tt))
@@ -196,10 +196,33 @@ module _ (text : List ℕ) where
           back (inl h) = let n : 0 ≡ k = omega (arith, h .2) in ap₂ refused (sym (h .1)) n
           back (inr h) = absurd (g (h .0))
 
-  pub said-accepted : (p : Program) (names : List (List ℕ)) → said text ≡ accepted p names ↔ Accepts text p names
-  unfolding said
-  said-accepted p names = step (leb (length text) textLimit) (leb→le (length text) textLimit) (le→leb (length text) textLimit)
+  pub typed-accepted : (p : Program) (names : List (List ℕ)) → typed text ≡ accepted p names ↔ ((length text ≤ textLimit) × DeclaredAs text p names)
+  unfolding typed
+  typed-accepted p names = step (leb (length text) textLimit) (leb→le (length text) textLimit) (le→leb (length text) textLimit)
     where
-      step : (b : Bool) → (T b → length text ≤ textLimit) → (length text ≤ textLimit → T b) → cond b whole (refused TextTooLong 0) ≡ accepted p names ↔ Accepts text p names
+      step : (b : Bool) → (T b → length text ≤ textLimit) → (length text ≤ textLimit → T b) → cond b whole (refused TextTooLong 0) ≡ accepted p names ↔ ((length text ≤ textLimit) × DeclaredAs text p names)
       step true f g = (λ e. (f tt, whole-accepted p names .0 e), λ h. whole-accepted p names .1 (h .1))
       step false f g = (λ e. absurd (apart (sym e)), λ h. absurd (g (h .0)))
+
+  -- what remains of an accepted text; refusals stay
+  pub said-refused : (r : Refusal) (k : ℕ) → said text ≡ refused r k ↔ Refuses text r k
+  unfolding said
+  said-refused r k = (λ e. typed-refused r k .0 (step (typed text) e), λ h. ap whatRemains (typed-refused r k .1 h))
+    where
+      step : (s : Said) → whatRemains s ≡ refused r k → s ≡ refused r k
+      step (accepted p names) e = absurd (apart e)
+      step (refused q j) e = e
+
+  pub said-accepted : (p : Program) (names : List (List ℕ)) → said text ≡ accepted p names ↔ Accepts text p names
+  unfolding said
+  said-accepted p names = (step (typed text) refl, back)
+    where
+      step : (s : Said) → typed text ≡ s → whatRemains s ≡ accepted p names → Accepts text p names
+      step (accepted q all) t e =
+          let d = typed-accepted q all .0 t in
+          let i = same-accepted e in
+          (d .0, record { whole = q; whole-names = all; declared = d .1; program = sym (i .0); are-names = sym (i .1) })
+      step (refused r k) t e = absurd (apart (sym e))
+
+      back : Accepts text p names → whatRemains (typed text) ≡ accepted p names
+      back h = let a = h .1 in ap whatRemains (typed-accepted (a .whole) (a .whole-names) .1 (h .0, a .declared)) ∙ ap₂ accepted (sym (a .program)) (sym (a .are-names))

@@ -8,6 +8,7 @@ use Rattle.kinds.specs.Limits.{textLimit}
 use Rattle.kinds.specs.declared.refusals.Refusal.{Refusal}
 use Rattle.kinds.specs.declared.refusals.Refusal.the-variants.{TextTooLong, BrokenForm}
 use Rattle.stores.specs.Program.{Program}
+use Rattle.restriction.specs.Remaining.{remaining, remainingNames}
 use Rattle.lines.specs.declared.stage.Stage.the-variants.{Ruling}
 use Rattle.lines.specs.Lines.{lines}
 use Rattle.lines.specs.Forms.{formOf}
@@ -42,13 +43,21 @@ pub record MissingLine (text : List ℕ) (r : Refusal) (k : ℕ) : Type 0 where
 abbrev pub RefusedAt : List ℕ → Refusal → ℕ → Type 0
 RefusedAt text r k = FaultyLine text r k ⊎ MissingLine text r k
 
--- no line has a fault, none is missing, and they say this program with these names
-pub record AcceptedAs (text : List ℕ) (p : Program) (names : List (List ℕ)) : Type 0 where
+-- no line has a fault, none is missing, and they declare this program with these names
+pub record DeclaredAs (text : List ℕ) (p : Program) (names : List (List ℕ)) : Type 0 where
   pub state : SoFar
   pub passed : Passed (start text) (lines text) state
   pub complete : state .stage ≡ Ruling
   pub program : p ≡ programOf state
   pub are-names : names ≡ state .names
+
+-- and this is what remains of it: a preference program without the atoms that stand in no rule (document 02, W-203)
+pub record AcceptedAs (text : List ℕ) (p : Program) (names : List (List ℕ)) : Type 0 where
+  pub whole : Program
+  pub whole-names : List (List ℕ)
+  pub declared : DeclaredAs text whole whole-names
+  pub program : p ≡ remaining whole
+  pub are-names : names ≡ remainingNames whole whole-names
 
 -- 1 "text too long (line 0, tested first)", then the lines
 abbrev pub Refuses : List ℕ → Refusal → ℕ → Type 0

@@ -1,4 +1,4 @@
--- What a text says: a program with its names, or the earliest faulty line with its lowest fault.
+-- What a text says: a program with its names, or the earliest faulty line with its lowest fault. All lines are checked as they are typed; then what does not belong to the program is left out (document 02, W-203).
 use Prim.Native.Nat.{ℕ, suc}
 use mathlib.Core.Bool.{cond}
 use mathlib.Core.List.{List, [], _∷_}
@@ -9,6 +9,7 @@ use Rattle.kinds.specs.declared.limits.Kind.the-variants.{Plain, Preference}
 use Rattle.kinds.specs.declared.refusals.Refusal.{Refusal}
 use Rattle.kinds.specs.declared.refusals.Refusal.the-variants.{TextTooLong, BrokenForm}
 use Rattle.stores.specs.Program.{Program}
+use Rattle.restriction.specs.Remaining.{remaining, remainingNames}
 use Rattle.lines.specs.declared.stage.Stage.the-variants.{Declaring}
 use Rattle.lines.specs.Lines.{lines}
 use Rattle.lines.specs.Forms.{atoms, begins, tagOf, formOf}
@@ -48,5 +49,13 @@ unfoldable pub readLines : ℕ → SoFar → List (List ℕ) → Said
 readLines k st [] = cond (ruling? (st .stage)) (accepted (programOf st) (st .names)) (refused BrokenForm k)
 readLines k st (l ∷ ls) = onStep (stepForm st (formOf l)) k (λ after. readLines (suc k) after ls)
 
+-- what the lines of a text say, with all atoms that they declare
+unfoldable pub typed : List ℕ → Said
+typed text = let whole = readLines 1 (start text) (lines text) in cond (leb (length text) textLimit) whole (refused TextTooLong 0)
+
+abbrev pub whatRemains : Said → Said
+whatRemains (accepted p names) = accepted (remaining p) (remainingNames p names)
+whatRemains (refused r k) = refused r k
+
 unfoldable pub said : List ℕ → Said
-said text = let whole = readLines 1 (start text) (lines text) in cond (leb (length text) textLimit) whole (refused TextTooLong 0)
+said text = whatRemains (typed text)

@@ -5,7 +5,9 @@ pub mod WholeText
 pub mod FormText
 pub mod NumberedNames
 pub mod ClassParts
+pub mod UsedNames
 pub mod LineSteps
 pub mod Progress
 pub mod WrittenLines
 pub mod RoundTrip
+pub mod StatesLeft

@@ -1,4 +1,4 @@
--- The round trips: the writer's text of an accepted text's stores is that text, and the text of stores of the form is accepted and gives them back.
+-- The round trips: the writer's text of an accepted text's stores is that text without its unused names, and the text of stores of the form is accepted and gives them back without their unused atoms.
 use Prim.Native.Nat.{ℕ, zero, suc, _≤_}
 use native.Mathlib.Omega.{arith}
 use mathlib.Core.Path.{_≡_, refl, sym, ap, ap₂, _∙_, subst}
@@ -21,30 +21,49 @@ use Rattle.lines.specs.declared.stage.Stage.the-variants.{Declaring, Ruling}
 use Rattle.lines.specs.Lines.{linesFrom, lines}
 use Rattle.lines.specs.Forms.{atoms, begins, tagOf}
 use Rattle.lines.specs.Faults.{SoFar, ruling?}
-use Rattle.lines.specs.Said.{accepted, refused, start, readLines, said, programOf}
+use Rattle.lines.specs.Said.{Said, accepted, refused, start, readLines, typed, whatRemains, said, programOf}
 use Rattle.text.proofs.TextLength.{text-fits}
+use Rattle.restriction.specs.Remaining.{restrict, remaining, remainingNames, AllUsed}
+use Rattle.restriction.proofs.Forms.{remaining-form, remaining-names}
+use Rattle.restriction.proofs.Whole.{remaining-plain, names-plain, remaining-kind, remaining-preference, names-preference, remaining-whole, names-whole, all-used, all-left}
+use Rattle.faults.specs.EarliestFault.{Accepts}
+use Rattle.faults.proofs.EarliestFault.{apart, same-accepted, typed-accepted, said-accepted}
 use Rattle.reader.specs.WrittenText.{WrittenText}
+use Rattle.reader.specs.RoundTrips.{WritesBack, RoundTrips}
 use Rattle.faults.proofs.TextLines.{lines-iff}
 use Rattle.reader.proofs.Progress.{state, AllSaid, lines-said, start-said}
+use Rattle.reader.proofs.UsedNames.{used-text}
 use Rattle.reader.proofs.WrittenLines.{Reads, counted, reads-then, reads-rules, reads-declarations}
 
 -- an accepted text
 
-accepted-text : (text : List ℕ) (p : Program) (names : List (List ℕ)) → said text ≡ accepted p names → AllSaid p names text
-unfolding said
-accepted-text text p names e = go (leb (length text) textLimit) e
+declared-text : (text : List ℕ) (p : Program) (names : List (List ℕ)) → typed text ≡ accepted p names → AllSaid p names text
+unfolding typed
+declared-text text p names e = go (leb (length text) textLimit) e
   where
     go : (b : Bool) → cond b (readLines 1 (start text) (lines text)) (refused TextTooLong 0) ≡ accepted p names → AllSaid p names text
     go true i = subst (AllSaid p names) (sym (lines-iff text (lines text) .0 refl .0)) (lines-said 1 (start text) (lines text) [] (start-said text) i)
     go false i = absurd (let z : _≡_ {A = ℕ} 0 1 = cc in omega arith)
 
--- document 01: the writer gives for an accepted text's stores the same text
-pub read-write : (text : List ℕ) (p : Program) (names : List (List ℕ)) → said text ≡ accepted p names → textOf p names ≡ text
-read-write text p names e = accepted-text text p names e .text-is
+-- the text of all that is declared is the text itself
+typed-write : (text : List ℕ) (p : Program) (names : List (List ℕ)) → typed text ≡ accepted p names → textOf p names ≡ text
+typed-write text p names e = declared-text text p names e .text-is
 
--- they are of the form, and the names fit
+-- what is declared and what is left of it is of the form, and the names fit
+
+pub typed-form : (text : List ℕ) (p : Program) (names : List (List ℕ)) → typed text ≡ accepted p names → ProgramForm p × NamesForm (p .kind) (p .atoms) names
+typed-form text p names e = let s = declared-text text p names e in (s .form, s .names-form)
+
 pub accepted-form : (text : List ℕ) (p : Program) (names : List (List ℕ)) → said text ≡ accepted p names → ProgramForm p × NamesForm (p .kind) (p .atoms) names
-accepted-form text p names e = let s = accepted-text text p names e in (s .form, s .names-form)
+unfolding said
+accepted-form text p names e = step (typed text) refl e
+  where
+    step : (s : Said) → typed text ≡ s → whatRemains s ≡ accepted p names → ProgramForm p × NamesForm (p .kind) (p .atoms) names
+    step (accepted q all) t r =
+        let f = typed-form text q all t in
+        let i = same-accepted r in
+        rw (sym (i .0), sym (i .1)) (remaining-form q (f .0), remaining-names q all (f .0) (f .1))
+    step (refused g k) t r = absurd (apart (sym r))
 
 -- a written text
 
@@ -69,9 +88,9 @@ start-is kind p names rest = ap (λ b. state (cond b Plain Preference) Declaring
     go Plain = refl
     go Preference = refl
 
-said-read : (text : List ℕ) (st end : SoFar) → length text ≤ textLimit → start text ≡ st → Reads st text end → T (ruling? (end .stage)) → said text ≡ accepted (programOf end) (end .names)
-unfolding said readLines lines linesFrom
-said-read text st end short e r ruling =
+typed-read : (text : List ℕ) (st end : SoFar) → length text ≤ textLimit → start text ≡ st → Reads st text end → T (ruling? (end .stage)) → typed text ≡ accepted (programOf end) (end .names)
+unfolding typed readLines lines linesFrom
+typed-read text st end short e r ruling =
     let last = r .reads 1 [] in
     ap (λ b. cond b (readLines 1 (start text) (lines text)) (refused TextTooLong 0)) (is-true (leb (length text) textLimit) (le→leb (length text) textLimit short))
     ∙ ap₂ (λ s t. readLines 1 s (lines t)) e (sym (append-nil text))
@@ -92,24 +111,87 @@ start-program : (p : Program) (names : List (List ℕ)) → start (textOf p name
 unfolding textOf
 start-program p names = start-is (p .kind) p names (flat (ruleText names) (p .rules))
 
--- stores of the form are written to a text that is accepted and gives them back
-pub write-read : (p : Program) (names : List (List ℕ)) → ProgramForm p → NamesForm (p .kind) (p .atoms) names → said (textOf p names) ≡ accepted p names
-write-read p names f g =
-    said-read (textOf p names) (state (p .kind) Declaring 0 [] [] []) (endState p names) (text-fits f g) (start-program p names) (reads-program p names f g) tt
+-- stores of the form are written to a text that declares them
+write-typed : (p : Program) (names : List (List ℕ)) → ProgramForm p → NamesForm (p .kind) (p .atoms) names → typed (textOf p names) ≡ accepted p names
+write-typed p names f g =
+    typed-read (textOf p names) (state (p .kind) Declaring 0 [] [] []) (endState p names) (text-fits f g) (start-program p names) (reads-program p names f g) tt
     ∙ ap (λ n. accepted (counting n) names) (g .count)
   where
     counting : ℕ → Program
     counting n = record { kind = p .kind; atoms = n; classes = p .classes; words = p .words; rules = p .rules }
 
+-- and that is accepted as what is left of them
+pub write-read : (p : Program) (names : List (List ℕ)) → ProgramForm p → NamesForm (p .kind) (p .atoms) names → said (textOf p names) ≡ accepted (remaining p) (remainingNames p names)
+unfolding said
+write-read p names f g = ap whatRemains (write-typed p names f g)
+
+-- a plain program's are all there again
+pub plain-back : (p : Program) (names : List (List ℕ)) → ProgramForm p → NamesForm (p .kind) (p .atoms) names → p .kind ≡ Plain → said (textOf p names) ≡ accepted p names
+plain-back p names f g e = write-read p names f g ∙ ap₂ accepted (remaining-plain p e) (names-plain p names e)
+
 -- the accepted texts are the texts of the stores of the form
 pub accepted-iff : (text : List ℕ) → ((p : Program) × (names : List (List ℕ)) × (said text ≡ accepted p names)) ↔ WrittenText text
 accepted-iff text = (
-  λ h. let f = accepted-form text (h .0) (h .1) (h .2) in record {
-    program = h .0;
-    names = h .1;
-    form = f .0;
-    names-form = f .1;
-    is-text = read-write text (h .0) (h .1) (h .2);
-  },
-  λ w. (w .program, w .names, subst (λ t. said t ≡ accepted (w .program) (w .names)) (w .is-text) (write-read (w .program) (w .names) (w .form) (w .names-form))),
+  λ h. let a = said-accepted text (h .0) (h .1) .0 (h .2) in written (a .1 .whole) (a .1 .whole-names) (typed-accepted text (a .1 .whole) (a .1 .whole-names) .1 (a .0, a .1 .declared)),
+  λ w. (remaining (w .program), remainingNames (w .program) (w .names), subst (λ t. said t ≡ accepted (remaining (w .program)) (remainingNames (w .program) (w .names))) (w .is-text) (write-read (w .program) (w .names) (w .form) (w .names-form))),
 )
+  where
+    written : (p : Program) (names : List (List ℕ)) → typed text ≡ accepted p names → WrittenText text
+    written p names e = let f = typed-form text p names e in record { program = p; names = names; form = f .0; names-form = f .1; is-text = typed-write text p names e }
+
+-- the sentences
+
+module _ (text : List ℕ) (p : Program) (names : List (List ℕ)) (a : Accepts text p names) where
+  abbrev whole : Program
+  whole = a .1 .whole
+
+  abbrev whole-names : List (List ℕ)
+  whole-names = a .1 .whole-names
+
+  declared : typed text ≡ accepted whole whole-names
+  declared = typed-accepted text whole whole-names .1 (a .0, a .1 .declared)
+
+  pub form : ProgramForm whole × NamesForm (whole .kind) (whole .atoms) whole-names
+  form = typed-form text whole whole-names declared
+
+  pub whole-kind : {k : Kind} → p .kind ≡ k → whole .kind ≡ k
+  whole-kind e = sym (remaining-kind whole) ∙ ap (λ (q : Program). q .kind) (sym (a .1 .program)) ∙ e
+
+  text-left : textOf p names ≡ textOf (remaining whole) (remainingNames whole whole-names)
+  text-left = ap₂ textOf (a .1 .program) (a .1 .are-names)
+
+  -- what is left is of the form, and all of it is used, so it is read as it is
+  left-form : ProgramForm (remaining whole)
+  left-form = remaining-form whole (form .0)
+
+  left-names : NamesForm (remaining whole .kind) (remaining whole .atoms) (remainingNames whole whole-names)
+  left-names = remaining-names whole whole-names (form .0) (form .1)
+
+  stays : (remaining (remaining whole) ≡ remaining whole) × (remainingNames (remaining whole) (remainingNames whole whole-names) ≡ remainingNames whole whole-names)
+  stays = by-kind (whole .kind) refl
+    where
+      by-kind : (k : Kind) → whole .kind ≡ k → (remaining (remaining whole) ≡ remaining whole) × (remainingNames (remaining whole) (remainingNames whole whole-names) ≡ remainingNames whole whole-names)
+      by-kind Plain e = let k = remaining-kind whole ∙ e in (remaining-plain (remaining whole) k, names-plain (remaining whole) (remainingNames whole whole-names) k)
+      by-kind Preference e =
+          let u = all-used whole e in
+          (remaining-whole (remaining whole) left-form u, names-whole (remaining whole) left-form u (remainingNames whole whole-names) left-names)
+
+  same-text : whole .kind ≡ Preference → textOf p names ≡ text → AllUsed whole
+  unfolding restrict
+  same-text e t =
+      let again = sym (write-typed (remaining whole) (remainingNames whole whole-names) left-form left-names) ∙ ap typed (sym text-left ∙ t) ∙ declared in
+      all-left whole (ap (λ (q : Program). q .atoms) (sym (remaining-preference whole e) ∙ same-accepted again .0))
+
+  writes-back : WritesBack text p names a
+  writes-back = record {
+    plain = λ e. let k = whole-kind e in text-left ∙ ap₂ textOf (remaining-plain whole k) (names-plain whole whole-names k) ∙ typed-write text whole whole-names declared;
+    preference = λ e. let k = whole-kind e in text-left ∙ ap₂ textOf (remaining-preference whole k) (names-preference whole whole-names k) ∙ used-text whole whole-names (form .0) k;
+    unaltered = λ e. (same-text (whole-kind e), λ u. text-left ∙ ap₂ textOf (remaining-whole whole (form .0) u) (names-whole whole (form .0) u whole-names (form .1)) ∙ typed-write text whole whole-names declared);
+    again = said-accepted (textOf p names) p names .0 (ap said text-left ∙ write-read (remaining whole) (remainingNames whole whole-names) left-form left-names ∙ ap₂ accepted (stays .0 ∙ sym (a .1 .program)) (stays .1 ∙ sym (a .1 .are-names)));
+  }
+
+pub round-trips : RoundTrips
+round-trips = record {
+  read-write = writes-back;
+  write-read = λ p names f g. said-accepted (textOf p names) (remaining p) (remainingNames p names) .0 (write-read p names f g);
+}

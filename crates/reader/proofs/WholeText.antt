@@ -24,11 +24,14 @@ use Rattle.reader.specs.declared.reading.Gather.the-variants as Gather
 use Rattle.gathering.specs.declared.gathered.Gathered.{Gathered}
 use Rattle.lines.specs.Lines.{lines}
 use Rattle.lines.specs.Forms.{atoms, begins, tagOf}
-use Rattle.lines.specs.Said.{accepted, refused, start, readLines, said, programOf}
+use Rattle.stores.specs.Program.{Program, ProgramForm}
+use Rattle.restriction.specs.Remaining.{remaining, remainingNames}
+use Rattle.lines.specs.Said.{accepted, refused, start, readLines, typed, whatRemains, said, programOf}
 use Rattle.answers.specs.Reading.{readAnswer, readRules, readNames}
 use Rattle.gathering.specs.Gathered.{stateOf, Held, HeldIndex, HeldMarks}
 use Rattle.delivery.specs.Delivered.{Delivered}
 use Rattle.reader.specs.Gathering.{startCounts, GatherSays, GatherIs}
+use Rattle.reader.proofs.RoundTrip.{typed-form}
 use Rattle.numbering.proofs.NameBlocks.{empty-index}
 use Rattle.gathering.proofs.HeldState.{limits-within}
 
@@ -75,26 +78,39 @@ module _ (text rules names : List ℕ) where
   refused-as e = rw e (refl, (refl, refl))
 
   pub too-long : textLimit < length text → (Refused TextTooLong 0 ≡ readAnswer text (length rules) (length names)) × ((rules ≡ readRules text rules names) × (names ≡ readNames text rules names))
-  unfolding said
+  unfolding said typed
   too-long l = refused-as (rw (lt-leb (length text) textLimit l))
 
   module _ (l : length text ≤ textLimit) where
-    said-lines : said text ≡ readLines 1 (start text) (lines text)
+    typed-lines : typed text ≡ readLines 1 (start text) (lines text)
+    unfolding typed
+    typed-lines = rw (le-leb (length text) textLimit l)
+
+    said-lines : said text ≡ whatRemains (readLines 1 (start text) (lines text))
     unfolding said
-    said-lines = rw (le-leb (length text) textLimit l)
+    said-lines = ap whatRemains typed-lines
 
     module _ {kind : Kind} {words bytes : List ℕ} {q : Gather} (w : GatherIs kind (readLines 1 (start text) (lines text)) words bytes q) where
       gather : {p : Gather} → q ≡ p → GatherSays kind (readLines 1 (start text) (lines text)) words bytes p
       gather e = subst (GatherSays kind (readLines 1 (start text) (lines text)) words bytes) e (w .says)
 
       pub lines-refused : {f : Refusal} {k : ℕ} → q ≡ Gather.Refused f k → (Refused f k ≡ readAnswer text (length rules) (length names)) × ((rules ≡ readRules text rules names) × (names ≡ readNames text rules names))
-      lines-refused e = refused-as (said-lines ∙ gather e)
+      lines-refused e = refused-as (said-lines ∙ ap whatRemains (gather e))
 
       module _ {g : Gathered} (e : q ≡ Gather.Whole g) where
-        pub lines-held : Held kind (stateOf kind g words bytes) g words bytes
-        lines-held = gather e .1
+        abbrev program : Program
+        program = programOf (stateOf kind g words bytes)
 
-        pub delivered : {rules′ names′ : List ℕ} {r : Read} → Delivered (stateOf kind g words bytes) rules names rules′ names′ r
+        abbrev atom-names : List (List ℕ)
+        atom-names = stateOf kind g words bytes .names
+
+        -- what is gathered is of the form
+        pub lines-held : Held kind (stateOf kind g words bytes) g words bytes × ProgramForm program
+        lines-held = (gather e .1, typed-form text program atom-names (typed-lines ∙ gather e .0) .0)
+
+        pub delivered : {rules′ names′ : List ℕ} {r : Read} → Delivered (remaining program) (remainingNames program atom-names) rules names rules′ names′ r
             → (r ≡ readAnswer text (length rules) (length names)) × ((rules′ ≡ readRules text rules names) × (names′ ≡ readNames text rules names))
         unfolding readAnswer readRules readNames
-        delivered d = let s : said text ≡ accepted (programOf (stateOf kind g words bytes)) (stateOf kind g words bytes .names) = said-lines ∙ gather e .0 in rw s (d .answer, (rw (sym (d .answer)) (d .rules-after), rw (sym (d .answer)) (d .names-after)))
+        delivered d =
+            let s : said text ≡ accepted (remaining program) (remainingNames program atom-names) = said-lines ∙ ap whatRemains (gather e .0) in
+            rw s (d .answer, (rw (sym (d .answer)) (d .rules-after), rw (sym (d .answer)) (d .names-after)))

@@ -1,3 +1,4 @@
 -- What the lines of a text leave, and which texts are written.
 pub mod Gathering
 pub mod WrittenText
+pub mod RoundTrips

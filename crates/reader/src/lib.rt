@@ -40,7 +40,7 @@ pub fn read(text: &[u8], rules: &mut [u16], names: &mut [u8]) -> Read
         &mut links,
         &mut marks,
     ) {
-        Gather::Whole(gathered) => delivery::delivery::deliver(
+        Gather::Whole(gathered) => used_atoms::remaining::deliver(
             kind,
             gathered,
             &mut words,

@@ -6,7 +6,7 @@ use Rattle.stores.specs.Program.{Program}
 use Rattle.faults.specs.EarliestFault.{Accepts}
 use Rattle.faults.proofs.EarliestFault.{said-accepted}
 use Rattle.reader.specs.WrittenText.{WrittenText}
-use Rattle.reader.proofs.RoundTrip.{accepted-iff}
+use Rattle.reader.proofs.RoundTrip.{accepted-iff, round-trips}
 use Rattle.answers.proofs.Refusals.{read-refuses, write-refuses, translate-refuses, verdict-refuses, print-refuses, prints-into}
 use Rattle.rigtomato.specs.Demand1.{Demand1}
 
@@ -20,6 +20,7 @@ pub demand-1 : Demand1
 demand-1 = record {
   read = read-refuses;
   accepted = accepted-texts;
+  texts = round-trips;
   write = write-refuses;
   translate = translate-refuses;
   verdicts = verdict-refuses;

@@ -9,6 +9,7 @@ use Rattle.stores.specs.Program.{Program}
 use Rattle.faults.specs.EarliestFault.{Accepts}
 use Rattle.faults.proofs.EarliestFault.{said-accepted}
 use Rattle.reader.proofs.RoundTrip.{accepted-form}
+use Rattle.reader.proofs.StatesLeft.{states-left}
 use Rattle.places.proofs.Places.{in-places}
 use Rattle.walks.proofs.Order.{ordered}
 use Rattle.walks.proofs.WalksAgree.{walks-agree}
@@ -36,4 +37,5 @@ demand-2 = record {
   orders = orders-agree;
   verdicts = judges;
   lists = lists;
+  left-out = states-left;
 }

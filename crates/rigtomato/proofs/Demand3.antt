@@ -16,7 +16,7 @@ use Rattle.answers.specs.declared.Written.{Written}
 use Rattle.answers.specs.declared.Written.the-variants.{Text, Refused as NotWritten}
 use Rattle.answers.specs.Writing.{fitted}
 use Rattle.lines.specs.Said.{accepted, said}
-use Rattle.reader.proofs.RoundTrip.{accepted-form, write-read}
+use Rattle.reader.proofs.RoundTrip.{accepted-form, plain-back}
 use Rattle.answers.specs.Reading.{readRules, readNames}
 use Rattle.answers.proofs.AcceptedTexts.{Filled, never, filled, reads-as, front}
 use Rattle.pairing.specs.Translated.{translated, translatedNames}
@@ -105,7 +105,7 @@ module _ (text rules names out : List ℕ) (h : Handed text rules names out) whe
 
   plain-said : said (delivered h) ≡ accepted (translated p) (translatedNames p file-names)
   unfolding translationText
-  plain-said = ap said delivered-is ∙ write-read (translated p) (translatedNames p file-names) (plain-form p kind form) plain-fit
+  plain-said = ap said delivered-is ∙ plain-back (translated p) (translatedNames p file-names) (plain-form p kind form) plain-fit refl
 
   pub demand3 : Demand3 text (delivered h)
   demand3 = record {

@@ -2,12 +2,14 @@
 use mathlib.Core.Path.{refl}
 use Rattle.names.specs.Names.{nameClass, house?, classNumber?, allowed}
 use Rattle.name_store.specs.NameStore.{sameBytes}
-use Rattle.text.specs.Text.{listLine, openText}
+use Rattle.text.specs.Text.{listLine, openText, ruleLine, textOf}
 use Rattle.lines.specs.Lines.{lines, linesFrom, lineLength}
 use Rattle.lines.specs.Items.{items, itemsFrom, run, span}
 use Rattle.lines.specs.Forms.{splitNames, splitList, declaredForm, ruleForm, formOf}
 use Rattle.lines.specs.Faults.{twice, nameNumber, declare, addRule}
-use Rattle.lines.specs.Said.{start, readLines, said}
+use Rattle.restriction.specs.Atoms.{used}
+use Rattle.restriction.specs.Remaining.{restrict, remaining, remainingNames}
+use Rattle.lines.specs.Said.{start, readLines, typed, said}
 use Rattle.pairing.specs.Atoms.{declared}
 use Rattle.pairing.specs.Steps.{step1, step2, step3, step4, step5, step6, step7, step8, step9, step10, translation}
 use Rattle.pairing.specs.Translated.{translatedRules}
@@ -19,10 +21,10 @@ use Rattle.kinds.specs.Words.{digits}
 use Rattle.answers.specs.Printed.{stateLine, totalLine}
 use Rattle.answers.specs.Listed.{listing, wholeListing, statesOf}
 use Rattle.answers.specs.Programs.{printed, statesPrinted}
-use Rattle.rigtomato.specs.Sheet.{rulesA, fileA, oneClass, lampFirst, darkFixed, nothing, emptyRule, oneRule, plain, inverters, Sheet}
+use Rattle.rigtomato.specs.Sheet.{rulesA, fileA, oneClass, lampFirst, darkFixed, nothing, emptyRule, oneRule, unused, unusedLong, unusedTwice, plainUnused, plain, inverters, Sheet}
 
 pub sheet : Sheet
-unfolding rulesA fileA oneClass lampFirst darkFixed nothing emptyRule oneRule plain inverters nameClass house? classNumber? allowed sameBytes listLine openText lines linesFrom lineLength items itemsFrom run span splitNames splitList declaredForm ruleForm formOf twice nameNumber declare addRule start readLines said declared step1 step2 step3 step4 step5 step6 step7 step8 step9 step10 translation translatedRules place closed? visited walkOrder preferredSets preferredWalk stableWalk candidates search capped preferredNeeds stableNeeds preferredVerdict stableVerdict firstState cappedNext nextNeeds nextVerdict digits stateLine totalLine listing wholeListing printed statesOf statesPrinted
+unfolding rulesA fileA oneClass lampFirst darkFixed nothing emptyRule oneRule unused unusedLong unusedTwice plainUnused plain inverters nameClass house? classNumber? allowed sameBytes listLine openText ruleLine textOf lines linesFrom lineLength items itemsFrom run span splitNames splitList declaredForm ruleForm formOf twice nameNumber declare addRule start readLines typed restrict remaining remainingNames used said declared step1 step2 step3 step4 step5 step6 step7 step8 step9 step10 translation translatedRules place closed? visited walkOrder preferredSets preferredWalk stableWalk candidates search capped preferredNeeds stableNeeds preferredVerdict stableVerdict firstState cappedNext nextNeeds nextVerdict digits stateLine totalLine listing wholeListing printed statesOf statesPrinted
 sheet = record {
   a-6 = refl;
   a-1 = refl;
@@ -47,4 +49,9 @@ sheet = record {
   nothing-counts = refl;
   no-state = refl;
   one-rule-counts = refl;
+  unused-listed = refl;
+  unused-written = refl;
+  unused-long = refl;
+  unused-twice = refl;
+  plain-unused = refl;
 }

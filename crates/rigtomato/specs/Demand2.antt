@@ -1,4 +1,4 @@
--- Demand 2 (document 01, "Verdicts"; document 02, W-206 and W-207): unless the budget runs out, the verdicts are those of the theory, and every preferred state is listed once, in order.
+-- Demand 2 (document 01, "Verdicts"; document 02, W-203, W-206 and W-207): unless the budget runs out, the verdicts are those of the theory, and every preferred state is listed once, in order.
 use Prim.Native.Nat.{ℕ, _≤_}
 use mathlib.Core.Path.{_≡_}
 use mathlib.Core.Logic.{_⊎_}
@@ -7,6 +7,8 @@ use lib.ListN.{length}
 use Rattle.kinds.specs.Limits.{streamLimit, walkAtoms}
 use Rattle.kinds.specs.declared.limits.Kind.the-variants.{Preference}
 use Rattle.stores.specs.Program.{Program}
+use Rattle.restriction.specs.Remaining.{left}
+use Rattle.restriction.specs.PreferredLeft.{PreferredLeft}
 use Rattle.faults.specs.EarliestFault.{Accepts}
 use Rattle.walks.specs.Order.{walkOrder, preferredSets}
 use Rattle.places.specs.Places.{InPlaces}
@@ -37,3 +39,6 @@ pub record Demand2 : Type 0 where
   pub orders : OrdersAgree
   pub verdicts : (rules : List ℕ) (p : Program) (number budget : ℕ) → Judges rules p number budget
   pub lists : (text : List ℕ) (p : Program) (names : List (List ℕ)) → length text ≤ streamLimit → Accepts text p names → p .kind ≡ Preference → p .atoms ≤ walkAtoms → Lists text p names
+  -- a file's preferred sets are those of all atoms that it declares, cut to what is left
+  pub left-out : (text : List ℕ) (p : Program) (names : List (List ℕ)) (a : Accepts text p names) → p .kind ≡ Preference
+      → PreferredLeft (left (a .1 .whole)) (a .1 .whole .words) (a .1 .whole .rules) (p .words) (p .rules)

@@ -1,12 +1,14 @@
--- The marked cases of document 01's "Sheets of known states", from the bytes of the files; the order of states is that of document 02, W-206, units are those of W-207, the counts of translations those of W-214.
+-- The marked cases of document 01's "Sheets of known states", from the bytes of the files; the order of states is that of document 02, W-206, units are those of W-207, the counts of translations those of W-214, and atoms that no rule has are left out by W-203.
 use Prim.Native.Nat.{ℕ}
 use mathlib.Core.Path.{_≡_}
 use mathlib.Core.List.{List, [], _∷_, _++_}
 use lib.ListN.{length}
 use Rattle.kinds.specs.Limits.{budgetLimit}
 use Rattle.kinds.specs.Words.{bytes}
+use Rattle.kinds.specs.declared.refusals.Refusal.the-variants.{Name, DeclaredTwice}
 use Rattle.rules.specs.Lists.{sum}
 use Rattle.rules.specs.Rules.{occurrences}
+use Rattle.text.specs.Text.{textOf}
 use Rattle.lines.specs.Said.{Said, accepted, refused, said}
 use Rattle.walks.specs.declared.answers.Verdict.{Verdict}
 use Rattle.walks.specs.declared.answers.Verdict.the-variants.{Yes, Broken, Beaten, Spent, Refused}
@@ -52,6 +54,21 @@ emptyRule = bytes "(vary)\n(fix)\n(rule (head) (body) (not))\n"
 unfoldable pub oneRule : List ℕ
 oneRule = bytes "(min sensor)\n(vary dark)\n(fix)\n(rule (head sensor dark) (body) (not))\n"
 
+-- A with a first class, a varying and a fixed atom that no rule has
+unfoldable pub unused : List ℕ
+unused = bytes "(min spare)\n(min sensor)\n(min lamp)\n(vary idle dark)\n(fix door)\n" ++ rulesA
+
+-- the same with an unused name of 25 bytes, and with one declared twice
+unfoldable pub unusedLong : List ℕ
+unusedLong = bytes "(min sensor)\n(min lamp)\n(vary dark idle_idle_idle_idle_idle_i)\n(fix)\n" ++ rulesA
+
+unfoldable pub unusedTwice : List ℕ
+unusedTwice = bytes "(min sensor)\n(min lamp idle)\n(vary dark)\n(fix idle)\n" ++ rulesA
+
+-- a plain program with an atom that no rule has
+unfoldable pub plainUnused : List ℕ
+plainUnused = bytes "(atoms a b)\n(rule (head b) (body) (not))\n"
+
 -- the plain program `a or b if not c`, `b if a`
 unfoldable pub plain : List ℕ
 plain = bytes "(atoms a b c)\n(rule (head a b) (body) (not c))\n(rule (head b) (body a) (not))\n"
@@ -87,6 +104,11 @@ abbrev pub states : Said → List ℕ
 states (accepted p names) = preferredSets (p .words) (p .rules)
 states (refused f line) = []
 
+-- the writer's text of what a text's lines leave
+abbrev pub written : Said → List ℕ
+written (accepted p names) = textOf p names
+written (refused f line) = []
+
 -- atoms, rules and occurrences of the translation
 abbrev pub counts : Said → List ℕ
 counts (accepted p names) = translated p .atoms ∷ length (translated p .rules) ∷ sum occurrences (translated p .rules) ∷ []
@@ -120,3 +142,9 @@ pub record Sheet : Type 0 where
   pub nothing-counts : counts (said nothing) ≡ 2 ∷ 4 ∷ 7 ∷ []
   pub no-state : states (said emptyRule) ≡ []
   pub one-rule-counts : counts (said oneRule) ≡ 10 ∷ 18 ∷ 44 ∷ []
+  -- an unused varying atom lists no state again; an emptied class stays, with its line; the faults of unused names stay; a plain program keeps its atoms
+  pub unused-listed : statesPrinted unused ≡ bytes "(state lamp dark)\n(total 1)\n"
+  pub unused-written : written (said unused) ≡ bytes "(min)\n(min sensor)\n(min lamp)\n(vary dark)\n(fix)\n" ++ rulesA
+  pub unused-long : said unusedLong ≡ refused Name 3
+  pub unused-twice : said unusedTwice ≡ refused DeclaredTwice 4
+  pub plain-unused : written (said plainUnused) ≡ plainUnused

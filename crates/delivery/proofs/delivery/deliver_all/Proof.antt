@@ -1,15 +1,15 @@
 use Rattle.gathering.proofs.HeldState.{held-small}
-use Rattle.delivery.proofs.Delivering.{header-small, words-part-length, words-range, bytes-part-length, bytes-range, rules-short, names-short, both-written}
+use Rattle.delivery.proofs.Delivering.{header-small, words-part-length, words-range, bytes-part-length, bytes-range, rules-lack, names-lack, all-written}
 use native.Mathlib.Omega.{arith}
 use borrow.Author.Needs.{needs}
-use Rattle.delivery.proofs.delivery.deliver.Statement.{statement}
-use Rattle.delivery.proofs.delivery.deliver.Tie as tie
+use Rattle.delivery.proofs.delivery.deliver_all.Statement.{statement}
+use Rattle.delivery.proofs.delivery.deliver_all.Tie as tie
 
 returns : tie.Need-returns
-returns c = rules-short (c .before .before .before .before .before .pre) _ _ (c .if1 .taken)
+returns c = rules-lack (c .before .before .before .before .before .pre) _ _ (c .if1 .taken)
 
 returns-2 : tie.Need-returns-2
-returns-2 c = names-short (c .before .before .before .before .before .before .pre) _ _ (c .before .if1 .left) (c .if2 .taken)
+returns-2 c = names-lack (c .before .before .before .before .before .before .pre) _ _ (c .if2 .taken)
 
 put-header-requires : tie.Need-put-header-requires
 put-header-requires c κs = header-small (c .before .before .before .before .before .before .before .pre)
@@ -39,10 +39,10 @@ same-length-3 : tie.Need-same-length-3
 same-length-3 c = search needs
 
 returns-3 : tie.Need-returns-3
-returns-3 c = both-written (c .before .before .before .before .before .before .before .before .before .before .before .before .before .before .before .before .before .before .before .before .pre) _ _ (c .before .before .before .before .before .before .before .before .before .before .before .before .before .before .before .if1 .left) (c .before .before .before .before .before .before .before .before .before .before .before .before .before .before .if2 .left) (c .before .before .before .before .before .before .before .before .before .before .before .before .put-header .ensures) (c .before .before .before .before .before .before .before .emit .ensures) (c .before .before .emit2 .ensures)
+returns-3 c = all-written (c .before .before .before .before .before .before .before .before .before .before .before .before .before .before .before .before .before .before .before .before .pre) _ _ (c .before .before .before .before .before .before .before .before .before .before .before .before .before .before .before .if1 .left) (c .before .before .before .before .before .before .before .before .before .before .before .before .before .before .if2 .left) (c .before .before .before .before .before .before .before .before .before .before .before .before .put-header .ensures) (c .before .before .before .before .before .before .before .emit .ensures) (c .before .before .emit2 .ensures)
 
-pub deliver-spec : {M : Type 1} → statement M
-deliver-spec =
+pub deliver-all-spec : {M : Type 1} → statement M
+deliver-all-spec =
     tie.close
     (tie.spec
     returns

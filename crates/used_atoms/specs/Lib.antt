@@ -1,0 +1,3 @@
+-- The marks and the new numbers of atoms.
+pub mod Marks
+pub mod Tables
