@@ -11,7 +11,10 @@
  *
  * - A text is a preference file (`(min ..)` lines, `(vary ..)`, `(fix ..)`, rules) or a plain
  *   program (`(atoms ..)`, rules). rigtomato_read turns it into two stores, rigtomato_write turns
- *   the stores back into the same text.
+ *   the stores back into the same text, but for the names that were left out.
+ * - Only atoms that stand in some rule belong to a preference file's program. rigtomato_read leaves
+ *   the others out. Stores handed in may hold such atoms: they are taken as they stand, and n and
+ *   sets count them.
  * - A rule store is an array of uint16_t: kind (0 plain, 1 preference), atom count n, class count
  *   k, rule count r; in a preference store n class words (1 to 16 the class, 17 varying, 18
  *   fixed, never falling); then for each rule the lengths of its lists head, body and not, and
@@ -87,7 +90,13 @@ struct rigtomato_read_answer {
     uint64_t bytes;   /* accepted: the bytes written to `names`; else 0 */
 };
 
-/* Reads a text of either kind into a rule store and a name store. rules[0] tells the kind. */
+/* Reads a text of either kind into a rule store and a name store. rules[0] tells the kind.
+ *
+ * A preference file's atoms that stand in no rule are checked with the others: a name too long, an
+ * atom declared twice or a 257th is refused. Then they are left out of both stores. The remaining
+ * atoms keep their declared order and are numbered from 0; class words and rules are of them alone,
+ * and the outputs need room for nothing else. A class stays, even if it is emptied: rigtomato_write
+ * then gives it the line `(min)`. A plain program keeps all its atoms. */
 struct rigtomato_read_answer rigtomato_read(const uint8_t *text, size_t text_len,
                                             uint16_t *rules, size_t rules_len,
                                             uint8_t *names, size_t names_len);
@@ -97,7 +106,8 @@ struct rigtomato_text_answer {
     uint64_t bytes;   /* written: the bytes written to `out`; else 0 */
 };
 
-/* Writes the text of a rule store of either kind and its name store. */
+/* Writes the text of a rule store of either kind and its name store, atoms that no rule has
+ * included. */
 struct rigtomato_text_answer rigtomato_write(const uint16_t *rules, size_t rules_len,
                                              const uint8_t *names, size_t names_len,
                                              uint8_t *out, size_t out_len);

@@ -1,5 +1,6 @@
-/* Document 01's sheet for file A, with places and order by document 02, W-206, and units by W-207,
- * through the C interface. Prints what fails and ends with status 1 then. Compile with
+/* Document 01's sheet for file A, with places and order by document 02, W-206, units by W-207 and
+ * what is left out by W-203, through the C interface. Prints what fails and ends with status 1
+ * then. Compile with
  *     gcc -Wall -Wextra -Werror -Iinclude tests/c/sheet.c target/staticlib/librigtomato.a */
 #include "rigtomato.h"
 
@@ -145,15 +146,28 @@ static void file_a_declared_otherwise(void)
     CHECK(is(preferred(1, RIGTOMATO_BUDGET_LIMIT), RIGTOMATO_YES, 0, 10));
 }
 
-/* Reads a preference file of so many fixed atoms and no rule. */
-static void read_atoms(int count)
+/* Writes the names a0, a1 .., each with a space before it; gives their length. */
+static size_t print_atoms(char *text, int count)
 {
-    char text[1024];
-    size_t length = (size_t)sprintf(text, "(vary)\n(fix");
+    size_t length = 0;
     for (int i = 0; i < count; i++)
         length += (size_t)sprintf(text + length, " a%d", i);
-    length += (size_t)sprintf(text + length, ")\n");
+    return length;
+}
+
+/* Reads a preference file of so many fixed atoms, all in the head and the body of one rule. */
+static void read_atoms(int count)
+{
+    char text[4096];
+    size_t length = (size_t)sprintf(text, "(vary)\n(fix");
+    length += print_atoms(text + length, count);
+    length += (size_t)sprintf(text + length, ")\n(rule (head");
+    length += print_atoms(text + length, count);
+    length += (size_t)sprintf(text + length, ") (body");
+    length += print_atoms(text + length, count);
+    length += (size_t)sprintf(text + length, ") (not))\n");
     CHECK(read_text(text, length).refusal == 0);
+    CHECK(file.rules[1] == count);
 }
 
 /* Each set's place, and the refusals in their sequence. */
@@ -181,12 +195,13 @@ static void places(void)
     CHECK(rigtomato_place(NULL, 0, 0).refusal == RIGTOMATO_RULE_STORE);
 }
 
-/* The text comes back from the stores, into an output exact, one byte short and longer. */
-static void written(const char *text)
+/* From the stores of a text comes the text expected, into an output exact, one byte short and
+ * longer. */
+static void written_as(const char *read, const char *text)
 {
     static uint8_t out[4096];
     size_t length = strlen(text);
-    CHECK(read_text(text, length).refusal == 0);
+    CHECK(read_text(read, strlen(read)).refusal == 0);
     for (size_t lent = length - 1; lent <= length + 2; lent++) {
         memset(out, 0xa5, sizeof out);
         struct rigtomato_text_answer answer = rigtomato_write(
@@ -204,6 +219,12 @@ static void written(const char *text)
             kept = kept && out[i] == 0xa5;
         CHECK(kept);
     }
+}
+
+/* The text comes back from its stores. */
+static void written(const char *text)
+{
+    written_as(text, text);
 }
 
 /* Translates, reads the delivered text again and gives its atoms, rules and occurrences. */
@@ -284,6 +305,69 @@ static void names(void)
     CHECK(read_gives("(atoms D.7bcdefghijklmnopqrstuvwxy)\n", RIGTOMATO_NAME, 1));
 }
 
+/* Document 02, W-203: what a text's stores leave out. */
+static void unused_atoms(void)
+{
+    static const uint16_t words[] = {1, 3, 3, 2, 1, 3, 17, 2, 0, 0, 0, 1, 1, 1, 0, 2, 1};
+    static const char names[] = "\x06sensor\x04lamp\x04" "dark";
+    const char *catalogue = "(min pad1 sensor pad2)\n(min pad3)\n(min lamp)\n(vary pad4 dark)\n"
+                            "(fix pad5)\n(rule (head sensor lamp) (body) (not))\n"
+                            "(rule (head dark) (body lamp) (not))\n";
+    written_as(catalogue, "(min sensor)\n(min)\n(min lamp)\n(vary dark)\n(fix)\n"
+                          "(rule (head sensor lamp) (body) (not))\n"
+                          "(rule (head dark) (body lamp) (not))\n");
+    CHECK(file.rules_len == sizeof words / sizeof words[0]);
+    CHECK(memcmp(file.rules, words, sizeof words) == 0);
+    CHECK(file.names_len == sizeof names - 1);
+    CHECK(memcmp(file.names, names, sizeof names - 1) == 0);
+    CHECK(states_are(1, (const uint64_t[]){6}));
+    CHECK(place_is(8, RIGTOMATO_SET_TOO_LARGE, 0));
+    /* 3n - f + p + k + 2, 3n - f + 2r + 4p + 2k + 4, 6n - 2f + 2L + r + 15p + 5k + 7 */
+    translated(catalogue, 16, 31, 80);
+    /* outputs need room for what remains */
+    const uint8_t *text = (const uint8_t *)catalogue;
+    struct rigtomato_read_answer answer =
+        rigtomato_read(text, strlen(catalogue), file.rules, 17, file.names, 17);
+    CHECK(answer.refusal == 0 && answer.words == 17 && answer.bytes == 17);
+    answer = rigtomato_read(text, strlen(catalogue), file.rules, 16, file.names, 17);
+    CHECK(answer.refusal == RIGTOMATO_OUTPUT_SHORT && answer.line == 0);
+    /* no rule has an atom */
+    written_as("(min a b)\n(vary c)\n(fix d)\n", "(min)\n(vary)\n(fix)\n");
+    CHECK(states_are(1, (const uint64_t[]){0}));
+    /* unused names are checked */
+    CHECK(read_gives("(vary a)\n(fix abcdefghijklmnopqrstuvwxy)\n(rule (head a) (body) (not))\n",
+                     RIGTOMATO_NAME, 2));
+    CHECK(read_gives("(min b)\n(vary a)\n(fix b)\n(rule (head a) (body) (not))\n",
+                     RIGTOMATO_DECLARED_TWICE, 3));
+    /* a plain program keeps its atoms */
+    written("(atoms a b c)\n(rule (head b) (body) (not))\n");
+    CHECK(file.rules[1] == 3);
+}
+
+/* Stores handed in are taken as they stand: a, v and f stand in no rule. */
+static void stores_handed_in(void)
+{
+    static const uint16_t words[] = {1, 4, 2, 1, 1, 2, 17, 18, 1, 0, 0, 1};
+    static const char names[] = "\x01" "a\x01" "b\x01" "v\x01" "f";
+    static const char text[] =
+        "(min a)\n(min b)\n(vary v)\n(fix f)\n(rule (head b) (body) (not))\n";
+    static uint8_t out[4096];
+    file.rules_len = sizeof words / sizeof words[0];
+    memcpy(file.rules, words, sizeof words);
+    file.names_len = sizeof names - 1;
+    memcpy(file.names, names, sizeof names - 1);
+    CHECK(states_are(4, (const uint64_t[]){2, 10, 6, 14}));
+    CHECK(place_is(14, 0, 7));
+    CHECK(place_is(16, RIGTOMATO_SET_TOO_LARGE, 0));
+    struct rigtomato_text_answer answer =
+        rigtomato_write(file.rules, file.rules_len, file.names, file.names_len, out, sizeof out);
+    CHECK(answer.refusal == 0 && answer.bytes == sizeof text - 1);
+    CHECK(memcmp(out, text, sizeof text - 1) == 0);
+    answer = rigtomato_translate(file.rules, file.rules_len, file.names, file.names_len, out,
+                                 sizeof out);
+    CHECK(answer.refusal == 0 && memcmp(out, "(atoms a b v f N.a ", 19) == 0);
+}
+
 /* The sizes that the header names, met and passed by one. */
 static void sizes(void)
 {
@@ -310,6 +394,8 @@ int main(void)
     stable_sets();
     refusals();
     names();
+    unused_atoms();
+    stores_handed_in();
     sizes();
     printf("tests/c/sheet.c: %d checks, %d failed\n", checks, failures);
     return failures != 0;

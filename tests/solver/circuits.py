@@ -6,7 +6,8 @@ usage: circuits.py N K SEED            a preference file
 
 A random tree of N nodes: its leaves are inputs with known values, its inner nodes gates, node 1 gives
 the output, and what was read is not that value but the other. `ab` atoms (this gate is at fault) are
-minimised in K classes, `high` atoms (this node's value) vary.
+minimised in K classes, `high` atoms (this node's value) vary. Each node has an `ab` atom; an input's stands
+in no rule, so it does not belong to the program.
 
 The states are worked out here from the circuit alone. A gate at fault gives the wrong value, so the set
 of faults fixes every value. Whatever depends on the set of faults is a table with one bit for each set,

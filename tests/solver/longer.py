@@ -23,7 +23,7 @@ def n(name):
 
 
 def parts(file):
-    """The minimised atoms, the others, and each rule's head and body."""
+    """The minimised atoms and the others that stand in some rule, and each rule's head and body."""
     minimised, others, rules = [], [], []
     for line in file.splitlines():
         declared = DECLARATION.fullmatch(line)
@@ -32,7 +32,8 @@ def parts(file):
         else:
             head, body, _ = RULE.fullmatch(line).groups()
             rules.append((head.split(), body.split()))
-    return minimised, others, rules
+    used = {name for head, body in rules for name in head + body}
+    return [a for a in minimised if a in used], [a for a in others if a in used], rules
 
 
 def longer_rules(atoms, rules):

@@ -12,7 +12,7 @@ import shlex
 import subprocess
 import sys
 
-from to_clingo import convert
+from to_clingo import RULE, convert
 
 
 def output(command, path):
@@ -20,15 +20,17 @@ def output(command, path):
         return subprocess.run(shlex.split(command), stdin=text, capture_output=True, check=True).stdout.decode()
 
 
-def declared(path):
-    """The file's atoms in declared order."""
-    names = []
+def atoms(path):
+    """The declared atoms that stand in some rule, in declared order: only these belong to the program."""
+    declared, used = [], set()
     with open(path) as text:
         for line in text:
-            word, *rest = line.strip().strip("()").split(" ")
-            if word in ("min", "vary", "fix"):
-                names += rest
-    return names
+            word, *rest = re.findall(r"[^ ()\n]+", line)
+            if word == "rule":
+                used.update(name for part in RULE.fullmatch(line.strip()).groups() for name in part.split())
+            else:
+                declared += rest
+    return [name for name in declared if name in used]
 
 
 def stable_models(program):
@@ -50,7 +52,7 @@ def listed_states(listing):
 
 
 def difference(translate, states, path):
-    names = declared(path)
+    names = atoms(path)
     listed = listed_states(output(states, path))
     models = stable_models(convert(output(translate, path)))
     # Of two states the first lacks the first declared atom on which they differ.

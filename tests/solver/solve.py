@@ -12,7 +12,7 @@ import tempfile
 
 import circuits
 
-SIZES = [18, 22, 26, 28, 36]  # the last has 72 atoms: past 60, and past a word's bits
+SIZES = [18, 22, 26, 28, 45]  # the last has 65 atoms in its rules: past 60, and past a word's bits
 CLASSES = [1, 4]
 SEEDS = [1, 2, 3]
 

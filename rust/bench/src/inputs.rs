@@ -167,8 +167,9 @@ pub fn all_at_fault(count: usize) -> Walk {
     }
 }
 
-/// A long preference file: 256 atoms with long names, 1,024 rules, 8,192 places.
-pub fn long_file() -> Vec<u8> {
+/// A long preference file: 256 atoms with long names, 1,024 rules, 8,192 places. One atom in
+/// `every` stands in rules, from the first on.
+pub fn long_file(every: usize) -> Vec<u8> {
     let mut random = Random::new(5);
     let mut file = Program::empty(Kind::Preference);
     file.atoms = 256;
@@ -180,10 +181,14 @@ pub fn long_file() -> Vec<u8> {
             _ => Role::Fixed,
         })
         .collect();
+    let mut four = || -> Vec<usize> {
+        let chosen = random.choose(4, 256 / every).into_iter();
+        chosen.map(|place| every * place).collect()
+    };
     for _ in 0..1_024 {
         file.rules.push(Rule {
-            head: random.choose(4, 256),
-            body: random.choose(4, 256),
+            head: four(),
+            body: four(),
             not: Vec::new(),
         });
     }

@@ -275,7 +275,7 @@ const TRANSLATE: Writers = Writers {
     reference: |rules, names, out| lent::translate(rules, names, out).is_ok(),
 };
 
-fn read_row(text: &[u8]) {
+fn read_row(what: &str, text: &[u8]) {
     let words = twin::read(text).expect("an accepted text").rules.len();
     let lent_stores = || RefCell::new((vec![0u16; 36_604], vec![0u8; 20_900]));
     let mut contestants: Vec<Contestant> = Vec::new();
@@ -305,7 +305,7 @@ fn read_row(text: &[u8]) {
         }),
     ));
     row(
-        &format!("read, {} bytes", text.len()),
+        &format!("read, {what}, {} bytes", text.len()),
         text.len() as f64,
         "MB/s",
         &contestants,
@@ -347,12 +347,13 @@ fn write_row(writers: &Writers, stores: &twin::Stores, text: &Vec<u8>) {
 
 /// A long preference file, its translation, and what can be done with them.
 fn text_rows() {
-    let file = inputs::long_file();
+    let file = inputs::long_file(1);
     let stores = twin::read(&file).expect("an accepted text");
     let delivered = twin::translate(&stores).expect("a preference file");
     let plain = twin::read(&delivered).expect("an accepted text");
-    read_row(&file);
-    read_row(&delivered);
+    read_row("256 atoms, all in rules", &file);
+    read_row("256 atoms, half in no rule", &inputs::long_file(2));
+    read_row("a translation", &delivered);
     write_row(&WRITE, &stores, &file);
     write_row(&WRITE, &plain, &delivered);
     write_row(&TRANSLATE, &stores, &delivered);

@@ -162,6 +162,43 @@ impl<'t> Reader<'t> {
         }
         line.expect(b")")
     }
+
+    /// Leaves out the atoms that no list has, which the reading of the lists marked: one pass over
+    /// the declarations, one over the rules.
+    fn leave_out_unused(&mut self) {
+        if self.seen.iter().all(|list| *list != 0) {
+            return;
+        }
+        let Stores { rules, names } = &mut self.stores;
+        let mut numbers = [0u16; 256];
+        let (mut left, mut from, mut to) = (0, 0, 0);
+        for (atom, list) in self.seen.iter().enumerate() {
+            let name = from..from + 1 + usize::from(names[from]);
+            from = name.end;
+            if *list != 0 {
+                numbers[atom] = left as u16;
+                rules[4 + left] = rules[4 + atom];
+                left += 1;
+                names.copy_within(name.clone(), to);
+                to += name.len();
+            }
+        }
+        names.truncate(to);
+        let (mut from, mut to) = (4 + self.atoms, 4 + left);
+        for _ in 0..self.rules {
+            let places: u16 = rules[from..from + 3].iter().sum();
+            rules.copy_within(from..from + 3, to);
+            let end = from + 3 + usize::from(places);
+            to += 3;
+            for at in from + 3..end {
+                rules[to] = numbers[usize::from(rules[at])];
+                to += 1;
+            }
+            from = end;
+        }
+        rules.truncate(to);
+        self.atoms = left;
+    }
 }
 
 pub fn read(text: &[u8]) -> Result<Stores, Refused> {
@@ -235,6 +272,9 @@ pub fn read(text: &[u8]) -> Result<Stores, Refused> {
     }
     if stage != 0 {
         return Err((2, line_number + 1));
+    }
+    if !plain {
+        reader.leave_out_unused();
     }
     reader.stores.rules[1] = reader.atoms as u16;
     reader.stores.rules[2] = classes;

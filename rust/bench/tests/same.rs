@@ -2,7 +2,7 @@
 
 use bench::{inputs, twin, walks};
 use compare::engine::{Engine, Reference, VerdictAnswer};
-use compare::generate::{either, plain, preference, Size};
+use compare::generate::{either, partly_used, plain, preference, Size};
 use compare::random::Random;
 use compare::spoil;
 use reference::stores::{name_store, rule_store};
@@ -11,8 +11,11 @@ use reference::{lent, reader, writer};
 #[test]
 fn the_fast_reader_writer_and_translator() {
     let mut random = Random::new(3);
-    for turn in 0..4_000 {
-        let (program, names) = either(&mut random, Size::SMALL);
+    for turn in 0..6_000 {
+        let (program, names) = match turn / 6 % 3 {
+            0 => partly_used(&mut random, Size::SMALL),
+            _ => either(&mut random, Size::SMALL),
+        };
         let mut text = writer::write(&program, &names);
         for _ in 0..turn % 3 {
             if random.once_in(2) {
@@ -158,5 +161,21 @@ fn the_inputs_are_what_they_say() {
         assert_eq!(walk.answer.kind, kind);
         assert_eq!(call(&walk.rules, walk.number, 1 << 40), walk.answer);
     }
-    assert!(reader::read(&inputs::long_file()).is_ok());
+}
+
+/// Reading gives the two stores, of the file with all atoms in rules and of the one with half.
+#[test]
+fn the_long_files() {
+    for (every, remaining) in [(1, 256), (2, 128)] {
+        let text = inputs::long_file(every);
+        let (typed, _) = reader::read_lines(&text).expect("an accepted text");
+        let (file, names) = reader::read(&text).expect("an accepted text");
+        assert_eq!((typed.atoms, file.atoms), (256, remaining));
+        assert_eq!((file.rules.len(), file.occurrences()), (1_024, 8_192));
+        let expected = twin::Stores {
+            rules: rule_store(&file),
+            names: name_store(&names),
+        };
+        assert_eq!(twin::read(&text), Ok(expected));
+    }
 }

@@ -1,7 +1,9 @@
 //! The families of cases, each of which compares some calls.
 
 use crate::checker::{Checked, Checker, Difference};
-use crate::generate::{edge_name, either, inverters, mixed, one_at_fault, plain, preference, Size};
+use crate::generate::{
+    edge_name, either, inverters, mixed, one_at_fault, partly_used, plain, preference, Size,
+};
 use crate::random::Random;
 use crate::spoil;
 use reference::lent;
@@ -10,6 +12,7 @@ use reference::program::{Names, Program, Role, Rule};
 use reference::reader;
 use reference::stores::{name_store, rule_store};
 use reference::translator;
+use reference::used_atoms::used_atoms;
 use reference::verdicts::{self, holds, is_model, place, Next, Verdict};
 use reference::writer;
 
@@ -191,6 +194,59 @@ pub fn choices(check: &mut Checker, random: &mut Random) -> Checked {
     let (file, names) = mixed(random, most);
     texts_of_stores(check, random, &rule_store(&file), &name_store(&names))?;
     plain_program(check, random, &file, &names)
+}
+
+/// Faults in the names of atoms that stand in no rule: at the edges of what is allowed, or the name
+/// of another atom.
+fn unused_names(
+    check: &mut Checker,
+    random: &mut Random,
+    file: &Program,
+    names: &Names,
+) -> Checked {
+    let used = used_atoms(file);
+    let unused: Vec<usize> = (0..file.atoms).filter(|a| !used.contains(a)).collect();
+    for place in random.choose(3, unused.len()) {
+        for name in [edge_name(random), random.pick(names).clone()] {
+            let mut names = names.clone();
+            names[unused[place]] = name;
+            read(check, random, &writer::write(file, &names))?;
+        }
+    }
+    Ok(())
+}
+
+/// A file of which some atoms stand in no rule: read, also with the room of all that is typed; then
+/// what remains written back, read again, translated and walked through; the stores with all atoms
+/// handed in; faults in the names that no rule has; the same rules in a plain program.
+pub fn unused_atoms(check: &mut Checker, random: &mut Random) -> Checked {
+    let size = match random.below(8) {
+        0 => Size {
+            atoms: 256,
+            ..Size::SMALL
+        },
+        _ => Size::SMALL,
+    };
+    let (file, names) = partly_used(random, size);
+    let text = writer::write(&file, &names);
+    read(check, random, &text)?;
+    check.read(&text, rule_store(&file).len(), name_store(&names).len())?;
+    unused_names(check, random, &file, &names)?;
+    let (left, left_names) = reader::read(&text).expect("an accepted text");
+    for (file, names) in [(&file, &names), (&left, &left_names)] {
+        texts_of_stores(check, random, &rule_store(file), &name_store(names))?;
+        if file.atoms <= Size::SMALL.atoms {
+            verdicts(check, random, file)?;
+        }
+    }
+    read(check, random, &writer::write(&left, &left_names))?;
+    plain_program(check, random, &left, &left_names)?;
+    let plain = Program {
+        atoms: file.atoms,
+        rules: file.rules,
+        ..Program::empty(Kind::Plain)
+    };
+    read(check, random, &writer::write(&plain, &names))
 }
 
 /// A small file with one to three damages.
@@ -667,6 +723,14 @@ pub fn limits(check: &mut Checker, random: &mut Random) -> Checked {
             let (program, names) = exact(kind, atoms + a, rules + r, occurrences + o);
             let text = writer::write(&program, &names);
             read(check, random, &text)?;
+            texts_of_stores(check, random, &rule_store(&program), &name_store(&names))?;
+        }
+    }
+    // Atoms that stand in no rule count toward the limit.
+    for atoms in 255..=257 {
+        for occurrences in [0, 3, 200] {
+            let (program, names) = exact(Kind::Preference, atoms, 1, occurrences);
+            read(check, random, &writer::write(&program, &names))?;
             texts_of_stores(check, random, &rule_store(&program), &name_store(&names))?;
         }
     }

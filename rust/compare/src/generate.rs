@@ -187,6 +187,46 @@ pub fn preference(random: &mut Random, size: Size) -> (Program, Names) {
     (program, names)
 }
 
+/// Some of the file's atoms in declared order: none, one, all but one, all but those of one role, all
+/// but a run of them, or any.
+fn some_atoms(random: &mut Random, file: &Program) -> Vec<usize> {
+    let mut atoms: Vec<usize> = (0..file.atoms).collect();
+    if atoms.is_empty() {
+        return atoms;
+    }
+    let one = random.below(file.atoms);
+    let run = one..random.within(one, file.atoms);
+    match random.below(8) {
+        0 => atoms.clear(),
+        1 => atoms = vec![one],
+        2 => atoms.retain(|&atom| atom != one),
+        3 => atoms.retain(|&atom| file.roles[atom] != file.roles[one]),
+        4 => atoms.retain(|atom| !run.contains(atom)),
+        _ => atoms.retain(|_| random.once_in(2)),
+    }
+    atoms
+}
+
+/// A preference file with its names, of which only some atoms may stand in rules.
+pub fn partly_used(random: &mut Random, mut size: Size) -> (Program, Names) {
+    let (mut file, names) = preference(random, Size { rules: 0, ..size });
+    let used = some_atoms(random, &file);
+    if used.is_empty() {
+        // Each rule then has three empty lists, and one is as good as many.
+        size.rules = 1;
+    }
+    let mut over_used = Program::empty(Kind::Preference);
+    over_used.atoms = used.len();
+    rules(random, &mut over_used, size);
+    for rule in &mut over_used.rules {
+        for list in [&mut rule.head, &mut rule.body] {
+            list.iter_mut().for_each(|atom| *atom = used[*atom]);
+        }
+    }
+    file.rules = over_used.rules;
+    (file, names)
+}
+
 /// Atoms of some of the roles, at times of none, in any sequence: for each role that is taken one or
 /// two of its atoms.
 fn mixed_list(random: &mut Random, roles: &[Vec<usize>; 3]) -> Vec<usize> {
@@ -298,6 +338,7 @@ pub fn either(random: &mut Random, size: Size) -> (Program, Names) {
 #[cfg(test)]
 mod tests {
     use super::*;
+    use reference::used_atoms::used_atoms;
     use std::collections::HashSet;
 
     /// Which roles the list has: minimised, varying, fixed.
@@ -308,6 +349,21 @@ mod tests {
             any(|role| role == Role::Varying),
             any(|role| role == Role::Fixed),
         ]
+    }
+
+    /// Of each role there are atoms in rules, atoms in none, both, or neither.
+    #[test]
+    fn atoms_of_every_role_are_unused() {
+        let mut random = Random::new(2);
+        let mut seen = HashSet::new();
+        for _ in 0..1_000 {
+            let (file, _) = partly_used(&mut random, Size::SMALL);
+            let used = used_atoms(&file);
+            let unused: Vec<usize> = (0..file.atoms).filter(|a| !used.contains(a)).collect();
+            let (used, unused) = (roles(&file, &used), roles(&file, &unused));
+            seen.extend((0..3).map(|role| (role, used[role], unused[role])));
+        }
+        assert_eq!(seen.len(), 12);
     }
 
     #[test]

@@ -4,6 +4,8 @@ use crate::checker::Difference;
 use crate::generate::{either, preference, Size};
 use crate::random::Random;
 use crate::spoil;
+use reference::limits::Kind;
+use reference::program::{Program, Role, Rule};
 use reference::{programs, reader, writer};
 use std::io::{self, Read, Write};
 use std::path::{Path, PathBuf};
@@ -60,14 +62,19 @@ fn inputs(random: &mut Random) -> Vec<u8> {
             };
             writer::write(&program, &names)
         }
-        // Many states: a listing around 65,536 bytes.
+        // Many states, with a rule that holds in all of them: a listing around 65,536 bytes.
         1 => {
-            let names = crate::generate::names(random, reference::limits::Kind::Preference, 11);
-            let list: Vec<u8> = names
-                .iter()
-                .flat_map(|n| [b" ", n.as_slice()].concat())
-                .collect();
-            [b"(vary", list.as_slice(), b")\n(fix)\n"].concat()
+            let atoms: Vec<usize> = (0..11).collect();
+            let mut file = Program::empty(Kind::Preference);
+            file.atoms = atoms.len();
+            file.roles = vec![Role::Varying; atoms.len()];
+            file.rules.push(Rule {
+                head: atoms.clone(),
+                body: atoms,
+                not: Vec::new(),
+            });
+            let names = crate::generate::names(random, file.kind, file.atoms);
+            writer::write(&file, &names)
         }
         _ => {
             let (program, names) = either(random, Size::SMALL);

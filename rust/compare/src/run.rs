@@ -10,7 +10,7 @@ use std::time::{Duration, Instant};
 type Family = fn(&mut Checker, &mut Random) -> Checked;
 
 /// The families with how often each has its turn in a round.
-const FAMILIES: [(&str, Family, usize); 15] = [
+const FAMILIES: [(&str, Family, usize); 16] = [
     ("valid files", cases::valid, 60),
     ("damaged texts", cases::damaged_text, 40),
     ("no files", cases::soup, 20),
@@ -26,6 +26,7 @@ const FAMILIES: [(&str, Family, usize); 15] = [
     ("orders", cases::orders, 20),
     ("partial choices", cases::partial_choices, 20),
     ("rows of inverters", cases::rows_of_inverters, 5),
+    ("unused atoms", cases::unused_atoms, 20),
 ];
 
 /// When a run ends: when both are reached.

@@ -1,15 +1,18 @@
 //! Wrong engines: the harness has to notice each of them.
 
+mod wrong_readings;
 mod wrong_walks;
 
 use compare::engine::{Engine, ReadAnswer, Reference, TextAnswer, ValueAnswer, VerdictAnswer};
 use compare::run::{run, Until};
 use reference::limits::Kind;
 use reference::program::{Program, Role, Rule};
-use reference::stores::{check_names, check_rules, check_rules_of, rule_store};
+use reference::stores::{check_names, check_rules, check_rules_of, name_store, rule_store};
+use reference::used_atoms::{restricted, used_atoms, without_unused};
 use reference::verdicts::{self, beats, is_model, place, reduct, Next, Verdict};
 use reference::{translator, writer};
 use std::time::Duration;
+use wrong_readings::{ReadSlip, READ_SLIPS};
 use wrong_walks::{WalkSlip, WALK_SLIPS};
 
 /// What is wrong with an engine.
@@ -46,10 +49,15 @@ enum Slip {
     PlaceIsTheNumber,
     PlaceOneTooHigh,
     PlaceInAPlainStore,
+    WritesWhatRemains,
+    TranslatesWhatRemains,
+    JudgesWhatRemains,
+    ListsWhatRemains,
+    Read(ReadSlip),
     Walk(WalkSlip),
 }
 
-const SLIPS: [Slip; 31] = [
+const SLIPS: [Slip; 35] = [
     Slip::RefusesEverything,
     Slip::WritesOnRefusal,
     Slip::WritesPastTheEnd,
@@ -81,6 +89,10 @@ const SLIPS: [Slip; 31] = [
     Slip::PlaceIsTheNumber,
     Slip::PlaceOneTooHigh,
     Slip::PlaceInAPlainStore,
+    Slip::WritesWhatRemains,
+    Slip::TranslatesWhatRemains,
+    Slip::JudgesWhatRemains,
+    Slip::ListsWhatRemains,
 ];
 
 /// The store with other `not` lists, by which the reduct then keeps other rules; as it is where
@@ -94,6 +106,15 @@ fn with_nots(rules: &[u16], nots: impl Fn(&[Rule], usize) -> Vec<usize>) -> Vec<
         rule.not = nots(&before, place);
     }
     rule_store(&program)
+}
+
+/// The stores handed in without the atoms that stand in no rule, where they are those of a
+/// preference file.
+fn what_remains(rules: &[u16], names: &[u8]) -> Option<(Vec<u16>, Vec<u8>)> {
+    let file = check_rules_of(Kind::Preference, rules).ok()?;
+    let names = check_names(&file, names).ok()?;
+    let (left, left_names) = without_unused(&file, &names);
+    Some((rule_store(&left), name_store(&left_names)))
 }
 
 /// The text that a slip in step 1 or 2 delivers for a preference file's stores.
@@ -258,6 +279,9 @@ impl Engine for Wrong {
     }
 
     fn read(&self, text: &[u8], rules: &mut [u16], names: &mut [u8]) -> ReadAnswer {
+        if let Slip::Read(slip) = self.0 {
+            return wrong_readings::read(slip, text, rules, names);
+        }
         let mut answer = Reference.read(text, rules, names);
         match self.0 {
             Slip::RefusesEverything if answer.refusal == 0 => answer.refusal = 2,
@@ -270,6 +294,11 @@ impl Engine for Wrong {
     }
 
     fn write(&self, rules: &[u16], names: &[u8], out: &mut [u8]) -> TextAnswer {
+        if self.0 == Slip::WritesWhatRemains {
+            if let Some((rules, names)) = what_remains(rules, names) {
+                return Reference.write(&rules, &names, out);
+            }
+        }
         let answer = Reference.write(rules, names, out);
         self.text(answer, out)
     }
@@ -277,6 +306,11 @@ impl Engine for Wrong {
     fn translate(&self, rules: &[u16], names: &[u8], out: &mut [u8]) -> TextAnswer {
         if self.0 == Slip::ReturnsWithoutWriting {
             return Reference.translate(rules, names, &mut out.to_vec());
+        }
+        if self.0 == Slip::TranslatesWhatRemains {
+            if let Some((rules, names)) = what_remains(rules, names) {
+                return Reference.translate(&rules, &names, out);
+            }
         }
         if let Some(text) = wrong_translation(self.0, rules, names) {
             return deliver(&text, out);
@@ -304,6 +338,12 @@ impl Engine for Wrong {
             Slip::FirstBetterByRisingNumber if answer.kind == 2 => {
                 let file = check_rules(rules).expect("it was judged");
                 answer.value = least(answer.value, |n| beats(&file, n, set));
+            }
+            Slip::JudgesWhatRemains => {
+                if let Ok(file) = check_rules_of(Kind::Preference, rules) {
+                    let left = restricted(&file, &used_atoms(&file));
+                    answer = Reference.preferred(&rule_store(&left), set, budget);
+                }
             }
             Slip::Walk(slip) if answer.kind < 4 => {
                 let file = check_rules(rules).expect("it was judged");
@@ -372,6 +412,10 @@ impl Engine for Wrong {
                 Reference.next_state(rules, turn(start), budget)
             }
             Slip::AnswerAsPlace if right.kind == 0 => answer(0, turn(right.value), right.units),
+            Slip::ListsWhatRemains => {
+                let left = restricted(&file, &used_atoms(&file));
+                Reference.next_state(&rule_store(&left), start, budget)
+            }
             Slip::Walk(slip) => next_answer(wrong_walks::next_state(slip, &file, start, budget)),
             _ => right,
         }
@@ -405,7 +449,9 @@ const UNTIL: Until = Until {
 
 #[test]
 fn each_slip_is_noticed() {
-    for slip in SLIPS.into_iter().chain(WALK_SLIPS.map(Slip::Walk)) {
+    let walks = WALK_SLIPS.map(Slip::Walk);
+    let readings = READ_SLIPS.map(Slip::Read);
+    for slip in SLIPS.into_iter().chain(walks).chain(readings) {
         assert!(
             run(&Wrong(slip), 7, UNTIL).is_err(),
             "{slip:?} was not noticed"
@@ -413,9 +459,11 @@ fn each_slip_is_noticed() {
     }
 }
 
-/// What is noticed of a wrong walk is its slip.
+/// What is noticed of a wrong walk or reading is its slip.
 #[test]
-fn a_walk_without_a_slip_is_right() {
-    let report = run(&Wrong(Slip::Walk(WalkSlip::Nothing)), 7, UNTIL);
-    assert!(report.is_ok());
+fn without_a_slip_they_are_right() {
+    for nothing in [Slip::Walk(WalkSlip::Nothing), Slip::Read(ReadSlip::Nothing)] {
+        let report = run(&Wrong(nothing), 7, UNTIL);
+        assert!(report.is_ok(), "{nothing:?}");
+    }
 }

@@ -1,13 +1,15 @@
 //! What documents 01 and 02 say of every file, held against the second implementation itself: the
-//! text comes back from the stores, the stores from the text, the three sums count the delivered
-//! text, its stable sets pair with the file's states, and a class cut in two brings in no state.
+//! text comes back from the stores, the stores from the text, both without the atoms that no rule of
+//! a preference file has; these atoms change no state; the three sums count the delivered text, its
+//! stable sets pair with the file's states, and a class cut in two brings in no state.
 
-use compare::generate::{either, mixed, preference, Size};
+use compare::generate::{either, mixed, partly_used, preference, Size};
 use compare::random::Random;
 use reference::limits::{Kind, BUDGET_LIMIT};
 use reference::program::{Program, Role};
 use reference::stores::{check_names, check_rules, name_store, rule_store};
-use reference::verdicts::{preferred, stable, Verdict};
+use reference::used_atoms::{restricted, used_atoms, without_unused};
+use reference::verdicts::{holds, preferred, stable, Verdict};
 use reference::{reader, translator, writer};
 
 const LARGE: Size = Size {
@@ -19,9 +21,12 @@ const LARGE: Size = Size {
 #[test]
 fn texts_and_stores() {
     let mut random = Random::new(11);
-    for turn in 0..600 {
+    for turn in 0..900 {
         let size = if turn % 20 == 0 { LARGE } else { Size::SMALL };
-        let (program, names) = either(&mut random, size);
+        let (program, names) = match turn % 3 {
+            0 => partly_used(&mut random, size),
+            _ => either(&mut random, size),
+        };
         let checked = check_rules(&rule_store(&program));
         assert_eq!(checked.as_ref(), Ok(&program));
         assert_eq!(
@@ -30,7 +35,16 @@ fn texts_and_stores() {
         );
         let text = writer::write(&program, &names);
         let read = reader::read(&text).expect("a written text is accepted");
-        assert_eq!(read, (program, names));
+        let remaining = match program.kind {
+            Kind::Plain => (program.clone(), names.clone()),
+            Kind::Preference => without_unused(&program, &names),
+        };
+        assert_eq!(read, remaining);
+        // The text itself comes back exactly where nothing was left out.
+        let again = writer::write(&read.0, &read.1);
+        let nothing_left_out = read == (program, names);
+        assert_eq!(again == text, nothing_left_out);
+        assert_eq!(reader::read(&again), Ok(read));
     }
 }
 
@@ -75,6 +89,35 @@ fn sets(atoms: usize, verdict: impl Fn(u64) -> Verdict) -> Vec<u64> {
 
 fn states(file: &Program) -> Vec<u64> {
     sets(file.atoms, |set| preferred(file, set, BUDGET_LIMIT))
+}
+
+/// The members of the set among these atoms, as a set of their places.
+fn cut_to(atoms: &[usize], set: u64) -> u64 {
+    let members = (0..atoms.len()).filter(|&place| holds(set, atoms[place]));
+    members.map(|place| 1 << place).sum()
+}
+
+/// The states of what remains are those of all declared atoms, cut down to what remains; there each
+/// comes once for every choice of the varying and fixed atoms that are left out.
+#[test]
+fn unused_atoms_change_no_state() {
+    let mut random = Random::new(17);
+    let mut doubled = 0;
+    for _ in 0..600 {
+        let (file, _) = partly_used(&mut random, Size::SMALL);
+        let used = used_atoms(&file);
+        let of_all = states(&file);
+        let left = states(&restricted(&file, &used));
+        let mut cut: Vec<u64> = of_all.iter().map(|&set| cut_to(&used, set)).collect();
+        cut.sort_unstable();
+        cut.dedup();
+        assert_eq!(cut, left, "{file:?}");
+        let free = |a: &usize| !used.contains(a) && file.class(*a).is_none();
+        let free = (0..file.atoms).filter(free).count();
+        assert_eq!(of_all.len(), left.len() << free, "{file:?}");
+        doubled += of_all.len() - left.len();
+    }
+    assert!(doubled > 0, "some list is longer with unused atoms");
 }
 
 #[test]

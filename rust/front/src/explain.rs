@@ -50,7 +50,10 @@ fn limits(kind: Kind) -> String {
     let [atoms, rules, places] = [atoms, rules, occurrences].map(|limit| grouped(limit as u64));
     let most = format!("{atoms} atoms, {rules} rules and {places} atom places in its rules' lists");
     match kind {
-        Kind::Preference => format!("A preference file has at most {classes} classes, {most}."),
+        Kind::Preference => format!(
+            "A preference file has at most {classes} classes, {most}. Atoms that no rule has count \
+             too."
+        ),
         Kind::Plain => format!("A plain program has at most {most}."),
     }
 }

@@ -44,6 +44,16 @@ impl File {
         self.lines().nth(before)
     }
 
+    /// The names on the declaring lines of an accepted text, in declared order.
+    pub fn declared(&self) -> impl Iterator<Item = &str> {
+        let declaring = self.lines().take_while(|line| !line.starts_with(b"(rule"));
+        declaring.flat_map(|line| {
+            let line = std::str::from_utf8(line).expect("names are letters, digits, `_` and `.`");
+            let line = line.trim_end_matches(['\n', ')']);
+            line.split(' ').skip(1)
+        })
+    }
+
     /// The line of the rule with this number from 0, in an accepted text.
     pub fn rule(&self, rule: u64) -> (u64, String) {
         let mut numbered = (1..).zip(self.lines());
@@ -64,13 +74,33 @@ impl File {
 mod tests {
     use super::*;
 
+    fn file(text: &str) -> File {
+        File {
+            name: "x".to_string(),
+            text: text.into(),
+        }
+    }
+
+    #[test]
+    fn declared_names() {
+        let rule = "(rule (head a) (body) (not))\n";
+        for (text, names) in [
+            ("(vary)\n(fix)\n", &[][..]),
+            (
+                "(min)\n(min b c)\n(vary a)\n(fix 7)\n",
+                &["b", "c", "a", "7"],
+            ),
+            ("(atoms a N.a U)\n", &["a", "N.a", "U"]),
+        ] {
+            let text = format!("{text}{rule}");
+            assert!(file(&text).declared().eq(names.iter().copied()), "{text}");
+        }
+    }
+
     #[test]
     fn lines_by_number() {
-        let text = b"(vary a)\n(fix)\n(rule (head a) (body) (not))\n(rule (head) (body a) (not))";
-        let file = File {
-            name: "x".to_string(),
-            text: text.to_vec(),
-        };
+        let text = "(vary a)\n(fix)\n(rule (head a) (body) (not))\n(rule (head) (body a) (not))";
+        let file = file(text);
         assert_eq!(file.line(0), None);
         assert_eq!(file.line(1), Some(b"(vary a)\n".as_slice()));
         assert_eq!(file.line(2), Some(b"(fix)\n".as_slice()));

@@ -15,7 +15,8 @@ and one space between items:
     (rule (head dark) (body lamp) (not))      a lamp at fault means dark
 
 A rule says: if all of the body, then some of the head. A name is 1 to 24 bytes,
-letters a to z, digits or _, the first no _. For this file 'states' prints
+letters a to z, digits or _, the first no _. A declared atom that stands in no
+rule is left out; 'check' names it. For this file 'states' prints
 
     (state lamp dark)
     (total 1)

@@ -100,7 +100,7 @@ impl<W: Write> Listing<W> {
 mod tests {
     use super::*;
 
-    const TEXT: &[u8] = b"(min a)\n(vary b)\n(fix)\n";
+    const TEXT: &[u8] = b"(min a)\n(vary b)\n(fix)\n(rule (head a) (body b) (not))\n";
 
     fn listed(json: bool, sets: &[u64], end: End) -> String {
         let program = Program::read(TEXT).unwrap();

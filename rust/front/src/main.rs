@@ -18,6 +18,7 @@ mod output;
 mod refused;
 mod sets;
 mod solver;
+mod unused;
 mod watch;
 
 use commands::{named, COMMANDS};

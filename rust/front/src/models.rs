@@ -128,7 +128,8 @@ mod tests {
     use super::*;
 
     fn read(output: &str) -> Result<Vec<Vec<usize>>, String> {
-        let program = Program::read(b"(min a ab)\n(vary b)\n(fix)\n").unwrap();
+        let text = b"(min a ab)\n(vary b)\n(fix)\n(rule (head a ab) (body b) (not))\n";
+        let program = Program::read(text).unwrap();
         let models = Models::default();
         Reader::new(&program, models.clone()).read(output.as_bytes())?;
         let sets = models.take();

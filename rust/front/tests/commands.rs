@@ -3,7 +3,8 @@
 mod common;
 
 use common::{
-    endless, example, front, names, proved, ran, rigtomato, run, stored, text_of, Json, FILE_A,
+    endless, example, front, names, proved, ran, rigtomato, run, stored, tautology, text_of,
+    varying, Json, FILE_A,
 };
 
 #[test]
@@ -16,6 +17,11 @@ fn states_of_the_examples() {
         ),
         ("inverters_by_rank", "(state ab3 b)\n(total 1)\n"),
         ("touch", "(state bad_lamp visit touch)\n(total 1)\n"),
+        ("catalogue", "(state 1999_12_lamp 1999_12)\n(total 1)\n"),
+        (
+            "whole_catalogue",
+            "(state 1999_12_lamp 1999_12)\n(total 1)\n",
+        ),
     ] {
         let path = example(&format!("{name}.pref"));
         assert_eq!(run(front().args(["states", &path]), ""), ran(0, states, ""));
@@ -154,7 +160,9 @@ fn checks() {
     assert_eq!(rigtomato("check -", FILE_A), ran(0, counts, ""));
     let counts = "\
         accepted: a preference file\n\
-        atoms        70 of 256    35 minimised in 3 classes, 35 varying, 0 fixed\n\
+        atoms        55 of 256    20 minimised in 3 classes, 35 varying, 0 fixed\n\
+        left out     15           declared, but in no rule: \
+        ab11 ab19 ab20 ab21 ab23 ab25 ab26 ab27 and 7 more\n\
         rules        96 of 1,024\n\
         occurrences 360 of 8,192\n";
     let circuit = run(front().args(["check", &stored("circuit.pref")]), "");
@@ -173,6 +181,46 @@ fn checks() {
     assert!(rigtomato("check -", &full)
         .out
         .contains("\nrules       1,024 of 1,024\n"));
+}
+
+/// Counts are of what remains; the declared atoms that stand in no rule are counted and named apart.
+#[test]
+fn checks_with_unused_atoms() {
+    let rule = "(rule (head a) (body) (not))\n";
+    let row = |declared: &str| {
+        let check = rigtomato("check -", &format!("{declared}{rule}"));
+        assert_eq!((check.status, check.err.as_str()), (Some(0), ""));
+        let rows: Vec<String> = check.out.lines().map(str::to_string).collect();
+        rows[1..3].join("\n")
+    };
+    assert_eq!(
+        row("(min b)\n(vary c a)\n(fix d)\n"),
+        "atoms         1 of 256    0 minimised in 1 class, 1 varying, 0 fixed\n\
+         left out      3           declared, but in no rule: b c d"
+    );
+    let eight = names(8);
+    let line = format!("left out      8           declared, but in no rule:{eight}");
+    assert!(row(&format!("(min a)\n(vary{eight})\n(fix)\n")).ends_with(&line));
+    let nine = format!("{eight} b c");
+    let line = format!("left out     10           declared, but in no rule:{eight} and 2 more");
+    assert!(row(&format!("(min a)\n(vary)\n(fix{nine})\n")).ends_with(&line));
+    assert!(row("(vary a)\n(fix)\n").ends_with("\nrules         1 of 1,024"));
+
+    let none = rigtomato("check -", "(min a)\n(vary b)\n(fix)\n").out;
+    assert!(none.contains("\natoms         0 of 256    0 minimised in 1 class, 0 "));
+    assert!(none.contains("\nleft out      2           declared, but in no rule: a b\n"));
+    // A plain program keeps its atoms.
+    let plain = rigtomato("check -", "(atoms a b c)\n").out;
+    assert!(
+        plain.contains("\natoms         3 of 1,100\nrules "),
+        "{plain}"
+    );
+    // Unused atoms count toward the limit.
+    let many = format!("(min a)\n(vary{})\n(fix)\n{rule}", names(256));
+    let refused = rigtomato("check -", &many);
+    assert_eq!((refused.status, refused.out.as_str()), (Some(1), ""));
+    let told = refused.err.ends_with("Atoms that no rule has count too.\n");
+    assert!(refused.err.starts_with("standard-input:2: ") && told);
 }
 
 #[test]
@@ -198,14 +246,15 @@ fn preferred_sets() {
         verdict("sensor --budget 5"),
         ran(3, "spent: more than 5 units are needed\n", "")
     );
-    let empty_is_better = rigtomato("preferred - a", "(min a)\n(vary)\n(fix)\n");
+    let one_atom = format!("(min a)\n(vary)\n(fix)\n{}", tautology(" a"));
+    let empty_is_better = rigtomato("preferred - a", &one_atom);
     assert_eq!(
         empty_is_better,
         answer("beaten by: the empty set (2 units)")
     );
     let no_atom = rigtomato("preferred -", "(vary)\n(fix)\n");
     assert_eq!(no_atom, answer("yes, 1 unit"));
-    let one = rigtomato("preferred - --budget 1", "(min a)\n(vary)\n(fix)\n");
+    let one = rigtomato("preferred - --budget 1", &one_atom);
     assert_eq!(one, ran(3, "spent: more than 1 unit is needed\n", ""));
 }
 
@@ -315,10 +364,54 @@ fn unknown_atoms() {
         unknown("no atom is called a")
     );
     // Atoms past the 60th have a number too; it is the file that is refused.
-    let wide = format!("(vary{})\n(fix)\n", names(256));
-    let refused = rigtomato("preferred - a255", &wide);
+    let refused = rigtomato("preferred - a255", &varying(256));
     assert_eq!((refused.status, refused.out.as_str()), (Some(1), ""));
     assert!(refused.err.contains("(refusal 11)"), "{}", refused.err);
+}
+
+/// An atom that is declared but stands in no rule is another matter than one that is not there.
+#[test]
+fn unused_atoms() {
+    let file = example("whole_catalogue.pref");
+    let said = |atom: &str| run(front().args(["preferred", &file, "1999_12", atom]), "");
+    let unusable = |words: &str| ran(2, "", &format!("rigtomato: {file}: {words}\n"));
+    for atom in ["1999_12_pad", "2004_7_lamp", "2011_3"] {
+        let words = format!(
+            "{atom} is declared, but it stands in no rule, so it does not belong to the program"
+        );
+        assert_eq!(said(atom), unusable(&words));
+    }
+    assert_eq!(
+        said("2004_7_pads"),
+        unusable("no atom is called 2004_7_pads; the nearest is 2004_7_pad")
+    );
+    // What is near is an atom of the program.
+    assert_eq!(said("2011_33"), unusable("no atom is called 2011_33"));
+    assert_eq!(said("1999_12_lamp"), ran(0, "yes, 27 units\n", ""));
+    let json = run(front().args(["preferred", "--json", &file, "2011_3"]), "");
+    assert_eq!((json.status, json.out.as_str()), (Some(2), ""));
+    // A plain program keeps its atoms.
+    let plain = rigtomato("stable - a", "(atoms a b)\n(rule (head a) (body) (not))\n");
+    assert_eq!(plain, ran(0, "yes, 3 units\n", ""));
+    // That it is of the other kind comes first.
+    let other = rigtomato("stable - a", "(vary a)\n(fix)\n");
+    assert!(other.err.ends_with("(refusal 10)\n"), "{}", other.err);
+}
+
+/// The states of a file are those of the file without its unused names, and so is its translation.
+#[test]
+fn files_with_unused_atoms() {
+    let [whole, part] = ["whole_catalogue.pref", "catalogue.pref"].map(example);
+    for words in [
+        &["states"][..],
+        &["states", "--json"],
+        &["translate"],
+        &["translate", "--asp"],
+        &["preferred", "--json"],
+    ] {
+        let [whole, part] = [&whole, &part].map(|file| run(front().args(words).arg(file), ""));
+        assert_eq!(whole, part);
+    }
 }
 
 #[test]

@@ -2,7 +2,7 @@
 
 mod common;
 
-use common::{endless, example, front, names, start, stored, Json, Temporary};
+use common::{endless, example, fixed, front, names, start, stored, tautology, Json, Temporary};
 use std::io::{BufRead, BufReader, Read, Write};
 use std::path::Path;
 use std::process::{Child, ChildStdout, Command};
@@ -10,7 +10,9 @@ use std::time::{Duration, Instant};
 
 /// The walk on a set of this file takes over 2^40 units.
 fn wide() -> String {
-    format!("(min m)\n(vary{})\n(fix)\n", names(39))
+    let names = names(39);
+    let rule = tautology(&format!(" m{names}"));
+    format!("(min m)\n(vary{names})\n(fix)\n{rule}")
 }
 
 fn feed(child: &mut Child, text: &str) {
@@ -101,8 +103,7 @@ fn a_listing_as_json() {
 /// A listing whose states come without a pause.
 #[test]
 fn a_quick_listing() {
-    let file = format!("(vary)\n(fix{})\n", names(60));
-    let (mut child, out, first) = printed(front().args(["states", "-"]), &file, 8);
+    let (mut child, out, first) = printed(front().args(["states", "-"]), &fixed(60), 8);
     assert_eq!(first, "(state)\n");
     let reader = std::thread::spawn(move || {
         let lines = BufReader::new(out).lines().map(Result::unwrap);
@@ -172,7 +173,7 @@ fn a_solver() {
 /// `| head`: the reader goes away, and that is no fault.
 #[test]
 fn a_closed_pipe() {
-    let file = format!("(vary)\n(fix{})\n", names(60));
+    let file = fixed(60);
     for words in [&["states", "-"][..], &["states", "-", "--json"]] {
         let (mut child, out, _) = printed(front().args(words), &file, 8);
         drop(out);

@@ -3,9 +3,9 @@
 
 mod common;
 
-use common::{example, front, proved, run_bytes};
+use common::{example, front, proved, run_bytes, tautology, varying};
 use compare::fresh_seed;
-use compare::generate::{either, names, preference, Size};
+use compare::generate::{either, names, partly_used, preference, Size};
 use compare::random::Random;
 use compare::spoil;
 use reference::limits::{Kind, BUDGET_LIMIT, PROGRAM_LIMIT, VERDICT_ATOM_LIMIT};
@@ -86,7 +86,14 @@ fn compare_both(text: &[u8]) {
 
 #[test]
 fn examples() {
-    for name in ["file_a", "inverters", "inverters_by_rank", "touch"] {
+    for name in [
+        "file_a",
+        "inverters",
+        "inverters_by_rank",
+        "touch",
+        "catalogue",
+        "whole_catalogue",
+    ] {
         let path = example(&format!("{name}.pref"));
         let text = std::fs::read(&path).unwrap();
         compare_both(&text);
@@ -135,7 +142,7 @@ fn each_refusal() {
             assert!(expected(name, text.as_bytes()).starts_with(start.as_bytes()));
         }
     }
-    let over_60 = format!("(vary{})\n(fix)\n", names(61));
+    let over_60 = varying(61);
     compare_both(over_60.as_bytes());
     assert_eq!(expected("states", over_60.as_bytes()), b"(refused 11 0)\n");
 }
@@ -154,7 +161,7 @@ fn long_texts_and_listings() {
     compare_both(text.as_bytes());
 
     let names: String = (0..11).map(|i| format!(" a_long_name_{i}")).collect();
-    let many_states = format!("(vary{names})\n(fix)\n");
+    let many_states = format!("(vary{names})\n(fix)\n{}", tautology(&names));
     assert!(expected("states", many_states.as_bytes()).len() > 65_536);
     compare_both(many_states.as_bytes());
 
@@ -176,6 +183,10 @@ fn random_text(random: &mut Random) -> Vec<u8> {
             writer::write(&program, &names)
         }
         1 => spoil::soup(random, 12),
+        2..=5 => {
+            let (file, names) = partly_used(random, Size::SMALL);
+            writer::write(&file, &names)
+        }
         _ => {
             let (program, names) = either(random, Size::SMALL);
             writer::write(&program, &names)

@@ -2,7 +2,7 @@
 
 mod common;
 
-use common::{example, front, names, ran, rigtomato, run, Json, Temporary};
+use common::{example, fixed, front, names, ran, rigtomato, run, varying, Json, Temporary};
 
 const FORM: &str = "a form or the order of lines is broken, or a needed line is missing";
 
@@ -191,7 +191,7 @@ fn of_the_other_kind() {
 #[test]
 fn of_many_atoms() {
     let words = "there are over 60 atoms; `solve` lists the states of up to 256";
-    let file = format!("(vary{})\n(fix)\n", names(61));
+    let file = varying(61);
     let told = message(11, 0, words, "");
     assert_eq!(
         rigtomato("states -", &file),
@@ -201,8 +201,23 @@ fn of_many_atoms() {
     let plain = format!("(atoms{})\n", names(61));
     let told = message(11, 0, "there are over 60 atoms", "");
     assert_eq!(rigtomato("stable -", &plain), ran(1, "", &told));
-    let sixty = format!("(vary)\n(fix{})\n", names(60));
-    assert_eq!(rigtomato("states --first 1 -", &sixty).status, Some(0));
+    assert_eq!(rigtomato("states --first 1 -", &fixed(60)).status, Some(0));
+}
+
+/// Only the atoms that stand in rules are counted.
+#[test]
+fn of_many_declared_atoms() {
+    let facts: String = (0..60)
+        .map(|i| format!("(rule (head a{i}) (body) (not))\n"))
+        .collect();
+    let file = |more: &str| format!("(vary{})\n(fix)\n{facts}{more}", names(256));
+    let state = format!("(state{})\n(total 1)\n", names(60));
+    assert_eq!(rigtomato("states -", &file("")), ran(0, &state, ""));
+    let refused = rigtomato("states -", &file("(rule (head a60) (body) (not))\n"));
+    assert_eq!(
+        (refused.status, refused.out.as_str()),
+        (Some(1), "(refused 11 0)\n")
+    );
 }
 
 /// A file is called what the caller calls it.

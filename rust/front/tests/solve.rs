@@ -2,7 +2,7 @@
 
 mod common;
 
-use common::{example, front, ran, run, stored, text_of, Json, Ran, Temporary};
+use common::{example, front, names, ran, run, stored, tautology, text_of, Json, Ran, Temporary};
 use std::process::Command;
 
 const OPTIONS: &str = "--verbose=0 --warn=none";
@@ -33,8 +33,9 @@ fn states_as_the_engine_lists_them() {
     }
 }
 
+/// Its inputs have no gate that could be at fault, so 15 of its 70 atoms stand in no rule.
 #[test]
-fn more_atoms_than_the_engine_lists() {
+fn a_circuit() {
     let file = stored("circuit.pref");
     let mut command = solve(&file, &stored("circuit.models"), "30");
     command
@@ -42,15 +43,31 @@ fn more_atoms_than_the_engine_lists() {
         .env("STAND_IN_INPUT", stored("circuit.lp"));
     let expected = ran(0, &text_of(&stored("circuit.states")), "");
     assert_eq!(run(&mut command, ""), expected);
-    let not_checked = "checked: none of 4 states: there are over 60 atoms\n";
+    let spent = "checked: 0 of 4 states, 4 spent\n";
     let checked = run(command.arg("--check"), "");
     assert_eq!(
         checked,
         Ran {
-            err: not_checked.to_string(),
+            err: spent.to_string(),
             ..expected
         }
     );
+}
+
+/// One of 70 parts is at fault: past 60 atoms, and past a word's bits.
+#[test]
+fn more_atoms_than_the_engine_lists() {
+    let names = names(70);
+    let file = format!("(min{names})\n(vary)\n(fix)\n(rule (head{names}) (body) (not))\n");
+    let models: String = (0..70).map(|i| format!("holds(\"a{i}\")\n")).collect();
+    let models = Temporary::new("wide.models", &format!("{models}SATISFIABLE\n"));
+    let states: String = (0..70).rev().map(|i| format!("(state a{i})\n")).collect();
+    let states = format!("{states}(total 70)\n");
+    let mut command = solve("-", &models.path, "30");
+    assert_eq!(run(&mut command, &file), ran(0, &states, ""));
+    let not_checked = "checked: none of 70 states: there are over 60 atoms\n";
+    let checked = run(command.arg("--check"), &file);
+    assert_eq!(checked, ran(0, &states, not_checked));
 }
 
 #[test]
@@ -116,11 +133,11 @@ fn checked_states() {
     assert_eq!(unchecked.status, Some(0));
 }
 
-/// Without a rule, a verdict on 25 free atoms takes 2^26 - 1 units, over 2^24.
+/// With a rule that no choice breaks, a verdict on 25 free atoms takes 2^26 - 1 units, over 2^24.
 #[test]
 fn spent_checks() {
     let names: String = (0..25).map(|i| format!(" v{i}")).collect();
-    let file = format!("(min)\n(vary{names})\n(fix)\n");
+    let file = format!("(min)\n(vary{names})\n(fix)\n{}", tautology(&names));
     let models = Temporary::new("spent.models", "\nholds(\"v24\")\nSATISFIABLE\n");
     let mut command = solve("-", &models.path, "30");
     let ran = run(command.arg("--check"), &file);

@@ -15,5 +15,6 @@ pub mod reader;
 pub mod refusal;
 pub mod stores;
 pub mod translator;
+pub mod used_atoms;
 pub mod verdicts;
 pub mod writer;

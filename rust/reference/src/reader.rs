@@ -1,12 +1,14 @@
 //! From a text of either kind to its program and names, or to a refusal with its line.
 //!
 //! Lines are taken one after another. On a line every fault is looked for, and the lowest
-//! number counts; the first line with a fault ends the reading.
+//! number counts; the first line with a fault ends the reading. Then a preference file's atoms that
+//! stand in no rule are left out.
 
 use crate::limits::{Kind, TEXT_LIMIT};
 use crate::names::name_fault;
 use crate::program::{Names, Program, Role, Rule};
 use crate::refusal::{Reason, Refusal};
+use crate::used_atoms::without_unused;
 
 type Items<'a> = Vec<&'a [u8]>;
 
@@ -214,6 +216,15 @@ impl Reader {
 
 /// Reads a text of either kind.
 pub fn read(text: &[u8]) -> Result<(Program, Names), Refusal> {
+    let (program, names) = read_lines(text)?;
+    Ok(match program.kind {
+        Kind::Plain => (program, names),
+        Kind::Preference => without_unused(&program, &names),
+    })
+}
+
+/// What the lines say as they are typed, every declared atom included.
+pub fn read_lines(text: &[u8]) -> Result<(Program, Names), Refusal> {
     if text.len() > TEXT_LIMIT {
         return Err(Refusal::without_line(Reason::TextTooLong));
     }

@@ -2,7 +2,7 @@
 
 mod common;
 
-use common::{accepted, many, refused, stores, translated_sums, FILE_A};
+use common::{accepted, many, refused, stores, tautology, translated_sums, FILE_A};
 use reference::lent::{self, Accepted};
 use reference::refusal::{Reason, Refusal};
 use reference::verdicts::{Next, Verdict};
@@ -12,19 +12,19 @@ fn plain(atoms: usize) -> String {
     format!("(atoms{})\n", many("a", atoms))
 }
 
+/// So many varying atoms, all in a rule that holds in every set.
+fn varying(atoms: usize) -> String {
+    let names = many("a", atoms);
+    format!("(vary{names})\n(fix)\n{}", tautology(&names))
+}
+
 #[test]
 fn atoms() {
-    accepted(&format!("(vary{})\n(fix)\n", many("a", 256)));
-    accepted(&format!(
-        "(min{})\n(vary{})\n(fix{})\n",
-        many("a", 100),
-        many("b", 100),
-        many("c", 56)
-    ));
-    assert_eq!(
-        refused(format!("(vary{})\n(fix)\n", many("a", 257)).as_bytes()),
-        (7, 1)
-    );
+    accepted(&varying(256));
+    let (a, b, c) = (many("a", 100), many("b", 100), many("c", 56));
+    let all = tautology(&format!("{a}{b}{c}"));
+    accepted(&format!("(min{a})\n(vary{b})\n(fix{c})\n{all}"));
+    assert_eq!(refused(varying(257).as_bytes()), (7, 1));
     let on_fix = format!("(vary{})\n(fix{})\n", many("a", 256), many("b", 1));
     assert_eq!(refused(on_fix.as_bytes()), (7, 2));
     accepted(&plain(1_100));
@@ -72,7 +72,7 @@ fn occurrences() {
 fn classes() {
     let text = |classes: usize| -> String {
         let lines: String = (0..classes).map(|i| format!("(min a{i})\n")).collect();
-        lines + "(vary)\n(fix)\n"
+        lines + "(vary)\n(fix)\n" + &tautology(&many("a", classes))
     };
     accepted(&text(16));
     assert_eq!(refused(text(17).as_bytes()), (7, 17));
@@ -98,7 +98,8 @@ fn bytes() {
 fn name_lengths() {
     for longest in ["abcdefghijklmnopqrstuvwx", "1999_12_31_lender_000417"] {
         assert_eq!(longest.len(), 24);
-        accepted(&format!("(vary {longest})\n(fix)\n"));
+        let rule = tautology(&format!(" {longest}"));
+        accepted(&format!("(vary {longest})\n(fix)\n{rule}"));
         for prefix in ["", "N.", "S.", "D."] {
             accepted(&format!("(atoms {prefix}{longest})\n"));
             for text in [
@@ -119,12 +120,15 @@ fn the_largest_translation_is_inside_the_plain_limits() {
         text += &format!("(min{})\n", many(&format!("c{class}_"), 16));
     }
     text += "(vary)\n(fix)\n";
-    for _ in 0..1_024 {
-        text += &format!(
-            "(rule (head{}) (body{}) (not))\n",
-            many("c1_", 4),
-            many("c2_", 4)
-        );
+    // Each rule has eight of a class's atoms, and together they have all.
+    for rule in 0..1_024 {
+        let (class, first) = (rule % 16, rule / 16 % 2 * 8);
+        let four = |from: usize| -> String {
+            let names = (from..from + 4).map(|i| format!(" c{class}_{i}"));
+            names.collect()
+        };
+        let (head, body) = (four(first), four(first + 4));
+        text += &format!("(rule (head{head}) (body{body}) (not))\n");
     }
     let (n, p, k, r, l) = (256, 256, 16, 1_024, 8_192);
     let atoms = 3 * n + p + k + 2;
@@ -182,7 +186,7 @@ fn outputs_exact_and_one_short() {
 
 #[test]
 fn sixty_atoms() {
-    let sixty = stores(&format!("(vary{})\n(fix)\n", many("a", 60))).0;
+    let sixty = stores(&varying(60)).0;
     assert_eq!(
         lent::preferred(&sixty, 5, 0),
         Ok(Verdict::Spent { units: 0 })
@@ -208,10 +212,12 @@ fn sixty_atoms() {
     assert_eq!(lent::place(&sixty, 1 << 59), Ok(1));
     assert_eq!(lent::place(&sixty, (1 << 60) - 1), Ok((1 << 60) - 1));
     assert_eq!(lent::place(&sixty, 1 << 60), Err(Reason::SetTooLarge));
-    let more = stores(&format!("(vary{})\n(fix)\n", many("a", 61))).0;
+    let more = stores(&varying(61)).0;
     assert_eq!(lent::preferred(&more, 0, 0), Err(Reason::TooManyAtoms));
     assert_eq!(lent::place(&more, 0), Err(Reason::TooManyAtoms));
-    let fixed = stores(&format!("(vary)\n(fix{})\n", many("a", 60))).0;
+    let names = many("a", 60);
+    let fixed = format!("(vary)\n(fix{names})\n{}", tautology(&names));
+    let fixed = stores(&fixed).0;
     assert_eq!(
         lent::preferred(&fixed, 77, 61),
         Ok(Verdict::Yes { units: 61 })
@@ -252,7 +258,8 @@ fn what_the_programs_read_and_print() {
             .enumerate()
             .map(|(i, l)| format!(" {}{}", (b'a' + i as u8) as char, "x".repeat(l - 1)))
             .collect();
-        programs::states(format!("(vary{names})\n(fix)\n").as_bytes())
+        let rule = tautology(&names);
+        programs::states(format!("(vary{names})\n(fix)\n{rule}").as_bytes())
     };
     // Each atom stands in 1,024 states: 2,048 * 8 + 1,024 * (lengths + 11) + 13 bytes.
     assert_eq!(listing(&[3; 11]).len(), 2_048 * 8 + 1_024 * 44 + 13);
@@ -262,13 +269,14 @@ fn what_the_programs_read_and_print() {
         2_048 * 8 + 1_024 * 47 + 13
     );
     // A translation that is longer than 65,536 bytes.
-    let long = format!("(min{})\n(vary)\n(fix)\n", many("abcdefghijklm", 256));
+    let names = many("abcdefghijklm", 256);
+    let long = format!("(min{names})\n(vary)\n(fix)\n{}", tautology(&names));
     assert!(reader::read(long.as_bytes()).is_ok());
     assert_eq!(programs::translate(long.as_bytes()), refused(9));
     // Of the other kind, and over 60 atoms.
     assert_eq!(programs::states(b"(atoms)\n"), refused(10));
     assert_eq!(programs::translate(b"(atoms)\n"), refused(10));
-    let more = format!("(vary{})\n(fix)\n", many("a", 61));
+    let more = varying(61);
     assert_eq!(programs::states(more.as_bytes()), refused(11));
     assert!(programs::translate(more.as_bytes()).starts_with(b"(atoms a0 a1"));
 }

@@ -2,7 +2,7 @@
 
 mod common;
 
-use common::{accepted, many, refused, stores, FILE_A};
+use common::{accepted, many, refused, stores, tautology, FILE_A};
 use reference::lent;
 use reference::refusal::Reason;
 
@@ -129,7 +129,8 @@ fn names() {
     }
     // Catalogue numbers.
     for name in ["7", "0", "1999_12", "00", "1a", "17", "e0"] {
-        accepted(&format!("(vary {name})\n(fix)\n"));
+        let rule = tautology(&format!(" {name}"));
+        accepted(&format!("(vary {name})\n(fix)\n{rule}"));
         for prefix in ["", "N.", "S.", "D."] {
             accepted(&format!("(atoms {prefix}{name})\n"));
         }
@@ -159,7 +160,7 @@ fn names() {
     accepted(
         "(atoms atoms rule head body not min vary fix)\n(rule (head not) (body head) (not body))\n",
     );
-    accepted("(vary rule head a_b9 z)\n(fix)\n(rule (head rule) (body) (not))\n");
+    accepted("(vary rule head a_b9 z)\n(fix)\n(rule (head rule head) (body z a_b9) (not))\n");
 }
 
 #[test]
@@ -319,7 +320,7 @@ fn rule_stores() {
 
 #[test]
 fn name_stores() {
-    let (rules, names) = stores("(vary a bc)\n(fix)\n");
+    let (rules, names) = stores(&format!("(vary a bc)\n(fix)\n{}", tautology(" a bc")));
     assert_eq!(names, b"\x01a\x02bc");
     let mut out = [0; 4096];
     let bad: [&[u8]; 13] = [
@@ -364,7 +365,9 @@ fn name_stores() {
 /// 10, 14, 11, 12, 13 and 9 are tested in this order.
 #[test]
 fn the_order_of_the_callers_refusals() {
-    let sixty_one = stores(&format!("(vary{})\n(fix)\n", many("a", 61))).0;
+    let names = many("a", 61);
+    let sixty_one = format!("(vary{names})\n(fix)\n{}", tautology(&names));
+    let sixty_one = stores(&sixty_one).0;
     let a = stores(FILE_A).0;
     let over = (1 << 40) + 1;
     assert_eq!(lent::preferred(&[], 1 << 60, over), Err(Reason::RuleStore));

@@ -38,7 +38,12 @@ pub enum Next {
     Spent,
 }
 
-/// Reads a text of either kind into a rule store and a name store.
+/// Reads a text of either kind into a rule store and a name store. A preference file's atoms that
+/// stand in no rule are checked with the others and then left out of both: atoms are numbered among
+/// those that remain, and the outputs need room for these alone. Classes stay, emptied ones too. A
+/// plain program keeps all its atoms.
+///
+/// The other functions take stores as they stand, atoms that no rule has included.
 pub fn read(text: &[u8], rules: &mut [u16], names: &mut [u8]) -> Result<Accepted, TextRefusal> {
     // SAFETY: each pointer and length is one slice, and the outputs are borrowed for us alone.
     let answer = unsafe {

@@ -48,7 +48,8 @@ pub enum Kind {
     Preference,
 }
 
-/// The two stores of an accepted text.
+/// The two stores of an accepted text: what it declares and its rules. Of a preference file's atoms
+/// only those that stand in some rule belong to the program.
 #[derive(Clone, Debug, PartialEq, Eq)]
 pub struct Program {
     rules: Vec<u16>,
@@ -56,7 +57,16 @@ pub struct Program {
 }
 
 impl Program {
-    /// Reads a text of either kind.
+    /// Reads a text of either kind. A preference file's atoms that stand in no rule are checked with
+    /// the others and then left out.
+    ///
+    /// ```
+    /// # use rigtomato::Program;
+    /// let text = "(min)\n(vary a b c)\n(fix)\n(rule (head c) (body a) (not))\n";
+    /// let file = Program::read(text.as_bytes())?;
+    /// assert_eq!(file.names().collect::<Vec<_>>(), ["a", "c"]);
+    /// # Ok::<(), rigtomato::TextRefusal>(())
+    /// ```
     pub fn read(text: &[u8]) -> Result<Program, TextRefusal> {
         let mut rules = vec![0; RULES_LIMIT];
         let mut names = vec![0; NAMES_LIMIT];
@@ -73,7 +83,7 @@ impl Program {
         }
     }
 
-    /// How many atoms are declared.
+    /// How many atoms belong to the program.
     pub fn atoms(&self) -> usize {
         usize::from(self.rules[1])
     }
@@ -110,7 +120,7 @@ impl Program {
             .map(|(_, name)| name)
     }
 
-    /// The text; it is the text that was read.
+    /// The text; it is the text that was read, but for the names that were left out.
     pub fn write(&self) -> Vec<u8> {
         let mut out = vec![0; TEXT_LIMIT];
         let length = lent::write(&self.rules, &self.names, &mut out);

@@ -2,7 +2,7 @@
 
 use crate::{Kind, Program};
 
-/// The most of everything that a file of one kind may have.
+/// The most of everything that a file of one kind may have. Atoms count even if no rule has them.
 #[derive(Clone, Copy, Debug, PartialEq, Eq)]
 pub struct Limits {
     pub atoms: usize,

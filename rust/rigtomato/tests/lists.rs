@@ -65,7 +65,11 @@ fn limits() {
         (Kind::Preference, "(min", "(vary)\n(fix)\n"),
     ] {
         let limits = kind.limits();
-        let atoms = |count| read(format!("{head}{})\n{tail}", names(count)));
+        let atoms = |count| {
+            let names = names(count);
+            let rule = format!("(rule (head{names}) (body) (not))\n");
+            read(format!("{head}{names})\n{tail}{rule}"))
+        };
         assert_eq!(atoms(limits.atoms).unwrap().atoms(), limits.atoms);
         assert_eq!(atoms(limits.atoms + 1), Err(Refusal::Limit));
 

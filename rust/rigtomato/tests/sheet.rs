@@ -93,12 +93,13 @@ fn places() {
     assert_eq!(plain.place(0), Err(Refusal::RuleStore));
     let many = |count: usize| {
         let names: String = (0..count).map(|i| format!(" a{i}")).collect();
-        Program::read(format!("(vary)\n(fix{names})\n").as_bytes()).unwrap()
+        let rule = format!("(rule (head{names}) (body{names}) (not))\n");
+        Program::read(format!("(vary)\n(fix{names})\n{rule}").as_bytes()).unwrap()
     };
     assert_eq!(many(60).place(1), Ok(1 << 59));
     assert_eq!(many(60).place(1 << 60), Err(Refusal::SetTooLarge));
     assert_eq!(many(61).place(0), Err(Refusal::TooManyAtoms));
-    // All sets are states: they come in the order of their places.
+    // The rule holds in all sets, so all are states: they come in the order of their places.
     let five = many(5);
     let order = states(&five).into_iter().map(|set| five.place(set));
     assert!(order.eq((0..32).map(Ok)));
@@ -135,7 +136,8 @@ fn an_ordinary_thread_is_enough() {
         .map(|i| format!(" abcdefghijklmnopqrstu{i:03}"))
         .collect();
     let rule = "(rule (head abcdefghijklmnopqrstu000) (body abcdefghijklmnopqrstu001) (not))\n";
-    let text = format!("(min{names})\n(vary)\n(fix)\n{}", rule.repeat(1_024));
+    let all = format!("(rule (head{names}) (body) (not))\n");
+    let text = format!("(min{names})\n(vary)\n(fix)\n{all}{}", rule.repeat(1_023));
     let work = move || {
         let file = Program::read(text.as_bytes()).unwrap();
         assert_eq!(file.write(), text.as_bytes());

@@ -1,6 +1,6 @@
 //! Writes random preference files: `random_files DIRECTORY COUNT SEED`.
 
-use compare::generate::{mixed, preference, Size};
+use compare::generate::{mixed, partly_used, preference, Size};
 use compare::random::Random;
 use reference::writer::write;
 use std::path::Path;
@@ -18,9 +18,10 @@ fn main() -> ExitCode {
     };
     let mut random = Random::new(seed);
     for i in 0..count {
-        let (program, names) = match i % 2 {
+        let (program, names) = match i % 3 {
             0 => preference(&mut random, Size::SMALL),
-            _ => mixed(&mut random, 3),
+            1 => mixed(&mut random, 3),
+            _ => partly_used(&mut random, Size::SMALL),
         };
         let path = Path::new(directory).join(format!("random_{i:04}.pref"));
         if let Err(error) = std::fs::write(&path, write(&program, &names)) {

@@ -7,11 +7,15 @@ use crate::file::File;
 use crate::numbers::{counted, grouped};
 use crate::output::{print, say};
 use crate::refused;
+use crate::unused::unused;
 use rigtomato::{Kind, Program, Role};
 
 pub const MORE: &str = "\
-Of an accepted file of either kind it prints the counts beside their limits. Of a
-refused one standard error has the refusal, the line, and what is allowed there.
+Of an accepted file of either kind it prints the counts beside their limits. The
+declared atoms of a preference file that stand in no rule do not belong to the
+program: they are counted and named apart, though they count toward the limit of
+256 too. Of a refused file standard error has the refusal, the line, and what is
+allowed there.
 ";
 
 fn roles(program: &Program) -> String {
@@ -23,28 +27,57 @@ fn roles(program: &Program) -> String {
     format!("{minimised} minimised in {classes}, {varying} varying, {fixed} fixed")
 }
 
-fn accepted(program: &Program) -> String {
-    let limits = program.kind().limits();
-    let (kind, more) = match program.kind() {
-        Kind::Preference => ("a preference file", roles(program)),
-        Kind::Plain => ("a plain program", String::new()),
+/// The most unused atoms that are named.
+const NAMED: usize = 8;
+
+fn named(unused: &[&str]) -> String {
+    let (first, others) = unused.split_at(unused.len().min(NAMED));
+    let more = match others.len() {
+        0 => String::new(),
+        more => format!(" and {more} more"),
     };
-    let rows = [
-        ("atoms", program.atoms(), limits.atoms, more),
-        ("rules", program.rules(), limits.rules, String::new()),
-        (
-            "occurrences",
-            program.occurrences(),
-            limits.occurrences,
-            String::new(),
-        ),
-    ];
+    format!("declared, but in no rule: {}{more}", first.join(" "))
+}
+
+/// A line of counts: what is counted, the count, its limit if it has one, and what more is said.
+type Row = (&'static str, usize, Option<usize>, String);
+
+fn rows(file: &File, program: &Program) -> Vec<Row> {
+    let limits = program.kind().limits();
+    let more = match program.kind() {
+        Kind::Preference => roles(program),
+        Kind::Plain => String::new(),
+    };
+    let row = |what, count, limit| (what, count, Some(limit), String::new());
+    let mut rows = vec![("atoms", program.atoms(), Some(limits.atoms), more)];
+    let unused = unused(file, program);
+    if !unused.is_empty() {
+        rows.push(("left out", unused.len(), None, named(&unused)));
+    }
+    rows.push(row("rules", program.rules(), limits.rules));
+    rows.push(row(
+        "occurrences",
+        program.occurrences(),
+        limits.occurrences,
+    ));
+    rows
+}
+
+fn accepted(file: &File, program: &Program) -> String {
+    let kind = match program.kind() {
+        Kind::Preference => "a preference file",
+        Kind::Plain => "a plain program",
+    };
+    let rows = rows(file, program);
     let widest = rows.iter().map(|row| grouped(row.1 as u64).len()).max();
     let width = widest.unwrap_or(0).max(3);
     let mut text = format!("accepted: {kind}\n");
     for (what, count, limit, more) in rows {
-        let (count, limit) = (grouped(count as u64), grouped(limit as u64));
-        let line = format!("{what:<11} {count:>width$} of {limit:<5}  {more}");
+        let count = grouped(count as u64);
+        let limit = limit.map_or(String::new(), |limit| {
+            format!(" of {}", grouped(limit as u64))
+        });
+        let line = format!("{what:<11} {count:>width$}{limit:<9}  {more}");
         text.push_str(line.trim_end());
         text.push('\n');
     }
@@ -55,7 +88,7 @@ pub fn run(call: &Call) -> Outcome {
     let file = File::read(&call.file)?;
     match refused::read(&file) {
         Ok(program) => {
-            print(accepted(&program))?;
+            print(accepted(&file, &program))?;
             Ok(Ending::Answered)
         }
         Err(refused) => {

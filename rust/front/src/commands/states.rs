@@ -29,10 +29,11 @@ line is
 With --json: {\"states\":[[\"lamp\",\"dark\"]],\"end\":\"total\",\"count\":1}, where end is
 total, first, spent or interrupted, or {\"refused\":{\"number\":..,\"line\":..,\"words\":..}}.
 
-A file has at most 60 atoms here; 'solve' takes up to 256. Without options the
-output is byte for byte that of the proved program target/bin/states, but for
-this: that program takes and prints at most 65,536 bytes; here a text has at
-most 917,504 bytes, and a listing may have any length.
+At most 60 atoms stand in the file's rules here; 'solve' takes up to 256. Those
+that are declared and stand in none are left out. Without options the output is
+byte for byte that of the proved program target/bin/states, but for this: that
+program takes and prints at most 65,536 bytes; here a text has at most
+917,504 bytes, and a listing may have any length.
 ";
 
 type Step = Result<Next, Refusal>;

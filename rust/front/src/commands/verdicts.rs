@@ -8,6 +8,7 @@ use crate::nearest::nearest;
 use crate::numbers::counted;
 use crate::output::{print, say};
 use crate::refused::{self, Refused};
+use crate::unused::unused;
 use crate::watch::{Event, Watch};
 use rigtomato::{Kind, Program, Refusal, Verdict, LARGEST_BUDGET};
 use std::sync::Arc;
@@ -27,7 +28,8 @@ choice of the first atoms, that of none and that of all included. With --json:
 {\"verdict\":\"yes\",\"units\":13},
 {\"verdict\":\"broken\",\"rule\":0,\"line\":5,\"text\":\"..\"} (rules count from 0),
 {\"verdict\":\"beaten\",\"set\":[..],\"units\":6} or {\"verdict\":\"spent\",\"units\":5}.
-The file has at most 60 atoms.
+At most 60 atoms stand in the file's rules. One that is declared and stands in
+none does not belong to the program, so it cannot be asked for.
 ";
 
 pub const MORE_ON_STABLE: &str = "\
@@ -119,16 +121,25 @@ impl Asked<'_> {
     }
 }
 
+/// Why the program has no atom of this name.
+fn no_atom(file: &File, program: &Program, name: &str) -> String {
+    if unused(file, program).contains(&name) {
+        return format!(
+            "{name} is declared, but it stands in no rule, so it does not belong to the program"
+        );
+    }
+    let meant = nearest(name, program.names());
+    let meant = meant.map_or(String::new(), |name| format!("; the nearest is {name}"));
+    format!("no atom is called {name}{meant}")
+}
+
 /// The number of the atom with this name.
 fn number_of(file: &File, program: &Program, name: &str) -> Result<usize, Fault> {
-    program
-        .names()
-        .position(|known| known == name)
-        .ok_or_else(|| {
-            let meant = nearest(name, program.names());
-            let meant = meant.map_or(String::new(), |name| format!("; the nearest is {name}"));
-            Fault::unusable(format!("{}: no atom is called {name}{meant}", file.name))
-        })
+    let number = program.names().position(|known| known == name);
+    number.ok_or_else(|| {
+        let words = no_atom(file, program, name);
+        Fault::unusable(format!("{}: {words}", file.name))
+    })
 }
 
 /// The set's number. Where an atom has no place in it, the engine refuses the file for its atoms.
@@ -173,6 +184,10 @@ fn run(call: &Call, kind: Kind, judge: Judge) -> Outcome {
         Ok(program) => Arc::new(program),
         Err(refused) => return refuse(call, &file, &refused),
     };
+    if program.kind() != kind {
+        let refused = Refused::of_call(Refusal::RuleStore, kind);
+        return refuse(call, &file, &refused);
+    }
     let set = set_of(call, &file, &program)?;
     let budget = call.budget.unwrap_or(LARGEST_BUDGET);
     let verdict = match answer(&program, judge, set, budget) {

@@ -24,6 +24,24 @@ pub fn names(count: usize) -> String {
     (0..count).map(|i| format!(" a{i}")).collect()
 }
 
+/// A rule with all these names, of which there is at least one. No choice breaks it, so it only
+/// makes the atoms belong to the program.
+pub fn tautology(names: &str) -> String {
+    format!("(rule (head{names}) (body{names}) (not))\n")
+}
+
+/// So many varying atoms, all in a rule that holds in every set.
+pub fn varying(count: usize) -> String {
+    let names = names(count);
+    format!("(vary{names})\n(fix)\n{}", tautology(&names))
+}
+
+/// The same with fixed atoms.
+pub fn fixed(count: usize) -> String {
+    let names = names(count);
+    format!("(vary)\n(fix{names})\n{}", tautology(&names))
+}
+
 #[derive(Debug, PartialEq, Eq)]
 pub struct Ran {
     pub status: Option<i32>,

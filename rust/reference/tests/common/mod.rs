@@ -78,3 +78,9 @@ pub fn inverters(count: usize) -> String {
 pub fn many(prefix: &str, count: usize) -> String {
     (0..count).map(|i| format!(" {prefix}{i}")).collect()
 }
+
+/// A rule with all these names, of which there is at least one. No choice breaks it, so it only
+/// makes the atoms belong to the program.
+pub fn tautology(names: &str) -> String {
+    format!("(rule (head{names}) (body{names}) (not))\n")
+}
