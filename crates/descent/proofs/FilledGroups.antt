@@ -14,7 +14,8 @@ use Rattle.choices.specs.Choices.{RulesBelow}
 use Rattle.masks.specs.Masks.{careAt, wantAt}
 use Rattle.masks.specs.FilledMasks.{MasksOf}
 use Rattle.masks.specs.declared.masks.Sizes.{Sizes}
-use Rattle.masks.proofs.FilledMasks.{rules-within, care-length, want-length, class-forms}
+use Rattle.stores.proofs.StoredRules.{rules-within}
+use Rattle.masks.proofs.FilledMasks.{care-length, want-length, class-forms}
 use Rattle.masks.proofs.MaskSizes.{cares-lt}
 use Rattle.groups.specs.Groups.{GroupsOf}
 use Rattle.descent.proofs.ChoiceMasks.{within-below}

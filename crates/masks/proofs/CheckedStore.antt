@@ -16,11 +16,10 @@ use Rattle.stores.specs.Program.{Program, ClassesForm}
 use Rattle.stores.specs.RuleStore.{ruleWords, encode, StoreOf, wordCount, rulesFrom, decode}
 use Rattle.stores.specs.StoredRules.{StoredRules}
 use Rattle.stores.proofs.RuleStores.{words-count}
-use Rattle.stores.proofs.StoredRules.{stored-rules}
+use Rattle.stores.proofs.StoredRules.{stored-rules, rules-within}
 use Rattle.masks.specs.Masks.{placeMask, careAt, wantAt, classMasks}
 use Rattle.masks.specs.FilledMasks.{MasksOf}
 use Rattle.masks.proofs.RulesFill.{front-of}
-use Rattle.masks.proofs.FilledMasks.{rules-within}
 
 -- the words of a store, by its program
 

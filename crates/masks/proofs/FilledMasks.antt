@@ -1,5 +1,5 @@
 -- What filled masks say of the program.
-use Prim.Native.Nat.{ℕ, _≤_, _<_}
+use Prim.Native.Nat.{ℕ, _≤_}
 use mathlib.Core.Path.{_≡_, sym, ap, _∙_, subst}
 use mathlib.Core.List.{List, []}
 use native.Mathlib.Omega.{arith}
@@ -7,9 +7,8 @@ use lib.ListN.{length, take, length-take, length-map}
 use Rattle.kinds.specs.declared.limits.Kind.{Kind}
 use Rattle.kinds.specs.declared.limits.Kind.the-variants.{Preference}
 use Rattle.rules.specs.Lists.{All}
-use Rattle.rules.specs.Renumbering.{Within}
 use Rattle.rules.proofs.Lists.{all-imp}
-use Rattle.stores.specs.Program.{Program, ProgramForm, ClassesForm, RuleForm, NotForm}
+use Rattle.stores.specs.Program.{Program, ClassesForm, RuleForm, NotForm}
 use Rattle.masks.specs.Masks.{careAt, wantAt}
 use Rattle.masks.specs.FilledMasks.{MasksOf}
 use Rattle.masks.specs.declared.masks.Sizes.{Sizes}
@@ -17,9 +16,6 @@ use Rattle.masks.specs.declared.masks.Sizes.{Sizes}
 -- a list has as many entries as were taken
 pub taken-fits : (r : ℕ) (l : List ℕ) → r ≡ length (take r l) → r ≤ length l
 taken-fits r l e = omega (arith, length-take r l)
-
-pub rules-within : {p : Program} → ProgramForm p → All (Within (λ a. a < p .atoms)) (p .rules)
-rules-within {p} form = all-imp (RuleForm (p .kind) (p .atoms)) (Within (λ a. a < p .atoms)) (λ r f. record { head = f .head-form .0; body = f .body-form .0; nots = f .nots-form .0 }) (p .rules) (form .rule-forms)
 
 module _ {p : Program} {cs wants ks : List ℕ} {z : Sizes} (d : MasksOf p cs wants ks z) where
   pub care-length : z .rules ≡ length (take (z .rules) cs)

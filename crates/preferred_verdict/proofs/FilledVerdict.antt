@@ -18,7 +18,8 @@ use Rattle.masks.specs.Masks.{careAt, wantAt, firstM}
 use Rattle.masks.specs.FilledMasks.{MasksOf}
 use Rattle.masks.specs.declared.masks.Sizes.{Sizes}
 use Rattle.masks.proofs.AnswersAt.{capped-at}
-use Rattle.masks.proofs.FilledMasks.{rules-within, nots-empty}
+use Rattle.stores.proofs.StoredRules.{rules-within}
+use Rattle.masks.proofs.FilledMasks.{nots-empty}
 use Rattle.masks.proofs.RulesAt.{first-at}
 use Rattle.groups.specs.Plans.{classesIn, startsIn, careIn, wantIn, TablesOf}
 use Rattle.descent.specs.Verdicts.{preferredM}

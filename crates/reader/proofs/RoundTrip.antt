@@ -174,7 +174,7 @@ module _ (text : List ℕ) (p : Program) (names : List (List ℕ)) (a : Accepts 
       by-kind Plain e = let k = remaining-kind whole ∙ e in (remaining-plain (remaining whole) k, names-plain (remaining whole) (remainingNames whole whole-names) k)
       by-kind Preference e =
           let u = all-used whole e in
-          (remaining-whole (remaining whole) left-form u, names-whole (remaining whole) left-form u (remainingNames whole whole-names) left-names)
+          (remaining-whole (remaining whole) left-form u, names-whole (remaining whole) left-form u (remainingNames whole whole-names) (left-names .count))
 
   same-text : whole .kind ≡ Preference → textOf p names ≡ text → AllUsed whole
   unfolding restrict
@@ -186,7 +186,7 @@ module _ (text : List ℕ) (p : Program) (names : List (List ℕ)) (a : Accepts 
   writes-back = record {
     plain = λ e. let k = whole-kind e in text-left ∙ ap₂ textOf (remaining-plain whole k) (names-plain whole whole-names k) ∙ typed-write text whole whole-names declared;
     preference = λ e. let k = whole-kind e in text-left ∙ ap₂ textOf (remaining-preference whole k) (names-preference whole whole-names k) ∙ used-text whole whole-names (form .0) k;
-    unaltered = λ e. (same-text (whole-kind e), λ u. text-left ∙ ap₂ textOf (remaining-whole whole (form .0) u) (names-whole whole (form .0) u whole-names (form .1)) ∙ typed-write text whole whole-names declared);
+    unaltered = λ e. (same-text (whole-kind e), λ u. text-left ∙ ap₂ textOf (remaining-whole whole (form .0) u) (names-whole whole (form .0) u whole-names (form .1 .count)) ∙ typed-write text whole whole-names declared);
     again = said-accepted (textOf p names) p names .0 (ap said text-left ∙ write-read (remaining whole) (remainingNames whole whole-names) left-form left-names ∙ ap₂ accepted (stays .0 ∙ sym (a .1 .program)) (stays .1 ∙ sym (a .1 .are-names)));
   }
 

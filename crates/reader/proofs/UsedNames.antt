@@ -1,7 +1,7 @@
 -- The text of what is left of a preference program is its text without the names of atoms that stand in no rule.
 use Prim.Native.Nat.{ℕ}
 use mathlib.Core.Path.{_≡_, refl, sym, ap, ap₂, subst, _∙_}
-use mathlib.Core.Bool.{Bool, true, false}
+use mathlib.Core.Bool.{Bool}
 use mathlib.Core.List.{List, [], _∷_, _++_, map, map-map}
 use lib.Dec.{T, eqb}
 use lib.ListN.{length, getD, length-map}
@@ -14,7 +14,8 @@ use Rattle.rules.specs.Rules.{Rule, rename}
 use Rattle.rules.specs.Renumbering.{Within}
 use Rattle.rules.specs.Preferred.{ofClass}
 use Rattle.rules.proofs.Lists.{all-imp, map-at}
-use Rattle.rules.proofs.ListLaws.{all-each, map-same, flat-same}
+use Rattle.rules.proofs.Filtered.{filter-swap}
+use Rattle.rules.proofs.ListLaws.{all-each, map-same, flat-map, flat-same}
 use Rattle.rules.proofs.MappedLists.{map-keep}
 use Rattle.stores.specs.Program.{Program, ProgramForm, ClassesForm}
 use Rattle.restriction.specs.Atoms.{member?, used?, used, placeIn, entries}
@@ -25,23 +26,9 @@ use Rattle.text.specs.Text.{listLine, named, declarations, ruleText, textOf}
 use Rattle.reader.specs.RoundTrips.{usedLine, usedText}
 use Rattle.reader.proofs.ClassParts.{chosen, is, class-chosen}
 
-filter-swap : {A : Type 0} (p q : A → Bool) (l : List A) → filter p (filter q l) ≡ filter q (filter p l)
-filter-swap p q [] = refl
-filter-swap {A} p q (x ∷ l) = step (p x) (q x) refl refl (filter-swap p q l)
-  where
-    step : (a b : Bool) → p x ≡ a → q x ≡ b → filter p (filter q l) ≡ filter q (filter p l) → filter p (keep b x (filter q l)) ≡ filter q (keep a x (filter p l))
-    step true true e d h = rw (e, d, h)
-    step true false e d h = rw (d, h)
-    step false true e d h = rw (e, h)
-    step false false e d h = h
-
 chosen-mapped : {A : Type 0} (p : ℕ → Bool) (g : ℕ → ℕ) (f : ℕ → A) (xs : List ℕ) → chosen p (map g xs) (map f xs) ≡ map f (filter (λ a. p (g a)) xs)
 chosen-mapped p g f [] = refl
 chosen-mapped p g f (x ∷ xs) = ap (keep (p (g x)) (f x)) (chosen-mapped p g f xs) ∙ sym (map-keep f (p (g x)) x (filter (λ a. p (g a)) xs))
-
-flat-map : {A B C : Type 0} (f : B → List C) (g : A → B) (l : List A) → flat f (map g l) ≡ flat (λ a. f (g a)) l
-flat-map f g [] = refl
-flat-map f g (x ∷ l) = ap (λ r. f (g x) ++ r) (flat-map f g l)
 
 module _ (names : List (List ℕ)) (xs : List ℕ) where
   name-left : (a : ℕ) → T (member? xs a) → getD (entries [] names xs) (placeIn xs a) [] ≡ getD names a []

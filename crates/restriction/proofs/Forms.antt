@@ -19,6 +19,7 @@ use Rattle.rules.proofs.Rules.{rename-occurrences}
 use Rattle.names.specs.Names.{allowed}
 use Rattle.stores.specs.Program.{Program, roleOf, RoleForm, NeverFalling, ClassesForm, ListForm, NotForm, RuleForm, ProgramForm}
 use Rattle.stores.proofs.RuleTests.{rising-at}
+use Rattle.stores.proofs.StoredRules.{rules-within}
 use Rattle.name_store.specs.NameStore.{NamesForm}
 use Rattle.restriction.specs.Atoms.{member?, used?, used, placeIn, entries}
 use Rattle.restriction.specs.Remaining.{restrict, left, remainingOf, namesOf, remaining, remainingNames}
@@ -83,11 +84,8 @@ module _ (n k : ℕ) (ws : List ℕ) (rs : List (Rule ℕ)) (f : ClassesForm Pre
     rising-left ws (rising-at 0 ws (f .3)) (used? rs) 0 0 n (λ i m u. omega arith) (omega (arith, f .1)),
   )
 
-pub rules-inside : (kind : Kind) (n : ℕ) (rs : List (Rule ℕ)) → All (RuleForm kind n) rs → All (Within (λ a. a < n)) rs
-rules-inside kind n = all-imp (RuleForm kind n) _ (λ r h. record { head = h .head-form .0; body = h .body-form .0; nots = h .nots-form .0 })
-
 pub covers-left : (p : Program) → ProgramForm p → Covers (p .atoms) (left p) (p .rules)
-covers-left p f = used-covers (p .atoms) (p .rules) (rules-inside (p .kind) (p .atoms) (p .rules) (f .rule-forms))
+covers-left p f = used-covers (p .atoms) (p .rules) (rules-within f)
 
 few-left : (p : Program) → ProgramForm p → length (left p) ≤ atomLimit (p .kind)
 unfolding used

@@ -151,7 +151,7 @@ used-covers n rs h = record {
 member-map : (f : ℕ → ℕ) (xs : List ℕ) (a : ℕ) → T (member? xs a) → T (member? (map f xs) (f a))
 member-map f xs a h = member-any (map f xs) (f a) .1 (any-map (λ y. f a ≡ y) f xs (any-imp (λ x. a ≡ x) (λ x. f a ≡ f x) (λ x e. ap f e) xs (member-any xs a .0 h)))
 
-atoms-renamed : (f : ℕ → ℕ) (r : Rule ℕ) → map f (atomsOf r) ≡ atomsOf (rename f r)
+pub atoms-renamed : (f : ℕ → ℕ) (r : Rule ℕ) → map f (atomsOf r) ≡ atomsOf (rename f r)
 atoms-renamed f r = map-append f (r .head) (r .body ++ r .nots) ∙ ap (λ (l : List ℕ). map f (r .head) ++ l) (map-append f (r .body) (r .nots))
 
 -- and each stands, by its place, in some rule of what is left

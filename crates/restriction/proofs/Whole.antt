@@ -1,20 +1,18 @@
 -- A program of which every atom stands in some rule stays as it is; what is left of a program is such a one.
 use Prim.Native.Nat.{ℕ, _<_}
-use mathlib.Core.Path.{_≡_, refl, sym, ap, ap₂, subst, _∙_}
-use mathlib.Core.List.{List, [], _∷_, map}
+use mathlib.Core.Path.{_≡_, refl, sym, ap, subst, _∙_}
+use mathlib.Core.List.{List, []}
 use lib.ListN.{length}
 use Rattle.kinds.specs.declared.limits.Kind.{Kind}
 use Rattle.kinds.specs.declared.limits.Kind.the-variants.{Plain, Preference}
-use Rattle.rules.specs.Lists.{All, from}
-use Rattle.rules.specs.Rules.{Rule, rename}
-use Rattle.rules.specs.Renumbering.{Within}
-use Rattle.rules.proofs.Lists.{all-imp, length-from}
+use Rattle.rules.specs.Lists.{from}
+use Rattle.rules.proofs.Lists.{length-from}
+use Rattle.rules.proofs.Renumbering.{within-imp, rename-itself}
 use Rattle.stores.specs.Program.{Program, ProgramForm, ClassesForm}
-use Rattle.name_store.specs.NameStore.{NamesForm}
+use Rattle.stores.proofs.StoredRules.{rules-within}
 use Rattle.restriction.specs.Atoms.{used?, used, placeIn, renumbered, entries}
 use Rattle.restriction.specs.Remaining.{restrict, left, remainingOf, namesOf, remaining, remainingNames, AllUsed}
 use Rattle.restriction.proofs.Places.{filter-whole, filter-all-length, entries-whole, place-whole, used-left}
-use Rattle.restriction.proofs.Forms.{rules-inside}
 
 -- a plain program keeps all
 
@@ -44,18 +42,6 @@ names-preference p names e = ap (λ (k : Kind). namesOf k p names) e
 
 -- every atom stands in some rule
 
-map-itself : {A : Type 0} (f : A → A) (l : List A) → All (λ a. f a ≡ a) l → map f l ≡ l
-map-itself f [] h = refl
-map-itself {A} f (x ∷ l) h = ap₂ (λ (y : A) (r : List A). y ∷ r) (h .0) (map-itself f l (h .1))
-
-module _ (n : ℕ) where
-  list-whole : (l : List ℕ) → All (λ a. a < n) l → map (placeIn (from 0 n)) l ≡ l
-  list-whole l h = map-itself (placeIn (from 0 n)) l (all-imp (λ a. a < n) _ (λ a m. place-whole n a m) l h)
-
-  rules-whole : (rs : List (Rule ℕ)) → All (Within (λ a. a < n)) rs → renumbered (from 0 n) rs ≡ rs
-  rules-whole rs h = map-itself (rename (placeIn (from 0 n))) rs (all-imp (Within (λ a. a < n)) _
-      (λ r w. rw (list-whole (r .head) (w .head), list-whole (r .body) (w .body), list-whole (r .nots) (w .nots))) rs h)
-
 module _ (p : Program) (f : ProgramForm p) (all : AllUsed p) where
   left-whole : left p ≡ from 0 (p .atoms)
   unfolding used
@@ -66,6 +52,9 @@ module _ (p : Program) (f : ProgramForm p) (all : AllUsed p) where
       let size = subst (λ (k : Kind). ClassesForm k (p .atoms) (p .classes) (p .words)) e (f .classes-form) .1 in
       ap (λ (n : ℕ). entries 0 (p .words) (from 0 n)) (sym size) ∙ entries-whole 0 (p .words)
 
+  rules-whole : renumbered (from 0 (p .atoms)) (p .rules) ≡ p .rules
+  rules-whole = rename-itself (placeIn (from 0 (p .atoms))) (p .rules) (within-imp (λ a. a < p .atoms) _ (place-whole (p .atoms)) (p .rules) (rules-within f))
+
   pub remaining-whole : remaining p ≡ p
   unfolding remaining restrict
   remaining-whole = step (p .kind) refl
@@ -75,15 +64,15 @@ module _ (p : Program) (f : ProgramForm p) (all : AllUsed p) where
 
       step : (k : Kind) → p .kind ≡ k → remainingOf k p ≡ p
       step Plain e = refl
-      step Preference e = rw (left-whole, whole, words-whole e, rules-whole (p .atoms) (p .rules) (rules-inside (p .kind) (p .atoms) (p .rules) (f .rule-forms)))
+      step Preference e = rw (left-whole, whole, words-whole e, rules-whole)
 
-  pub names-whole : (names : List (List ℕ)) → NamesForm (p .kind) (p .atoms) names → remainingNames p names ≡ names
+  pub names-whole : (names : List (List ℕ)) → length names ≡ p .atoms → remainingNames p names ≡ names
   unfolding remainingNames
-  names-whole names g = step (p .kind)
+  names-whole names count = step (p .kind)
     where
       step : (k : Kind) → namesOf k p names ≡ names
       step Plain = refl
-      step Preference = ap (entries [] names) left-whole ∙ ap (λ (n : ℕ). entries [] names (from 0 n)) (sym (g .count)) ∙ entries-whole [] names
+      step Preference = ap (entries [] names) left-whole ∙ ap (λ (n : ℕ). entries [] names (from 0 n)) (sym count) ∙ entries-whole [] names
 
 -- what is left
 

@@ -64,3 +64,13 @@ module _ {A : Type 0} (p : A → Bool) where
 pub filter-same : {A : Type 0} (p q : A → Bool) (l : List A) → All (λ x. p x ≡ q x) l → filter p l ≡ filter q l
 filter-same p q [] h = refl
 filter-same {A} p q (x ∷ l) h = ap₂ (λ (b : Bool) (r : List A). keep b x r) (h .0) (filter-same p q l (h .1))
+
+pub filter-swap : {A : Type 0} (p q : A → Bool) (l : List A) → filter p (filter q l) ≡ filter q (filter p l)
+filter-swap p q [] = refl
+filter-swap {A} p q (x ∷ l) = step (p x) (q x) refl refl (filter-swap p q l)
+  where
+    step : (a b : Bool) → p x ≡ a → q x ≡ b → filter p (filter q l) ≡ filter q (filter p l) → filter p (keep b x (filter q l)) ≡ filter q (keep a x (filter p l))
+    step true true e d h = rw (e, d, h)
+    step true false e d h = rw (d, h)
+    step false true e d h = rw (e, h)
+    step false false e d h = h

@@ -49,6 +49,10 @@ pub map-flat : {A B C : Type 0} (f : B → C) (g : A → List B) (l : List A) �
 map-flat f g [] = refl
 map-flat {C} f g (x ∷ l) = map-append f (g x) (flat g l) ∙ ap (λ (r : List C). map f (g x) ++ r) (map-flat f g l)
 
+pub flat-map : {A B C : Type 0} (f : B → List C) (g : A → B) (l : List A) → flat f (map g l) ≡ flat (λ a. f (g a)) l
+flat-map f g [] = refl
+flat-map {C} f g (x ∷ l) = ap (λ (r : List C). f (g x) ++ r) (flat-map f g l)
+
 pub all-each : {A : Type 0} (P : A → Type 0) → ((a : A) → P a) → (l : List A) → All P l
 all-each P f [] = tt
 all-each P f (x ∷ l) = (f x, all-each P f l)
@@ -61,6 +65,10 @@ map-same {B} f g (x ∷ l) h = ap₂ (λ (y : B) (r : List B). y ∷ r) (h .0) (
 
 pub map-eq : {A B : Type 0} (f g : A → B) → ((a : A) → f a ≡ g a) → (l : List A) → map f l ≡ map g l
 map-eq f g h l = map-same f g l (all-each (λ a. f a ≡ g a) h l)
+
+pub map-itself : {A : Type 0} (f : A → A) (l : List A) → All (λ a. f a ≡ a) l → map f l ≡ l
+map-itself f [] h = refl
+map-itself {A} f (x ∷ l) h = ap₂ (λ (y : A) (r : List A). y ∷ r) (h .0) (map-itself f l (h .1))
 
 pub flat-same : {A B : Type 0} (f g : A → List B) (l : List A) → All (λ a. f a ≡ g a) l → flat f l ≡ flat g l
 flat-same f g [] h = refl

@@ -9,12 +9,13 @@ use lib.ListN.{length, getD, length-map}
 use Rattle.kinds.specs.Limits.{classLimit, fixed}
 use Rattle.rules.specs.Lists.{All, every, some, from}
 use Rattle.rules.specs.Sets.{has, In, Out, Agree}
-use Rattle.rules.specs.Rules.{Rule, Model, holds?, model?, firstBroken, countIf, rename}
+use Rattle.rules.specs.Rules.{Rule, rule, Model, holds?, model?, firstBroken, countIf, rename}
 use Rattle.rules.specs.Preferred.{OfClass, Beats, Preferred}
 use Rattle.rules.specs.CutClass.{CutClass}
 use Rattle.rules.specs.Renumbering.{Bijection, Renumbered, renumberWords, Within, SameAtoms, SamePreferred, NoneNewRenumbered}
 use Rattle.rules.proofs.Booleans.{T-of}
 use Rattle.rules.proofs.Lists.{all-imp, length-from, map-from-at}
+use Rattle.rules.proofs.ListLaws.{map-same, map-itself}
 use Rattle.rules.proofs.MappedLists.{every-map, some-map}
 use Rattle.rules.proofs.Rules.{model-law}
 use Rattle.rules.proofs.Sets.{same-set, set-of}
@@ -28,6 +29,17 @@ words-renumbered f g ws k = record {
 }
 
 -- rules
+
+pub within-imp : (P Q : ℕ → Type 0) → ((a : ℕ) → P a → Q a) → (rs : List (Rule ℕ)) → All (Within P) rs → All (Within Q) rs
+within-imp P Q f = all-imp (Within P) (Within Q) (λ r w. record { head = all-imp P Q f (r .head) (w .head); body = all-imp P Q f (r .body) (w .body); nots = all-imp P Q f (r .nots) (w .nots) })
+
+pub rename-same : (f g : ℕ → ℕ) (rs : List (Rule ℕ)) → All (Within (λ a. f a ≡ g a)) rs → map (rename f) rs ≡ map (rename g) rs
+rename-same f g rs h = map-same (rename f) (rename g) rs
+    (all-imp (Within (λ a. f a ≡ g a)) _ (λ r w i. rule (map-same f g (r .head) (w .head) i) (map-same f g (r .body) (w .body) i) (map-same f g (r .nots) (w .nots) i)) rs h)
+
+pub rename-itself : (f : ℕ → ℕ) (rs : List (Rule ℕ)) → All (Within (λ a. f a ≡ a)) rs → map (rename f) rs ≡ rs
+rename-itself f rs h = map-itself (rename f) rs
+    (all-imp (Within (λ a. f a ≡ a)) _ (λ r w i. rule (map-itself f (r .head) (w .head) i) (map-itself f (r .body) (w .body) i) (map-itself f (r .nots) (w .nots) i)) rs h)
 
 -- s′ has, by their new numbers, the atoms that are Q as s has them
 module _ (f : ℕ → ℕ) (Q : ℕ → Type 0) (s s′ : ℕ) (same : (a : ℕ) → Q a → has s′ (f a) ≡ has s a) where

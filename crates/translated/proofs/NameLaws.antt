@@ -14,6 +14,7 @@ use Rattle.kinds.specs.Sizes.{longestName}
 use Rattle.kinds.specs.Limits.{classLimit}
 use Rattle.kinds.specs.declared.limits.Kind.{Kind}
 use Rattle.rules.specs.Lists.{All, flat, from}
+use Rattle.rules.proofs.ListLaws.{flat-map}
 use Rattle.rules.proofs.Lists.{all-imp}
 use Rattle.names.specs.Names.{allowed}
 use Rattle.name_store.specs.NameStore.{nameBytes, encodeNames, firstName, decodeNames}
@@ -25,7 +26,6 @@ use Rattle.output.proofs.Emitting.{Ahead, Emitting, start, turn, finish, range-
 use Rattle.translated.specs.NameBytes.{FileName, FileNames, dottedBytes, endBytes}
 use Rattle.atom_lists.specs.ListWords.{each}
 use Rattle.atom_lists.proofs.ListLaws.{run-next, run-ends}
-use Rattle.translated.proofs.StoreWords.{flat-map}
 
 -- one name
 

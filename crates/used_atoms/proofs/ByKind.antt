@@ -23,8 +23,8 @@ module _ {kind : Kind} {g : Gathered} {words bytes : List ℕ} (h : Held kind (s
   preferring e = subst (λ (k : Kind). Held k (stateOf k g words bytes) g words bytes × ProgramForm (programOf (stateOf k g words bytes))) e h
 
   module _ {rules names rules′ names′ : List ℕ} {r : Read} where
-    pub preferred-left : kind ≡ Preference → Left g words bytes rules names rules′ names′ r Preference → Left g words bytes rules names rules′ names′ r kind
-    preferred-left e d = subst (Left g words bytes rules names rules′ names′ r) (sym e) d
+    pub preference-left : kind ≡ Preference → Left g words bytes rules names rules′ names′ r Preference → Left g words bytes rules names rules′ names′ r kind
+    preference-left e d = subst (Left g words bytes rules names rules′ names′ r) (sym e) d
 
     pub plain-left : kind ≡ Plain → Delivered (programOf (stateOf kind g words bytes)) (stateOf kind g words bytes .names) rules names rules′ names′ r → Left g words bytes rules names rules′ names′ r kind
-    plain-left e d = plain-delivered (h .0 .kind-is ∙ e) d
+    plain-left e d = plain-delivered d (h .0 .kind-is ∙ e)

@@ -11,6 +11,7 @@ use Rattle.rules.specs.Rules.{Rule}
 use Rattle.stores.specs.Program.{ProgramForm}
 use Rattle.stores.specs.RuleStore.{rulesFrom}
 use Rattle.stores.specs.StoredRules.{StoredRules}
+use Rattle.stores.proofs.StoredRules.{rules-within}
 use Rattle.lines.specs.Faults.{SoFar}
 use Rattle.lines.specs.Said.{programOf}
 use Rattle.answers.specs.declared.Read.{Read}
@@ -23,7 +24,7 @@ use Rattle.delivery.specs.Delivered.{Delivered}
 use Rattle.used_atoms.specs.Marks.{Marks, marked}
 use Rattle.used_atoms.specs.Tables.{Tables}
 use Rattle.used_atoms.proofs.HeldRules.{rulePart, rule-part, rules-stored}
-use Rattle.used_atoms.proofs.Tabling.{form-inside, more-inside, tables, all-delivered}
+use Rattle.used_atoms.proofs.Tabling.{more-inside, tables, all-delivered}
 
 module _ {g : Gathered} {words bytes : List ℕ} (h : Held Preference (stateOf Preference g words bytes) g words bytes) (f : ProgramForm (programOf (stateOf Preference g words bytes))) where
   abbrev st : SoFar
@@ -36,7 +37,7 @@ module _ {g : Gathered} {words bytes : List ℕ} (h : Held Preference (stateOf P
   few-atoms = within-limits Preference (g .counts) (h .counts-fit) .atoms
 
   pub rules-ready : StoredRules (atomLimit Preference) (g .counts .rules) (rulePart n words)
-  rules-ready = rules-stored h (atomLimit Preference) (more-inside (st .program-rules) (form-inside f) (omega (arith, atoms-is h, few-atoms)))
+  rules-ready = rules-stored h (atomLimit Preference) (more-inside (st .program-rules) (rules-within f) (omega (arith, atoms-is h, few-atoms)))
 
   pub few-number : n < 65536
   few-number = omega (arith, few-atoms)
@@ -48,9 +49,9 @@ module _ {g : Gathered} {words bytes : List ℕ} (h : Held Preference (stateOf P
       (room : length numbers ≡ atomLimit Preference) (c : count ≡ length (marked n marks)) (e : (a : ℕ) → a < n → getD numbers a 0 ≡ length (marked a marks)) where
     pub filled : Tables (programOf st) marks numbers count
     filled =
-        tables {p = programOf st} (atoms-is h) few-atoms (omega (arith, room, few-atoms)) (form-inside f)
+        tables {p = programOf st} (atoms-is h) few-atoms (omega (arith, room, few-atoms)) (rules-within f)
         (subst (λ (rs : List (Rule ℕ)). Marks (used? rs) (replicate (atomLimit Preference) false) marks) (rule-part h) m) c e
 
     pub none-out : count ≡ n → {rules names rules′ names′ : List ℕ} {r : Read} → Delivered (programOf st) (st .names) rules names rules′ names′ r
         → Delivered (remaining (programOf st)) (remainingNames (programOf st) (st .names)) rules names rules′ names′ r
-    none-out q d = all-delivered filled (q ∙ atoms-is h) (h .kind-is) (h .class-words ∙ atoms-is h) refl d
+    none-out q d = all-delivered d f filled (q ∙ atoms-is h) refl

@@ -13,10 +13,13 @@ use Rattle.rules.specs.Lists.{keep, filter, flat, from}
 use Rattle.rules.specs.Rules.{Rule, rename}
 use Rattle.rules.proofs.Lists.{length-from}
 use Rattle.rules.proofs.Filtered.{filter-length}
+use Rattle.rules.proofs.ListLaws.{flat-map}
+use Rattle.rules.proofs.Rules.{rename-occurrences}
 use Rattle.name_store.specs.NameStore.{nameBytes, encodeNames, decodeNames}
 use Rattle.stores.specs.Program.{Program}
 use Rattle.stores.specs.RuleStore.{ruleWords, rulesFrom, encode}
 use Rattle.stores.specs.StoredRules.{StoredRules}
+use Rattle.stores.proofs.RuleStores.{rules-length}
 use Rattle.output.specs.Emitted.{Emitted, InRange}
 use Rattle.output.proofs.Emitting.{then, renamed}
 use Rattle.lines.specs.Faults.{SoFar}
@@ -38,25 +41,7 @@ use Rattle.used_atoms.proofs.Tabling.{more-inside}
 -- rules keep their length
 
 moved-length : (f : ℕ → ℕ) (rs : List (Rule ℕ)) → length (flat ruleWords (map (rename f) rs)) ≡ length (flat ruleWords rs)
-moved-length f [] = refl
-moved-length f (r ∷ rs) =
-    omega (
-      arith,
-      moved-length f rs,
-      length-append (ruleWords (rename f r)) (flat ruleWords (map (rename f) rs)),
-      length-append (ruleWords r) (flat ruleWords rs),
-      length-append (map f (r .head)) (map f (r .body) ++ map f (r .nots)),
-      length-append (map f (r .body)) (map f (r .nots)),
-      length-append (r .head) (r .body ++ r .nots),
-      length-append (r .body) (r .nots),
-      length-map (r .head) f,
-      length-map (r .body) f,
-      length-map (r .nots) f,
-    )
-
-flat-moved : (f : ℕ → ℕ) (rs : List (Rule ℕ)) → flat (λ r. ruleWords (rename f r)) rs ≡ flat ruleWords (map (rename f) rs)
-flat-moved f [] = refl
-flat-moved f (r ∷ rs) = ap (λ (l : List ℕ). ruleWords (rename f r) ++ l) (flat-moved f rs)
+moved-length f rs = omega (arith, rules-length (map (rename f) rs), rules-length rs, length-map rs (rename f), rename-occurrences f rs)
 
 -- some names take no more room than all
 
@@ -117,7 +102,7 @@ module _ {g : Gathered} {words bytes : List ℕ} (h : Held Preference (stateOf P
   classes-are = ap₂ (entries 0) (class-part h) (ap (λ (k : ℕ). marked k marks) classes-length ∙ t .marks-are)
 
   moved-are : moved ≡ flat ruleWords (renumbered (left p) (p .rules))
-  moved-are = ap (flat (movedWords numbers)) (rule-part h) ∙ flat-moved (λ a. getD numbers a 0) (p .rules) ∙ ap (flat ruleWords) (t .numbers-are)
+  moved-are = ap (flat (movedWords numbers)) (rule-part h) ∙ sym (flat-map ruleWords (rename (λ a. getD numbers a 0)) (p .rules)) ∙ ap (flat ruleWords) (t .numbers-are)
 
   words-are : header ++ (classes ++ moved) ≡ encode (remaining p)
   unfolding encode remaining restrict stateOf

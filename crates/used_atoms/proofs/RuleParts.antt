@@ -3,7 +3,7 @@ use Prim.Native.Nat.{ℕ, _+_, _-_, _<_}
 use native.Mathlib.Omega.{arith}
 use mathlib.Core.Path.{_≡_, sym, ap, ap₂, _∙_, subst}
 use mathlib.Core.Bool.{Bool}
-use mathlib.Core.List.{List, _∷_, _++_, map, map-append}
+use mathlib.Core.List.{List, _∷_, _++_, map}
 use lib.ListN.{length, getD, take, drop, length-append, length-map}
 use lib.Seq.{take-at}
 use Rattle.rules.specs.Lists.{All}
@@ -15,6 +15,7 @@ use Rattle.stores.proofs.RuleTests.{rule-words, occurrences-places}
 use Rattle.output.specs.Emitted.{Emitted, InRange}
 use Rattle.output.proofs.Emitting.{Ahead, then, renamed}
 use Rattle.restriction.specs.Atoms.{member?, atomsOf, entries}
+use Rattle.restriction.proofs.Places.{atoms-renamed}
 use Rattle.used_atoms.specs.Marks.{Marks}
 
 -- the atoms, as the code takes them
@@ -47,9 +48,7 @@ module _ {n : ℕ} {ws : List ℕ} (s : StoredRule n ws) {size : ℕ} (e : size 
   moved-parts : (f : ℕ → ℕ) → ruleWords (rename f (ruleAt ws)) ≡ take 3 ws ++ map f (atomPart ws size)
   moved-parts f =
       let r = ruleAt ws in
-      let atoms : map f (atomsOf r) ≡ map f (r .head) ++ (map f (r .body) ++ map f (r .nots)) =
-      map-append f (r .head) (r .body ++ r .nots) ∙ ap (λ (l : List ℕ). map f (r .head) ++ l) (map-append f (r .body) (r .nots)) in
-      (λ i. length-map (r .head) f i ∷ length-map (r .body) f i ∷ length-map (r .nots) f i ∷ sym atoms i)
+      (λ i. length-map (r .head) f i ∷ length-map (r .body) f i ∷ length-map (r .nots) f i ∷ sym (atoms-renamed f r) i)
       ∙ ap₂ (λ (u v : List ℕ). u ++ map f v) (ap (take 3) (rule-words ws (s .inside))) (sym atom-part)
 
   module _ (numbers : List ℕ) {at : ℕ} (range : InRange at (movedWords numbers (ruleAt ws))) where

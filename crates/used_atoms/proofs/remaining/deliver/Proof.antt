@@ -1,4 +1,4 @@
-use Rattle.used_atoms.proofs.ByKind.{preferring, preferred-left, plain-left}
+use Rattle.used_atoms.proofs.ByKind.{preferring, preference-left, plain-left}
 use borrow.Author.Needs.{needs}
 use Rattle.used_atoms.proofs.remaining.deliver.Statement.{statement}
 use Rattle.used_atoms.proofs.remaining.deliver.Tie as tie
@@ -37,7 +37,7 @@ same-length-6 : tie.Need-same-length-6
 same-length-6 c = search needs
 
 returns-2 : tie.Need-returns-2
-returns-2 c = preferred-left (c .before .before .before .before .before .before .before .before .before .before .before .before .before .before .before .before .pre) (c .before .before .before .before .before .before .before .before .before .before .enum-told2 .given .1) (c .before .before .before .before .before .before .deliver-used .ensures)
+returns-2 c = preference-left (c .before .before .before .before .before .before .before .before .before .before .before .before .before .before .before .before .pre) (c .before .before .before .before .before .before .before .before .before .before .enum-told2 .given .1) (c .before .before .before .before .before .before .deliver-used .ensures)
 
 pub deliver-spec : {M : Type 1} → statement M
 deliver-spec =
