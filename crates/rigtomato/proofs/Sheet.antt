@@ -1,7 +1,8 @@
 -- The marked cases, by computation.
 use mathlib.Core.Path.{refl}
 use Rattle.names.specs.Names.{nameClass, house?, classNumber?, allowed}
-use Rattle.name_store.specs.NameStore.{sameBytes}
+use Rattle.stores.specs.RuleStore.{encode, ruleAt, rulesFrom, decode}
+use Rattle.name_store.specs.NameStore.{sameBytes, encodeNames, decodeNames}
 use Rattle.text.specs.Text.{listLine, openText, ruleLine, textOf}
 use Rattle.lines.specs.Lines.{lines, linesFrom, lineLength}
 use Rattle.lines.specs.Items.{items, itemsFrom, run, span}
@@ -18,13 +19,14 @@ use Rattle.choices.specs.Choices.{closed?, visited}
 use Rattle.walks.specs.Order.{walkOrder, preferredSets}
 use Rattle.walks.specs.Walk.{preferredWalk, stableWalk, candidates, search, capped, preferredNeeds, stableNeeds, preferredVerdict, stableVerdict, firstState, cappedNext, nextNeeds, nextVerdict}
 use Rattle.kinds.specs.Words.{digits}
+use Rattle.answers.specs.Writing.{storesText}
 use Rattle.answers.specs.Printed.{stateLine, totalLine}
 use Rattle.answers.specs.Listed.{listing, wholeListing, statesOf}
 use Rattle.answers.specs.Programs.{printed, statesPrinted}
 use Rattle.rigtomato.specs.Sheet.{rulesA, fileA, oneClass, lampFirst, darkFixed, nothing, emptyRule, oneRule, unused, unusedLong, unusedTwice, plainUnused, plain, inverters, Sheet}
 
 pub sheet : Sheet
-unfolding rulesA fileA oneClass lampFirst darkFixed nothing emptyRule oneRule unused unusedLong unusedTwice plainUnused plain inverters nameClass house? classNumber? allowed sameBytes listLine openText ruleLine textOf lines linesFrom lineLength items itemsFrom run span splitNames splitList declaredForm ruleForm formOf twice nameNumber declare addRule start readLines typed restrict remaining remainingNames used said declared step1 step2 step3 step4 step5 step6 step7 step8 step9 step10 translation translatedRules place closed? visited walkOrder preferredSets preferredWalk stableWalk candidates search capped preferredNeeds stableNeeds preferredVerdict stableVerdict firstState cappedNext nextNeeds nextVerdict digits stateLine totalLine listing wholeListing printed statesOf statesPrinted
+unfolding rulesA fileA oneClass lampFirst darkFixed nothing emptyRule oneRule unused unusedLong unusedTwice plainUnused plain inverters nameClass house? classNumber? allowed encode ruleAt rulesFrom decode sameBytes encodeNames decodeNames listLine openText ruleLine textOf lines linesFrom lineLength items itemsFrom run span splitNames splitList declaredForm ruleForm formOf twice nameNumber declare addRule start readLines typed restrict remaining remainingNames used said declared step1 step2 step3 step4 step5 step6 step7 step8 step9 step10 translation translatedRules place closed? visited walkOrder preferredSets preferredWalk stableWalk candidates search capped preferredNeeds stableNeeds preferredVerdict stableVerdict firstState cappedNext nextNeeds nextVerdict digits storesText stateLine totalLine listing wholeListing printed statesOf statesPrinted
 sheet = record {
   a-6 = refl;
   a-1 = refl;
@@ -51,7 +53,10 @@ sheet = record {
   one-rule-counts = refl;
   unused-listed = refl;
   unused-written = refl;
+  unused-counts = refl;
   unused-long = refl;
   unused-twice = refl;
   plain-unused = refl;
+  handed-in-written = refl;
+  handed-in-counts = refl;
 }

@@ -8,8 +8,10 @@ use Rattle.kinds.specs.Words.{bytes}
 use Rattle.kinds.specs.declared.refusals.Refusal.the-variants.{Name, DeclaredTwice}
 use Rattle.rules.specs.Lists.{sum}
 use Rattle.rules.specs.Rules.{occurrences}
+use Rattle.stores.specs.RuleStore.{encode}
+use Rattle.name_store.specs.NameStore.{encodeNames}
 use Rattle.text.specs.Text.{textOf}
-use Rattle.lines.specs.Said.{Said, accepted, refused, said}
+use Rattle.lines.specs.Said.{Said, accepted, refused, typed, said}
 use Rattle.walks.specs.declared.answers.Verdict.{Verdict}
 use Rattle.walks.specs.declared.answers.Verdict.the-variants.{Yes, Broken, Beaten, Spent, Refused}
 use Rattle.walks.specs.declared.answers.NextState.{NextState}
@@ -20,6 +22,7 @@ use Rattle.places.specs.Places.{place}
 use Rattle.walks.specs.Order.{preferredSets}
 use Rattle.walks.specs.Walk.{preferredVerdict, stableVerdict, nextVerdict}
 use Rattle.pairing.specs.Translated.{translated}
+use Rattle.answers.specs.Writing.{storesText}
 use Rattle.answers.specs.Programs.{statesPrinted}
 
 -- the rules of file A
@@ -109,6 +112,11 @@ abbrev pub written : Said → List ℕ
 written (accepted p names) = textOf p names
 written (refused f line) = []
 
+-- the writer's text of the two stores with all that a text's lines declare, handed in
+abbrev pub handedIn : Said → List ℕ
+handedIn (accepted p names) = storesText (encode p) (encodeNames names)
+handedIn (refused f line) = []
+
 -- atoms, rules and occurrences of the translation
 abbrev pub counts : Said → List ℕ
 counts (accepted p names) = translated p .atoms ∷ length (translated p .rules) ∷ sum occurrences (translated p .rules) ∷ []
@@ -145,6 +153,10 @@ pub record Sheet : Type 0 where
   -- an unused varying atom lists no state again; an emptied class stays, with its line; the faults of unused names stay; a plain program keeps its atoms
   pub unused-listed : statesPrinted unused ≡ bytes "(state lamp dark)\n(total 1)\n"
   pub unused-written : written (said unused) ≡ bytes "(min)\n(min sensor)\n(min lamp)\n(vary dark)\n(fix)\n" ++ rulesA
+  pub unused-counts : counts (said unused) ≡ 16 ∷ 31 ∷ 80 ∷ []
   pub unused-long : said unusedLong ≡ refused Name 3
   pub unused-twice : said unusedTwice ≡ refused DeclaredTwice 4
   pub plain-unused : written (said plainUnused) ≡ plainUnused
+  -- stores with unused atoms that are handed in are written and translated with them
+  pub handed-in-written : handedIn (typed unused) ≡ unused
+  pub handed-in-counts : counts (typed unused) ≡ 25 ∷ 43 ∷ 111 ∷ []
