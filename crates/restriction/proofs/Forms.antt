@@ -22,7 +22,7 @@ use Rattle.stores.proofs.RuleTests.{rising-at}
 use Rattle.stores.proofs.StoredRules.{rules-within}
 use Rattle.name_store.specs.NameStore.{NamesForm}
 use Rattle.restriction.specs.Atoms.{member?, used?, used, placeIn, entries}
-use Rattle.restriction.specs.Remaining.{restrict, left, remainingOf, namesOf, remaining, remainingNames}
+use Rattle.restriction.specs.Remaining.{restrict, left, remainingOf, remainingNamesOf, remaining, remainingNames}
 use Rattle.restriction.specs.Covers.{Covers}
 use Rattle.restriction.proofs.Places.{at-place, used-covers}
 
@@ -123,6 +123,6 @@ pub remaining-names : (p : Program) (names : List (List ℕ)) → ProgramForm p 
 unfolding remaining remainingNames restrict
 remaining-names p names f g = step (p .kind) refl
   where
-    step : (k : Kind) → p .kind ≡ k → NamesForm (remainingOf k p .kind) (remainingOf k p .atoms) (namesOf k p names)
+    step : (k : Kind) → p .kind ≡ k → NamesForm (remainingOf k p .kind) (remainingOf k p .atoms) (remainingNamesOf k p names)
     step Plain e = g
     step Preference e = let c = covers-left p f in names-left (p .kind) (p .atoms) (left p) names (c .inside) (c .different) g

@@ -21,7 +21,7 @@ use Rattle.restriction.specs.Covers.{Covers}
 
 -- members
 
-pub member-any : (xs : List ℕ) (a : ℕ) → T (member? xs a) ↔ Any (λ x. a ≡ x) xs
+member-any : (xs : List ℕ) (a : ℕ) → T (member? xs a) ↔ Any (λ x. a ≡ x) xs
 member-any xs a = some-any (eqb a) (λ x. a ≡ x) (λ x. (eqb→eq a x, eq→eqb a x)) xs
 
 pub member-all : (P : ℕ → Type 0) (xs : List ℕ) (a : ℕ) → All P xs → T (member? xs a) → P a
@@ -73,7 +73,7 @@ module _ (t : ℕ → Bool) where
   pub filter-distinct : (n : ℕ) → Distinct (filter t (from 0 n))
   filter-distinct n = distinct-filter t (from 0 n) (distinct-from 0 n)
 
-  pub filter-inside : (n : ℕ) → All (λ a. a < n) (filter t (from 0 n))
+  filter-inside : (n : ℕ) → All (λ a. a < n) (filter t (from 0 n))
   filter-inside n = all-filter (λ a. a < n) t (from 0 n) (all-from (λ a. T (t a) → a < n) 0 n (λ a l u h. omega arith))
 
   filter-parts : (a c : ℕ) → filter t (from 0 (a + suc c)) ≡ filter t (from 0 a) ++ keep (t a) a (filter t (from (suc a) c))
@@ -115,7 +115,7 @@ place-whole n a l = ap (λ (r : List ℕ). placeIn r a) (sym (whole n)) ∙ filt
 
 -- the atoms of rules
 
-pub within-atoms : (Q : ℕ → Type 0) (r : Rule ℕ) → Within Q r ↔ All Q (atomsOf r)
+within-atoms : (Q : ℕ → Type 0) (r : Rule ℕ) → Within Q r ↔ All Q (atomsOf r)
 within-atoms Q r = (
   λ h. all-app Q (r .head) (r .body ++ r .nots) (h .head) (all-app Q (r .body) (r .nots) (h .body) (h .nots)),
   λ h.
@@ -127,7 +127,7 @@ within-atoms Q r = (
       },
 )
 
-pub used-member : (n : ℕ) (rs : List (Rule ℕ)) (a : ℕ) → T (member? (used n rs) a) ↔ ((a < n) × T (used? rs a))
+used-member : (n : ℕ) (rs : List (Rule ℕ)) (a : ℕ) → T (member? (used n rs) a) ↔ ((a < n) × T (used? rs a))
 unfolding used
 used-member n rs a = member-filter (used? rs) n a
 

@@ -31,7 +31,7 @@ cut-number : (xs : List ℕ) (m : ℕ) → cutTo xs m ≡ number (map (has m) xs
 cut-number [] m = refl
 cut-number (x ∷ xs) m = omega (arith, digit-cond (has m x), cut-number xs m)
 
-pub cut-lt : (xs : List ℕ) (m : ℕ) → cutTo xs m < 2 ^ length xs
+cut-lt : (xs : List ℕ) (m : ℕ) → cutTo xs m < 2 ^ length xs
 cut-lt xs m = subst (λ (c : ℕ). cutTo xs m < 2 ^ c) (length-map xs (has m)) (omega (arith, cut-number xs m, number-lt (map (has m) xs)))
 
 pub cut-at : (xs : List ℕ) (m i : ℕ) → i < length xs → has (cutTo xs m) i ≡ has m (getD xs i 0)
@@ -40,7 +40,7 @@ cut-at xs m i l =
     ∙ has-number (has m 0) (map (has m) xs) i (omega (arith, length-map xs (has m)))
     ∙ map-at (has m) xs i 0 (has m 0) l
 
-pub cut-place : (xs : List ℕ) (m a : ℕ) → T (member? xs a) → has (cutTo xs m) (placeIn xs a) ≡ has m a
+cut-place : (xs : List ℕ) (m a : ℕ) → T (member? xs a) → has (cutTo xs m) (placeIn xs a) ≡ has m a
 cut-place xs m a h = let q = at-place xs a h in cut-at xs m (placeIn xs a) (q .0) ∙ ap (has m) (q .1)
 
 module _ (xs ws : List ℕ) (rs : List (Rule ℕ)) (k : Covers (length ws) xs rs) where

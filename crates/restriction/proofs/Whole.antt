@@ -11,7 +11,7 @@ use Rattle.rules.proofs.Renumbering.{within-imp, rename-itself}
 use Rattle.stores.specs.Program.{Program, ProgramForm, ClassesForm}
 use Rattle.stores.proofs.StoredRules.{rules-within}
 use Rattle.restriction.specs.Atoms.{used?, used, placeIn, renumbered, entries}
-use Rattle.restriction.specs.Remaining.{restrict, left, remainingOf, namesOf, remaining, remainingNames, AllUsed}
+use Rattle.restriction.specs.Remaining.{restrict, left, remainingOf, remainingNamesOf, remaining, remainingNames, AllUsed}
 use Rattle.restriction.proofs.Places.{filter-whole, filter-all-length, entries-whole, place-whole, used-left}
 
 -- a plain program keeps all
@@ -22,7 +22,7 @@ remaining-plain p e = ap (λ (k : Kind). remainingOf k p) e
 
 pub names-plain : (p : Program) (names : List (List ℕ)) → p .kind ≡ Plain → remainingNames p names ≡ names
 unfolding remainingNames
-names-plain p names e = ap (λ (k : Kind). namesOf k p names) e
+names-plain p names e = ap (λ (k : Kind). remainingNamesOf k p names) e
 
 pub remaining-kind : (p : Program) → remaining p .kind ≡ p .kind
 unfolding remaining restrict
@@ -38,7 +38,7 @@ remaining-preference p e = ap (λ (k : Kind). remainingOf k p) e
 
 pub names-preference : (p : Program) (names : List (List ℕ)) → p .kind ≡ Preference → remainingNames p names ≡ entries [] names (left p)
 unfolding remainingNames
-names-preference p names e = ap (λ (k : Kind). namesOf k p names) e
+names-preference p names e = ap (λ (k : Kind). remainingNamesOf k p names) e
 
 -- every atom stands in some rule
 
@@ -70,7 +70,7 @@ module _ (p : Program) (f : ProgramForm p) (all : AllUsed p) where
   unfolding remainingNames
   names-whole names count = step (p .kind)
     where
-      step : (k : Kind) → namesOf k p names ≡ names
+      step : (k : Kind) → remainingNamesOf k p names ≡ names
       step Plain = refl
       step Preference = ap (entries [] names) left-whole ∙ ap (λ (n : ℕ). entries [] names (from 0 n)) (sym count) ∙ entries-whole [] names
 

@@ -27,15 +27,15 @@ abbrev pub remainingOf : Kind → Program → Program
 remainingOf Plain p = p
 remainingOf Preference p = restrict (left p) p
 
-abbrev pub namesOf : Kind → Program → List (List ℕ) → List (List ℕ)
-namesOf Plain p names = names
-namesOf Preference p names = entries [] names (left p)
+abbrev pub remainingNamesOf : Kind → Program → List (List ℕ) → List (List ℕ)
+remainingNamesOf Plain p names = names
+remainingNamesOf Preference p names = entries [] names (left p)
 
 unfoldable pub remaining : Program → Program
 remaining p = remainingOf (p .kind) p
 
 unfoldable pub remainingNames : Program → List (List ℕ) → List (List ℕ)
-remainingNames p names = namesOf (p .kind) p names
+remainingNames p names = remainingNamesOf (p .kind) p names
 
 -- every atom stands in some rule
 abbrev pub AllUsed : Program → Type 0

@@ -26,7 +26,7 @@ use Rattle.lines.specs.Faults.{SoFar}
 use Rattle.lines.specs.Said.{programOf}
 use Rattle.answers.specs.declared.Read.the-variants.{Accepted, Refused}
 use Rattle.restriction.specs.Atoms.{used?, used, renumbered, entries}
-use Rattle.restriction.specs.Remaining.{restrict, left, remainingOf, namesOf, remaining, remainingNames}
+use Rattle.restriction.specs.Remaining.{restrict, left, remainingOf, remainingNamesOf, remaining, remainingNames}
 use Rattle.gathering.specs.declared.gathered.Gathered.{Gathered}
 use Rattle.gathering.specs.Gathered.{stateOf, Held}
 use Rattle.gathering.proofs.HeldState.{atoms-is, rules-is, held-small}
@@ -156,7 +156,7 @@ module _ {g : Gathered} {words bytes : List ℕ} (h : Held Preference (stateOf P
   unfolding remainingNames
   names-are =
       ap₂ (λ (l : List (List ℕ)) (xs : List ℕ). encodeNames (entries [] l xs)) names-here (ap (λ (k : ℕ). marked k marks) (atoms-is h) ∙ t .marks-are)
-      ∙ ap (λ (k : Kind). encodeNames (namesOf k p (st .names))) (sym (h .kind-is))
+      ∙ ap (λ (k : Kind). encodeNames (remainingNamesOf k p (st .names))) (sym (h .kind-is))
 
   pub names-range : InRange 0 names
   unfolding marked
