@@ -40,7 +40,7 @@ pub fn read(text: &[u8], rules: &mut [u16], names: &mut [u8]) -> Read
         &mut links,
         &mut marks,
     ) {
-        Gather::Whole(gathered) => used_atoms::remaining::deliver(
+        Gather::Whole(gathered) => remaining_stores::remaining::deliver(
             kind,
             gathered,
             &mut words,

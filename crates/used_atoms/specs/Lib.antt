@@ -1,3 +1,2 @@
--- The marks and the new numbers of atoms.
+-- The marks of atoms.
 pub mod Marks
-pub mod Tables

@@ -1,4 +1,2 @@
-// What is left of a preference program, without the atoms that stand in no rule, into the two lent outputs (document 02, W-203).
-pub mod left;
+// The atoms that stand in some rule, marked and numbered (document 02, W-203).
 pub mod marks;
-pub mod remaining;
