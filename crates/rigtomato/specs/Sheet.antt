@@ -61,9 +61,9 @@ oneRule = bytes "(min sensor)\n(vary dark)\n(fix)\n(rule (head sensor dark) (bod
 unfoldable pub unused : List ℕ
 unused = bytes "(min spare)\n(min sensor)\n(min lamp)\n(vary idle dark)\n(fix door)\n" ++ rulesA
 
--- the same with an unused name of 25 bytes, and with one declared twice
+-- A with an unused name of 25 bytes, and with one declared twice
 unfoldable pub unusedLong : List ℕ
-unusedLong = bytes "(min sensor)\n(min lamp)\n(vary dark idle_idle_idle_idle_idle_i)\n(fix)\n" ++ rulesA
+unusedLong = bytes "(min sensor)\n(min lamp)\n(vary dark idle_idle_idle_idle_idle_)\n(fix)\n" ++ rulesA
 
 unfoldable pub unusedTwice : List ℕ
 unusedTwice = bytes "(min sensor)\n(min lamp idle)\n(vary dark)\n(fix idle)\n" ++ rulesA
