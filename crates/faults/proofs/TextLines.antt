@@ -17,6 +17,7 @@ use Rattle.name_store.proofs.NameStores.{same-law}
 use Rattle.lines.specs.Forms.{atoms, begins, tagOf}
 use Rattle.lines.specs.Said.{start}
 use Rattle.lines.specs.Lines.{lineLength, linesFrom, lines}
+use Rattle.lines.proofs.LinePlaces.{cut-first}
 use Rattle.faults.specs.TextLines.{NoEnd, EndedLine, EachEnded, AreLines, StartsWith}
 
 joined-from : (k : ℕ) (s : List ℕ) → drop k s ≡ flat (λ l. l) (linesFrom k s)
@@ -61,17 +62,6 @@ ended-from zero (b ∷ s) = go (first-line (b ∷ s)) (ended-from (cond (eqb b l
 ended-from (suc k) (b ∷ s) = ended-from k s
 
 -- and back
-
-lines-from : (k : ℕ) (s : List ℕ) → linesFrom k s ≡ linesFrom 0 (drop k s)
-unfolding linesFrom
-lines-from zero s = refl
-lines-from (suc k) [] = refl
-lines-from (suc k) (b ∷ s) = lines-from k s
-
-pub cut-first : (t : List ℕ) → t ≢ [] → lines t ≡ take (lineLength t) t ∷ lines (drop (lineLength t) t)
-unfolding lines linesFrom lineLength
-cut-first [] n = absurd (n refl)
-cut-first (b ∷ s) n = let k = cond (eqb b line-end) 0 (lineLength s) in ap (λ l. (b ∷ take k s) ∷ l) (lines-from k s)
 
 cut-at : (l rest : List ℕ) → l ≢ [] → lineLength (l ++ rest) ≡ length l → lines (l ++ rest) ≡ l ∷ lines rest
 cut-at l rest n e =

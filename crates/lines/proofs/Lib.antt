@@ -1,6 +1,7 @@
 -- The laws of lines and their forms.
 pub mod Scanning
 pub mod LineBlocks
+pub mod LinePlaces
 pub mod Tags
 pub mod NameLists
 pub mod LineShapes

@@ -1,16 +1,14 @@
--- The lines of a text by their places, and the walk over them.
+-- The walk over the lines of a text.
 use Prim.Native.Nat.{ℕ, suc, _+_, _*_, _-_, _≤_, _<_, zero-le}
 use native.Mathlib.Numerals.{add-one}
 use native.Mathlib.Omega.{arith}
-use mathlib.Core.Path.{_≡_, sym, ap, ap₂, _∙_, subst}
+use mathlib.Core.Path.{_≡_, sym, ap, _∙_, subst}
 use mathlib.Core.Bool.{Bool, true, false, cond}
-use mathlib.Core.List.{List, [], _∷_}
-use lib.ListN.{length, take, drop, length-drop, drop-of-length-le}
-use lib.Seq.{drop-drop, length-take-le}
+use mathlib.Core.List.{List}
+use lib.ListN.{length, drop, drop-of-length-le}
 use Rattle.kinds.specs.declared.limits.Kind.{Kind}
 use Rattle.kinds.specs.declared.refusals.Refusal.{Refusal}
 use Rattle.kinds.specs.declared.refusals.Refusal.the-variants.{BrokenForm}
-use Rattle.rules.proofs.Lists.{part-sized}
 use Rattle.gathering.specs.declared.gathered.Gathered.{Gathered}
 use Rattle.gathering.specs.declared.gathered.Line.{Line}
 use Rattle.gathering.specs.declared.gathered.Line.the-variants.{Next, Fault}
@@ -26,33 +24,9 @@ use Rattle.lines.specs.Faults.{SoFar, ruling?, stepForm}
 use Rattle.lines.specs.Said.{Said, accepted, refused, onStep, readLines, start, programOf}
 use Rattle.gathering.specs.Gathered.{stateOf, Held, HeldIndex, HeldMarks, LineSays, LineIs, MarksSay, MarksAre}
 use Rattle.reader.specs.Gathering.{startCounts, passedOn, atEnd, GatherSays, GatherIs}
-use Rattle.lines.proofs.LineBlocks.{line-le}
-use Rattle.faults.proofs.TextLines.{cut-first}
+use Rattle.lines.proofs.LinePlaces.{line, line-inside, lines-at}
 use Rattle.gathering.proofs.HeldState.{rules-is, held-is}
 use Rattle.reader.proofs.LineSteps.{declare-said}
-
-first-line : (s : List ℕ) → 1 ≤ length s → (lines s ≡ take (lineLength s) s ∷ lines (drop (lineLength s) s)) × (1 ≤ lineLength s)
-unfolding lineLength
-first-line [] h = absurd (omega arith)
-first-line (b ∷ s) h = (cut-first (b ∷ s) (λ e. absurd (let z : suc (length s) ≡ 0 = ap length e in omega arith)), omega arith)
-
--- the line at a place
-module _ (s : List ℕ) (at : ℕ) (l : at < length s) {n : ℕ} (e : n ≡ lineLength (drop at s)) where
-  pub line-inside : (at + n ≤ length s) × (at < at + n)
-  line-inside = let f = first-line (drop at s) (omega (arith, length-drop at s)) .1 in (omega (arith, line-le (drop at s), length-drop at s), omega arith)
-
-  -- its bytes, as the code takes them
-  abbrev pub line : List ℕ
-  line = take (at + n - at) (drop at s)
-
-  lines-at : lines (drop at s) ≡ line ∷ lines (drop (at + n) s)
-  lines-at =
-      first-line (drop at s) (omega (arith, length-drop at s)) .0
-      ∙ ap (λ m. take m (drop at s) ∷ lines (drop m (drop at s))) (sym e)
-      ∙ ap₂ _∷_ (sym (part-sized at n (drop at s))) (ap lines (drop-drop n at s))
-
-  pub line-short : length line ≤ length s
-  line-short = omega (arith, ap length (part-sized at n (drop at s)) ∙ length-take-le n (drop at s) (omega (arith, line-inside .0, length-drop at s)), line-inside .0)
 
 -- a declaring line adds no rule
 module _ {kind : Kind} {st : SoFar} {g : Gathered} {words bytes : List ℕ} (h : Held kind st g words bytes) {l : List ℕ} {f : LineForm} {s : DeclaredShape} (p : Declared kind l f s) where

@@ -1,7 +1,8 @@
 use Prim.Native.Nat.{_-_}
 use mathlib.Core.Path.{_≡_, refl, _∙_}
 use lib.ListN.{length}
-use Rattle.reader.proofs.LineByLine.{Reading, reading, no-line-left, line-inside, line-short, line-read, line-passed}
+use Rattle.lines.proofs.LinePlaces.{line-inside, line-short}
+use Rattle.reader.proofs.LineByLine.{Reading, reading, no-line-left, line-read, line-passed}
 use borrow.Author.Needs.{needs}
 use native.Mathlib.Omega.{arith}
 use Rattle.reader.proofs.reading.read_lines.Statement.{statement}
