@@ -15,6 +15,8 @@
  * - Only atoms that stand in some rule belong to a preference file's program. rigtomato_read leaves
  *   the others out. Stores handed in may hold such atoms: they are taken as they stand, and n and
  *   sets count them.
+ * - A clause file (DIMACS CNF) is a third kind of text: rigtomato_read_clauses gives the two stores of
+ *   a preference file whose models are the sets that satisfy the clauses.
  * - A rule store is an array of uint16_t: kind (0 plain, 1 preference), atom count n, class count
  *   k, rule count r; in a preference store n class words (1 to 16 the class, 17 varying, 18
  *   fixed, never falling); then for each rule the lengths of its lists head, body and not, and
@@ -51,7 +53,7 @@ extern "C" {
 /* ---- The refusals ---- */
 
 /* Of a text, with the line (from 1) on which it shows. The earliest faulty line counts; on it, the
- * lowest number. A missing line stands one past the last. */
+ * lowest number, in a clause file 15, then 16, then 7. A missing line stands one past the last. */
 #define RIGTOMATO_TEXT_TOO_LONG 1    /* more than RIGTOMATO_TEXT_LIMIT bytes; line 0 */
 #define RIGTOMATO_FORM 2             /* form, a name's bytes or line order broken, or a line missing */
 #define RIGTOMATO_NAME 3             /* house name too long, or a generated name in a preference file */
@@ -60,9 +62,11 @@ extern "C" {
 #define RIGTOMATO_TWICE_IN_LIST 6    /* atom twice in one list of a rule */
 #define RIGTOMATO_LIMIT 7            /* too many atoms, rules, atom occurrences or classes */
 #define RIGTOMATO_FILLED_NOT 8       /* a filled `not` list in a preference file */
+#define RIGTOMATO_BROKEN_CLAUSES 15  /* header, clause or a line's end broken, or clause count differs */
+#define RIGTOMATO_LITERAL_BEYOND 16  /* literal beyond the header's atoms */
 
-/* Of what the caller handed in. They are tested in the sequence 10, 14, 11, 12, 13, 9; the reader
- * tests 9 after 1 to 8. */
+/* Of what the caller handed in. They are tested in the sequence 10, 14, 11, 12, 13, 9; the two
+ * readers test 9 after all refusals of the text. */
 #define RIGTOMATO_OUTPUT_SHORT 9     /* a lent output is shorter than the result */
 #define RIGTOMATO_RULE_STORE 10      /* rule store not of the form, or of the other kind */
 #define RIGTOMATO_TOO_MANY_ATOMS 11  /* more than 60 atoms */
@@ -84,8 +88,8 @@ extern "C" {
 /* ---- Reading and writing ---- */
 
 struct rigtomato_read_answer {
-    uint64_t refusal; /* 0 accepted, else the refusal's number: 1 to 9 */
-    uint64_t line;    /* the line of refusals 2 to 8, from 1; else 0 */
+    uint64_t refusal; /* 0 accepted, else the refusal's number: 1 to 9; of clauses 1, 7, 9, 15, 16 */
+    uint64_t line;    /* the line of refusals 2 to 8, 15 and 16, from 1; else 0 */
     uint64_t words;   /* accepted: the words written to `rules`; else 0 */
     uint64_t bytes;   /* accepted: the bytes written to `names`; else 0 */
 };
@@ -100,6 +104,26 @@ struct rigtomato_read_answer {
 struct rigtomato_read_answer rigtomato_read(const uint8_t *text, size_t text_len,
                                             uint16_t *rules, size_t rules_len,
                                             uint8_t *names, size_t names_len);
+
+/* Reads a clause file (DIMACS CNF) into the stores of a preference file.
+ *
+ * Lines end with byte 10, the last one too. A line whose first byte is `c` is a comment, wherever it
+ * stands. On the others items stand between runs of spaces (byte 32); without items a line is blank.
+ * The first line that is neither is the header, `p cnf ATOMS CLAUSES`. Then come the clauses, each over
+ * any lines: literals, that is an atom's number from 1 or `-` and the number, and a 0 that ends it. No
+ * number has a plus or a leading zero, and there is no `-0`; it may have any length.
+ *
+ * Written are one class and no varying or fixed atom. Atom i is called `v` and its number; atoms that no
+ * clause has are left out, as rigtomato_read does. Each clause is a rule: its positive literals are the
+ * head, its negative ones the body, in file order; a literal that its clause repeats counts once. So the
+ * models are the sets that satisfy the clauses, and the preferred states the least of them by subset.
+ *
+ * At most 256 atoms and 1,024 clauses in the header, and 8,192 occurrences, else refusal 7 on the line
+ * of the header or of the literal. A missing clause, or a last one without its 0, is refusal 15 one past
+ * the last line; a surplus one is 15 on the line where it starts. */
+struct rigtomato_read_answer rigtomato_read_clauses(const uint8_t *text, size_t text_len,
+                                                    uint16_t *rules, size_t rules_len,
+                                                    uint8_t *names, size_t names_len);
 
 struct rigtomato_text_answer {
     uint64_t refusal; /* 0 written, else the refusal's number: 10, 14 or 9 */

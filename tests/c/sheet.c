@@ -1,6 +1,6 @@
-/* Document 01's sheet for file A, with places and order by document 02, W-206, units by W-207 and
- * what is left out by W-203, through the C interface. Prints what fails and ends with status 1
- * then. Compile with
+/* Document 01's sheet for file A, with places and order by document 02, W-206, units by W-207, what
+ * is left out by W-203 and clause files by W-202, through the C interface. Prints what fails and ends
+ * with status 1 then. Compile with
  *     gcc -Wall -Wextra -Werror -Iinclude tests/c/sheet.c target/staticlib/librigtomato.a */
 #include "rigtomato.h"
 
@@ -368,6 +368,100 @@ static void stores_handed_in(void)
     CHECK(answer.refusal == 0 && memcmp(out, "(atoms a b v f N.a ", 19) == 0);
 }
 
+static struct rigtomato_read_answer read_clauses(const char *text, size_t length)
+{
+    struct rigtomato_read_answer answer =
+        rigtomato_read_clauses((const uint8_t *)text, length, file.rules, RIGTOMATO_RULES_LIMIT,
+                               file.names, RIGTOMATO_NAMES_LIMIT);
+    file.rules_len = answer.words;
+    file.names_len = answer.bytes;
+    return answer;
+}
+
+static int clauses_give(const char *text, uint64_t refusal, uint64_t line)
+{
+    struct rigtomato_read_answer answer = read_clauses(text, strlen(text));
+    if (answer.refusal == refusal && answer.line == line)
+        return refusal == 0 || (answer.words == 0 && answer.bytes == 0);
+    printf("refusal %" PRIu64 ", line %" PRIu64 "\n", answer.refusal, answer.line);
+    return 0;
+}
+
+/* Document 02, W-202: what a clause file gives. */
+static void clauses(void)
+{
+    static const uint16_t words[] = {1, 3, 1, 2, 1, 1, 1, 1, 2, 0, 1, 0, 2, 1, 1, 0, 2, 1};
+    static const char names[] = "\x02v2\x02v7\x02v9";
+    const char *text = "c three of nine atoms\np cnf 9 2\n 7 -2 -9 7\n0\n\nc\n9 -7 0\n";
+    CHECK(clauses_give(text, 0, 0));
+    CHECK(file.rules_len == sizeof words / sizeof words[0]);
+    CHECK(memcmp(file.rules, words, sizeof words) == 0);
+    CHECK(file.names_len == sizeof names - 1);
+    CHECK(memcmp(file.names, names, sizeof names - 1) == 0);
+    CHECK(states_are(1, (const uint64_t[]){0}));
+    /* outputs exact and one short; nothing is written on a refusal */
+    uint16_t rules[18];
+    uint8_t bytes[9];
+    memset(rules, 0xa5, sizeof rules);
+    memset(bytes, 0xa5, sizeof bytes);
+    const uint8_t *lent = (const uint8_t *)text;
+    size_t length = strlen(text);
+    struct rigtomato_read_answer answer = rigtomato_read_clauses(lent, length, rules, 17, bytes, 9);
+    CHECK(answer.refusal == RIGTOMATO_OUTPUT_SHORT && answer.line == 0);
+    answer = rigtomato_read_clauses(lent, length, rules, 18, bytes, 8);
+    CHECK(answer.refusal == RIGTOMATO_OUTPUT_SHORT && answer.words == 0 && answer.bytes == 0);
+    CHECK(rules[0] == 0xa5a5 && rules[17] == 0xa5a5 && bytes[0] == 0xa5 && bytes[8] == 0xa5);
+    answer = rigtomato_read_clauses(lent, length, rules, 18, bytes, 9);
+    CHECK(answer.refusal == 0 && answer.line == 0 && answer.words == 18 && answer.bytes == 9);
+    CHECK(memcmp(rules, words, sizeof words) == 0);
+    /* the least sets that satisfy the clauses */
+    CHECK(clauses_give("p cnf 4 4\n1 2 0 3 4 0\n-1 -2 0\n-1 -3 0\n", 0, 0));
+    CHECK(states_are(3, (const uint64_t[]){10, 6, 9}));
+    CHECK(clauses_give("p cnf 1 2\n1 0\n-1 0\n", 0, 0));
+    CHECK(states_are(0, NULL));
+    CHECK(clauses_give("p cnf 0 0\n", 0, 0));
+    CHECK(file.rules_len == 4 && file.rules[2] == 1 && file.names_len == 0);
+    CHECK(states_are(1, (const uint64_t[]){0}));
+}
+
+static void clause_refusals(void)
+{
+    static char text[RIGTOMATO_TEXT_LIMIT + 1];
+    struct rigtomato_read_answer answer = rigtomato_read_clauses(NULL, 0, NULL, 0, NULL, 0);
+    CHECK(answer.refusal == RIGTOMATO_BROKEN_CLAUSES && answer.line == 1);
+    CHECK(clauses_give("c\np cnf 1\n", RIGTOMATO_BROKEN_CLAUSES, 2));
+    CHECK(clauses_give("p cnf 1 1\n1 -0\n", RIGTOMATO_BROKEN_CLAUSES, 2));
+    CHECK(clauses_give("p cnf 1 1\n1 0", RIGTOMATO_BROKEN_CLAUSES, 2));
+    CHECK(clauses_give("p cnf 1 1\n1\n", RIGTOMATO_BROKEN_CLAUSES, 3));
+    CHECK(clauses_give("p cnf 1 2\n1 0\n", RIGTOMATO_BROKEN_CLAUSES, 3));
+    CHECK(clauses_give("p cnf 1 1\n1 0\n1\n0\n", RIGTOMATO_BROKEN_CLAUSES, 3));
+    CHECK(clauses_give("p cnf 2 1\n1\n-3 0\n", RIGTOMATO_LITERAL_BEYOND, 3));
+    CHECK(clauses_give("p cnf 2 1\n1\n3 x 0\n", RIGTOMATO_BROKEN_CLAUSES, 3));
+    CHECK(clauses_give("p cnf 2 1\n99999999999999999999 0\n", RIGTOMATO_LITERAL_BEYOND, 2));
+    CHECK(clauses_give("p cnf 257 1\n", RIGTOMATO_LIMIT, 1));
+    CHECK(clauses_give("p cnf 1 1025\n", RIGTOMATO_LIMIT, 1));
+    CHECK(clauses_give("p cnf 256 1024\n", RIGTOMATO_BROKEN_CLAUSES, 2));
+    /* 8,192 occurrences on lines 2 to 33 */
+    size_t length = (size_t)sprintf(text, "p cnf 256 33\n");
+    for (int i = 0; i < 32; i++) {
+        for (int atom = 1; atom <= 256; atom++)
+            length += (size_t)sprintf(text + length, "%d ", i % 2 ? -atom : atom);
+        length += (size_t)sprintf(text + length, "0\n");
+    }
+    sprintf(text + length, "0\n");
+    CHECK(clauses_give(text, 0, 0));
+    CHECK(file.rules_len == 4 + 256 + 3 * 33 + 8192);
+    sprintf(text + length, "\n5 0\n");
+    CHECK(clauses_give(text, RIGTOMATO_LIMIT, 35));
+    sprintf(text + length, "5 257 0\n");
+    CHECK(clauses_give(text, RIGTOMATO_LITERAL_BEYOND, 34));
+    memset(text, 'c', sizeof text);
+    answer = read_clauses(text, sizeof text - 1);
+    CHECK(answer.refusal == RIGTOMATO_BROKEN_CLAUSES && answer.line == 1);
+    answer = read_clauses(text, sizeof text);
+    CHECK(answer.refusal == RIGTOMATO_TEXT_TOO_LONG && answer.line == 0);
+}
+
 /* The sizes that the header names, met and passed by one. */
 static void sizes(void)
 {
@@ -396,6 +490,8 @@ int main(void)
     names();
     unused_atoms();
     stores_handed_in();
+    clauses();
+    clause_refusals();
     sizes();
     printf("tests/c/sheet.c: %d checks, %d failed\n", checks, failures);
     return failures != 0;

@@ -3,4 +3,5 @@ pub mod AcceptedTexts
 pub mod ClassWords
 pub mod PreferredPrinted
 pub mod Refusals
+pub mod Readers
 pub mod Judged

@@ -1,9 +1,9 @@
 -- The refusals, test by test.
 use Prim.Native.Nat.{ℕ, _^_, _≤_, _<_}
 use native.Mathlib.Omega.{arith}
-use mathlib.Core.Path.{_≡_, refl, sym, ap, ap₂, _∙_, subst}
-use mathlib.Core.Logic.{_↔_, _⊎_, inl, inr}
-use mathlib.Core.Bool.{Bool, true, false, cond, _&&_}
+use mathlib.Core.Path.{_≡_, refl, sym, ap, _∙_, subst}
+use mathlib.Core.Logic.{_↔_, inl, inr}
+use mathlib.Core.Bool.{Bool, true, false, cond}
 use mathlib.Core.List.{List, [], _++_}
 use lib.Dec.{T, leb, ltb, leb→le, ltb→lt}
 use lib.ListN.{length, drop}
@@ -14,20 +14,14 @@ use Rattle.kinds.specs.declared.limits.Kind.the-variants.{Plain, Preference}
 use Rattle.kinds.specs.declared.refusals.Refusal.{Refusal}
 use Rattle.kinds.specs.declared.refusals.Refusal.the-variants.{Output, RuleStore, TooManyAtoms, SetNumber, Budget, NameStore}
 use Rattle.rules.specs.Lists.{over}
-use Rattle.rules.proofs.Booleans.{T-and-l, T-and-r}
-use Rattle.stores.specs.Program.{Program}
-use Rattle.stores.specs.RuleStore.{encode, decode, store?, ruleStore, isOf}
+use Rattle.stores.specs.RuleStore.{decode, store?, ruleStore, isOf}
 use Rattle.stores.specs.declared.rule_store.RuleStore.{RuleStore as Store}
 use Rattle.stores.specs.declared.rule_store.RuleStore.the-variants.{Of, Refused as NotStore}
 use Rattle.stores.proofs.RuleStores.{store-law, kind-answered, of-kind}
-use Rattle.name_store.specs.NameStore.{encodeNames, names?}
+use Rattle.name_store.specs.NameStore.{names?}
 use Rattle.name_store.proofs.NameStores.{names-law}
-use Rattle.faults.specs.EarliestFault.{Refuses, Accepts}
 use Rattle.faults.proofs.EarliestFault.{said-refused, said-accepted}
-use Rattle.lines.specs.Said.{Said, accepted, refused, said}
-use Rattle.answers.specs.declared.Read.{Read}
-use Rattle.answers.specs.declared.Read.the-variants.{Accepted, Refused as NotRead}
-use Rattle.answers.specs.Reading.{answerOf, writtenIf, readAnswer, readRules, readNames}
+use Rattle.lines.specs.Said.{refused}
 use Rattle.answers.specs.declared.Written.{Written}
 use Rattle.answers.specs.declared.Written.the-variants.{Text, Refused as NotWritten}
 use Rattle.answers.specs.Writing.{fitted, writtenBytes, storesText, writeAnswer, writeOutput}
@@ -43,7 +37,7 @@ use Rattle.walks.proofs.NextStates.{next-means}
 use Rattle.answers.specs.Printed.{shown}
 use Rattle.answers.specs.Listed.{wholeListing, streamed, statesOf}
 use Rattle.answers.specs.Programs.{printed, translatePrinted, statesPrinted}
-use Rattle.answers.specs.Refusals.{PrintsInto, Streams, PrintRefuses, Tested, NoOther, Passes, NoStore, NoStoreOf, NoNames, TooShort, NoRoom, ReadRefuses, StoresRefused, StoresPass, NumberRefused, Writes, WriteRefuses, TranslateRefuses, CallRefused, VerdictRefuses}
+use Rattle.answers.specs.Refusals.{PrintsInto, Streams, PrintRefuses, Tested, NoOther, Passes, NoStore, NoStoreOf, NoNames, TooShort, StoresRefused, StoresPass, NumberRefused, Writes, WriteRefuses, TranslateRefuses, CallRefused, VerdictRefuses}
 
 -- one test of an answer: where it fails, the refusal x
 module _ {A : Type 0} (refuse : Refusal → A) (inj : (x y : Refusal) → refuse x ≡ refuse y → x ≡ y) {Sentence : Type 0} (b : Bool) (law : Sentence ↔ (T b → ⊥)) (x : Refusal) where
@@ -84,7 +78,7 @@ no-names : (rules bytes : List ℕ) → NoNames rules bytes ↔ (T (names? (deco
 no-names rules bytes = (λ h t. let s = names-law (decode rules .kind) (decode rules .atoms) bytes .0 t in h (s .0) (s .1), λ h n s. h (names-law (decode rules .kind) (decode rules .atoms) bytes .1 (n, s)))
 
 -- a number past a limit
-past : (n limit : ℕ) → limit < n ↔ (T (leb n limit) → ⊥)
+pub past : (n limit : ℕ) → limit < n ↔ (T (leb n limit) → ⊥)
 past n limit = (λ h t. omega (arith, leb→le n limit t), λ h. step (leb n limit) refl h)
   where
     step : (b : Bool) → leb n limit ≡ b → (T b → ⊥) → limit < n
@@ -235,96 +229,6 @@ verdict-refuses rules number budget = record {
     λ e. absurd (let z : _≡_ {A = ℕ} 0 1 = cc in omega arith),
     λ h. absurd h,
   ));
-}
-
--- the reader
-
-read-inj : {r f : Refusal} {line k : ℕ} → NotRead f k ≡ NotRead r line → (f ≡ r) × (k ≡ line)
-read-inj e = (cc, cc)
-
-never-read : {A : Type 0} {r : Refusal} {line words bytes : ℕ} → NotRead r line ≡ Accepted words bytes → A
-never-read e = absurd (let z : _≡_ {A = ℕ} 0 1 = cc in omega arith)
-
-module _ (text : List ℕ) (words bytes : ℕ) where
-  module _ (p : Program) (ns : List (List ℕ)) where
-    abbrev fits : Bool
-    fits = leb (length (encode p)) words && leb (length (encodeNames ns)) bytes
-
-    no-room : NoRoom p ns words bytes ↔ (T fits → ⊥)
-    no-room = (there, λ h. step (leb (length (encode p)) words) (leb (length (encodeNames ns)) bytes) (past (length (encode p)) words) (past (length (encodeNames ns)) bytes) h)
-      where
-        there : NoRoom p ns words bytes → T fits → ⊥
-        there (inl h) t = past (length (encode p)) words .0 h (T-and-l (leb (length (encode p)) words) (leb (length (encodeNames ns)) bytes) t)
-        there (inr h) t = past (length (encodeNames ns)) bytes .0 h (T-and-r (leb (length (encode p)) words) (leb (length (encodeNames ns)) bytes) t)
-
-        step : (a b : Bool) → TooShort (encode p) words ↔ (T a → ⊥) → TooShort (encodeNames ns) bytes ↔ (T b → ⊥) → (T (a && b) → ⊥) → NoRoom p ns words bytes
-        step true b l k h = inr (k .1 h)
-        step false b l k h = inl (l .1 (λ t. t))
-
-    -- of a text that says p and ns
-    module _ (e : said text ≡ accepted p ns) where
-      answer-is : readAnswer text words bytes ≡ cond fits (Accepted (length (encode p)) (length (encodeNames ns))) (NotRead Output 0)
-      unfolding readAnswer
-      answer-is = ap (λ (s : Said). answerOf s words bytes) e
-
-      short-refused : (r : Refusal) (line : ℕ) → readAnswer text words bytes ≡ NotRead r line ↔ (NoRoom p ns words bytes × (r ≡ Output) × (line ≡ 0))
-      short-refused r line = subst (λ (v : Read). v ≡ NotRead r line ↔ (NoRoom p ns words bytes × (r ≡ Output) × (line ≡ 0))) (sym answer-is) (step fits no-room)
-        where
-          step : (b : Bool) → NoRoom p ns words bytes ↔ (T b → ⊥) → cond b (Accepted (length (encode p)) (length (encodeNames ns))) (NotRead Output 0) ≡ NotRead r line ↔ (NoRoom p ns words bytes × (r ≡ Output) × (line ≡ 0))
-          step true l = (λ q. never-read (sym q), λ h. absurd (l .0 (h .0) tt))
-          step false l = (λ q. let i = read-inj q in (l .1 (λ t. t), sym (i .0), sym (i .1)), λ h. rw (h .1, h .2))
-
-      long-accepted : (w b : ℕ) → readAnswer text words bytes ≡ Accepted w b ↔ ((NoRoom p ns words bytes → ⊥) × (w ≡ length (encode p)) × (b ≡ length (encodeNames ns)))
-      long-accepted w b = subst (λ (v : Read). v ≡ Accepted w b ↔ ((NoRoom p ns words bytes → ⊥) × (w ≡ length (encode p)) × (b ≡ length (encodeNames ns)))) (sym answer-is) (step fits no-room)
-        where
-          step : (c : Bool) → NoRoom p ns words bytes ↔ (T c → ⊥) → cond c (Accepted (length (encode p)) (length (encodeNames ns))) (NotRead Output 0) ≡ Accepted w b ↔ ((NoRoom p ns words bytes → ⊥) × (w ≡ length (encode p)) × (b ≡ length (encodeNames ns)))
-          step true l = (
-            λ q. (λ h. l .0 h tt, let z : length (encode p) ≡ w = cc in sym z, let z : length (encodeNames ns) ≡ b = cc in sym z),
-            λ h. let x = h .1 in let y = h .2 in cc,
-          )
-          step false l = (λ q. never-read q, λ h. absurd (h .0 (l .1 (λ t. t))))
-
-  -- of a text that says a refusal
-  faulty : (f : Refusal) (k : ℕ) → said text ≡ refused f k → readAnswer text words bytes ≡ NotRead f k
-  unfolding readAnswer
-  faulty f k e = ap (λ (s : Said). answerOf s words bytes) e
-
-  abbrev Short : Refusal → ℕ → Type 0
-  Short r line = (p : Program) × (ns : List (List ℕ)) × Accepts text p ns × NoRoom p ns words bytes × (r ≡ Output) × (line ≡ 0)
-
-  read-refused : (r : Refusal) (line : ℕ) → readAnswer text words bytes ≡ NotRead r line ↔ (Refuses text r line ⊎ Short r line)
-  read-refused r line = (λ q. there (said text) refl q, back)
-    where
-      there : (s : Said) → said text ≡ s → readAnswer text words bytes ≡ NotRead r line → Refuses text r line ⊎ Short r line
-      there (accepted p ns) e q = let h = short-refused p ns e r line .0 q in inr (p, ns, said-accepted text p ns .0 e, h .0, h .1, h .2)
-      there (refused f k) e q = let i = read-inj (sym (faulty f k e) ∙ q) in inl (said-refused text r line .0 (e ∙ ap₂ refused (i .0) (i .1)))
-
-      back : Refuses text r line ⊎ Short r line → readAnswer text words bytes ≡ NotRead r line
-      back (inl h) = faulty r line (said-refused text r line .1 h)
-      back (inr h) = short-refused (h .0) (h .1) (said-accepted text (h .0) (h .1) .1 (h .2)) r line .1 (h .3, h .4, h .5)
-
-  read-accepted : (w b : ℕ) → readAnswer text words bytes ≡ Accepted w b
-      ↔ ((p : Program) × (ns : List (List ℕ)) × Accepts text p ns × (NoRoom p ns words bytes → ⊥) × (w ≡ length (encode p)) × (b ≡ length (encodeNames ns)))
-  read-accepted w b = (λ q. there (said text) refl q, λ h. long-accepted (h .0) (h .1) (said-accepted text (h .0) (h .1) .1 (h .2)) w b .1 (h .3, h .4, h .5))
-    where
-      there : (s : Said) → said text ≡ s → readAnswer text words bytes ≡ Accepted w b
-          → (p : Program) × (ns : List (List ℕ)) × Accepts text p ns × (NoRoom p ns words bytes → ⊥) × (w ≡ length (encode p)) × (b ≡ length (encodeNames ns))
-      there (accepted p ns) e q = let h = long-accepted p ns e w b .0 q in (p, ns, said-accepted text p ns .0 e, h .0, h .1, h .2)
-      there (refused f k) e q = never-read (sym (faulty f k e) ∙ q)
-
-pub read-refuses : (text rules names : List ℕ) → ReadRefuses text rules names
-unfolding readRules readNames
-read-refuses text rules names = record {
-  refused = read-refused text (length rules) (length names);
-  accepted = read-accepted text (length rules) (length names);
-  kept = λ r line q. (ap (λ (v : Read). over (writtenIf v (λ p ns. encode p) (said text)) rules) q, ap (λ (v : Read). over (writtenIf v (λ p ns. encodeNames ns) (said text)) names) q);
-  filled = λ words bytes q p ns a. (
-      let e = said-accepted text p ns .1 a in
-      let h = long-accepted text (length rules) (length names) p ns e words bytes .0 q in (
-        ap₂ (λ (v : Read) (s : Said). over (writtenIf v (λ p ns. encode p) s) rules) q e ∙ ap (λ (k : ℕ). encode p ++ drop k rules) (sym (h .1)),
-        ap₂ (λ (v : Read) (s : Said). over (writtenIf v (λ p ns. encodeNames ns) s) names) q e ∙ ap (λ (k : ℕ). encodeNames ns ++ drop k names) (sym (h .2)),
-      )
-      );
 }
 
 -- the programs

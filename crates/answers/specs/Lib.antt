@@ -1,6 +1,7 @@
 -- What the entry points answer, write and print, and which refusals they give.
 pub mod Reading
 pub mod ReadsAs
+pub mod ReadingClauses
 pub mod Writing
 pub mod Translating
 pub mod Printed

@@ -26,11 +26,18 @@ writtenIf (Accepted w b) store (accepted p names) = store p names
 writtenIf (Accepted w b) store (refused f k) = []
 writtenIf (Refused f k) store s = []
 
+-- what the outputs hold after a text that says s
+abbrev pub rulesAfter : Said → List ℕ → List ℕ → List ℕ
+rulesAfter s rules names = over (writtenIf (answerOf s (length rules) (length names)) (λ p ns. encode p) s) rules
+
+abbrev pub namesAfter : Said → List ℕ → List ℕ → List ℕ
+namesAfter s rules names = over (writtenIf (answerOf s (length rules) (length names)) (λ p ns. encodeNames ns) s) names
+
 unfoldable pub readAnswer : List ℕ → ℕ → ℕ → Read
 readAnswer text words bytes = answerOf (said text) words bytes
 
 unfoldable pub readRules : List ℕ → List ℕ → List ℕ → List ℕ
-readRules text rules names = over (writtenIf (readAnswer text (length rules) (length names)) (λ p ns. encode p) (said text)) rules
+readRules text rules names = rulesAfter (said text) rules names
 
 unfoldable pub readNames : List ℕ → List ℕ → List ℕ → List ℕ
-readNames text rules names = over (writtenIf (readAnswer text (length rules) (length names)) (λ p ns. encodeNames ns) (said text)) names
+readNames text rules names = namesAfter (said text) rules names

@@ -14,6 +14,7 @@ use Rattle.rules.specs.Lists.{over}
 use Rattle.stores.specs.RuleStore.{StoreOf, encode, decode}
 use Rattle.name_store.specs.NameStore.{NamesOf, encodeNames}
 use Rattle.faults.specs.EarliestFault.{Refuses, Accepts}
+use Rattle.answers.specs.declared.Read.{Read}
 use Rattle.answers.specs.declared.Read.the-variants.{Accepted, Refused as NotRead}
 use Rattle.answers.specs.Reading.{readAnswer, readRules, readNames}
 use Rattle.answers.specs.declared.Written.{Written}
@@ -67,18 +68,21 @@ pub record Writes (answer : Written) (text before after : List ℕ) : Type 0 whe
   pub refused : (r : Refusal) → answer ≡ NotWritten r → after ≡ before
   pub written : (size : ℕ) → answer ≡ Text size → after ≡ text ++ drop size before
 
--- the reader: 1, then 2 to 8 with their line (crate `faults`), then 9 for either output
 abbrev pub NoRoom : Program → List (List ℕ) → ℕ → ℕ → Type 0
 NoRoom p names words bytes = TooShort (encode p) words ⊎ TooShort (encodeNames names) bytes
 
-pub record ReadRefuses (text rules names : List ℕ) : Type 0 where
-  pub refused : (r : Refusal) (line : ℕ) → readAnswer text (length rules) (length names) ≡ NotRead r line
-      ↔ (Refuses text r line ⊎ ((p : Program) × (ns : List (List ℕ)) × Accepts text p ns × NoRoom p ns (length rules) (length names) × (r ≡ Output) × (line ≡ 0)))
-  pub accepted : (words bytes : ℕ) → readAnswer text (length rules) (length names) ≡ Accepted words bytes
-      ↔ ((p : Program) × (ns : List (List ℕ)) × Accepts text p ns × (NoRoom p ns (length rules) (length names) → ⊥) × (words ≡ length (encode p)) × (bytes ≡ length (encodeNames ns)))
-  pub kept : (r : Refusal) (line : ℕ) → readAnswer text (length rules) (length names) ≡ NotRead r line → (readRules text rules names ≡ rules) × (readNames text rules names ≡ names)
-  pub filled : (words bytes : ℕ) → readAnswer text (length rules) (length names) ≡ Accepted words bytes → (p : Program) (ns : List (List ℕ)) → Accepts text p ns
-      → (readRules text rules names ≡ encode p ++ drop words rules) × (readNames text rules names ≡ encodeNames ns ++ drop bytes names)
+-- a reader of a text that it refuses or accepts: its refusal with the line, then 9 for either output
+pub record Reads (Refuses : Refusal → ℕ → Type 0) (Accepts : Program → List (List ℕ) → Type 0) (answer : Read) (rules names rules′ names′ : List ℕ) : Type 0 where
+  pub refused : (r : Refusal) (line : ℕ) → answer ≡ NotRead r line
+      ↔ (Refuses r line ⊎ ((p : Program) × (ns : List (List ℕ)) × Accepts p ns × NoRoom p ns (length rules) (length names) × (r ≡ Output) × (line ≡ 0)))
+  pub accepted : (words bytes : ℕ) → answer ≡ Accepted words bytes
+      ↔ ((p : Program) × (ns : List (List ℕ)) × Accepts p ns × (NoRoom p ns (length rules) (length names) → ⊥) × (words ≡ length (encode p)) × (bytes ≡ length (encodeNames ns)))
+  pub kept : (r : Refusal) (line : ℕ) → answer ≡ NotRead r line → (rules′ ≡ rules) × (names′ ≡ names)
+  pub filled : (words bytes : ℕ) → answer ≡ Accepted words bytes → (p : Program) (ns : List (List ℕ)) → Accepts p ns → (rules′ ≡ encode p ++ drop words rules) × (names′ ≡ encodeNames ns ++ drop bytes names)
+
+-- the reader: 1, then 2 to 8 with their line (crate `faults`)
+abbrev pub ReadRefuses : List ℕ → List ℕ → List ℕ → Type 0
+ReadRefuses text rules names = Reads (Refuses text) (Accepts text) (readAnswer text (length rules) (length names)) rules names (readRules text rules names) (readNames text rules names)
 
 -- the writer: 10, 14, 9
 pub record WriteRefuses (rules names before : List ℕ) : Type 0 where

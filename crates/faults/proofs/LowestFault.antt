@@ -12,7 +12,7 @@ use Rattle.name_store.specs.NameStore.{among}
 use Rattle.kinds.specs.Limits.{classLimit, within}
 use Rattle.kinds.specs.Refusals.{refusalNumber}
 use Rattle.kinds.specs.declared.refusals.Refusal.{Refusal}
-use Rattle.kinds.specs.declared.refusals.Refusal.the-variants.{TextTooLong, BrokenForm, Name, DeclaredTwice, Undeclared, TwiceInList, Limit, FilledNot, Output, RuleStore, TooManyAtoms, SetNumber, Budget, NameStore}
+use Rattle.kinds.specs.declared.refusals.Refusal.the-variants.{TextTooLong, BrokenForm, Name, DeclaredTwice, Undeclared, TwiceInList, Limit, FilledNot, Output, RuleStore, TooManyAtoms, SetNumber, Budget, NameStore, BrokenClauses, LiteralBeyond}
 use Rattle.rules.specs.Lists.{All, Any, some}
 use Rattle.rules.proofs.Lists.{all-app-l, all-app-r, some-any}
 use Rattle.lines.specs.Forms.{Word, LineForm, declares, rules, broken, formOf}
@@ -28,7 +28,7 @@ use Rattle.faults.proofs.LineForms.{line-names}
 -- refusals of one number are the same
 
 abbrev by-number : List Refusal
-by-number = TextTooLong ∷ TextTooLong ∷ BrokenForm ∷ Name ∷ DeclaredTwice ∷ Undeclared ∷ TwiceInList ∷ Limit ∷ FilledNot ∷ Output ∷ RuleStore ∷ TooManyAtoms ∷ SetNumber ∷ Budget ∷ NameStore ∷ []
+by-number = TextTooLong ∷ TextTooLong ∷ BrokenForm ∷ Name ∷ DeclaredTwice ∷ Undeclared ∷ TwiceInList ∷ Limit ∷ FilledNot ∷ Output ∷ RuleStore ∷ TooManyAtoms ∷ SetNumber ∷ Budget ∷ NameStore ∷ BrokenClauses ∷ LiteralBeyond ∷ []
 
 of-number : (r : Refusal) → getD by-number (refusalNumber r) TextTooLong ≡ r
 of-number TextTooLong = refl
@@ -45,6 +45,8 @@ of-number TooManyAtoms = refl
 of-number SetNumber = refl
 of-number Budget = refl
 of-number NameStore = refl
+of-number BrokenClauses = refl
+of-number LiteralBeyond = refl
 
 one-number : (q r : Refusal) → refusalNumber q ≡ refusalNumber r → q ≡ r
 one-number q r e = sym (of-number q) ∙ ap (λ n. getD by-number n TextTooLong) e ∙ of-number r
@@ -73,6 +75,8 @@ module _ (st : SoFar) (f : LineForm) where
   none-at-all SetNumber l h = h
   none-at-all Budget l h = h
   none-at-all NameStore l h = h
+  none-at-all BrokenClauses l h = h
+  none-at-all LiteralBeyond l h = h
 
   none-up : (r : Refusal) → NoneBelow (refusalNumber r) → (Says r st f → ⊥) → NoneBelow (suc (refusalNumber r))
   none-up r below n q l h = step (decLt (refusalNumber q) (refusalNumber r))
@@ -97,6 +101,8 @@ module _ (st : SoFar) (f : LineForm) where
   none-left below SetNumber h = h
   none-left below Budget h = h
   none-left below NameStore h = h
+  none-left below BrokenClauses h = h
+  none-left below LiteralBeyond h = h
 
   -- a test before the others
   tested : (b : Bool) (r : Refusal) (s : Step) → T b ↔ Says r st f → NoneBelow (refusalNumber r) → (NoneBelow (suc (refusalNumber r)) → Answers s) → Answers (first b r s)

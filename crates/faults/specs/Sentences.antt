@@ -9,7 +9,7 @@ use Rattle.kinds.specs.Refusals.{refusalNumber}
 use Rattle.kinds.specs.declared.limits.Kind.{Kind}
 use Rattle.kinds.specs.declared.limits.Kind.the-variants.{Plain, Preference}
 use Rattle.kinds.specs.declared.refusals.Refusal.{Refusal}
-use Rattle.kinds.specs.declared.refusals.Refusal.the-variants.{TextTooLong, BrokenForm, Name, DeclaredTwice, Undeclared, TwiceInList, Limit, FilledNot, Output, RuleStore, TooManyAtoms, SetNumber, Budget, NameStore}
+use Rattle.kinds.specs.declared.refusals.Refusal.the-variants.{TextTooLong, BrokenForm, Name, DeclaredTwice, Undeclared, TwiceInList, Limit, FilledNot, Output, RuleStore, TooManyAtoms, SetNumber, Budget, NameStore, BrokenClauses, LiteralBeyond}
 use Rattle.rules.specs.Lists.{Any, sum}
 use Rattle.rules.specs.Rules.{occurrences}
 use Rattle.lines.specs.declared.stage.Stage.{Stage}
@@ -124,6 +124,8 @@ Says TooManyAtoms st f = ⊥
 Says SetNumber st f = ⊥
 Says Budget st f = ⊥
 Says NameStore st f = ⊥
+Says BrokenClauses st f = ⊥
+Says LiteralBeyond st f = ⊥
 
 -- "on it, the lowest number": the sentence holds, and none of a lower number
 pub record Lowest (st : SoFar) (f : LineForm) (r : Refusal) : Type 0 where

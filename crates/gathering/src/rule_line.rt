@@ -40,7 +40,7 @@ fn is_filled(kind: Kind, nots: usize) -> bool
     }
 }
 
-fn put_counts(heads: usize, bodies: usize, nots: usize, words: &mut [u16], at: usize) -> usize
+pub fn put_counts(heads: usize, bodies: usize, nots: usize, words: &mut [u16], at: usize) -> usize
     requires { ⌜ (heads < 65536) × (bodies < 65536) × (nots < 65536) × (at < 2 ^ 62) ⌝ }
     ensures { λ r. ⌜ Emitted (now (words .entry)) at (heads ∷ bodies ∷ nots ∷ []) (now (words .exit)) r ⌝ }
 {

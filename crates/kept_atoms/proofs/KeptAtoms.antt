@@ -1,17 +1,17 @@
 -- A declared line whose names are in order: the counts, and its class words in the scratch.
-use Prim.Native.Nat.{ℕ, _+_, _^_, _≤_, _<_, zero-le}
+use Prim.Native.Nat.{ℕ, _+_, _≤_, _<_}
 use native.Mathlib.Numerals.{add-one}
 use native.Mathlib.Omega.{arith}
 use mathlib.Core.Path.{_≡_, refl, sym, ap, _∙_}
 use mathlib.Core.Bool.{Bool, true, false, not}
-use mathlib.Core.List.{List, [], _∷_}
-use lib.ListN.{replicate, length-replicate, replicate-append-replicate}
+use mathlib.Core.List.{List}
+use lib.ListN.{replicate}
 use borrow.Author.Tests.{lt-leb, le-leb, not-true, not-false}
 use Rattle.kinds.specs.Limits.{classLimit, within}
 use Rattle.kinds.specs.declared.limits.Kind.{Kind}
 use Rattle.kinds.specs.declared.refusals.Refusal.the-variants.{Limit}
-use Rattle.output.specs.Emitted.{Emitted, InRange}
-use Rattle.output.proofs.Emitting.{none, then, renamed}
+use Rattle.output.specs.Emitted.{Emitted}
+use Rattle.output.proofs.Emitting.{none, renamed}
 use Rattle.gathering.specs.declared.gathered.Gathered.{Gathered}
 use Rattle.gathering.specs.declared.gathered.Line.the-variants.{Next, Fault}
 use Rattle.lines.specs.declared.forms.Keyword.{Keyword}
@@ -25,25 +25,6 @@ use Rattle.gathering.specs.Gathered.{atomCounts, keptNames, KeptNames}
 -- one class more
 pub min-classes : (classes : ℕ) {word : Keyword} → word ≡ Min → classes + 1 ≡ classesAfter (wordOf word) classes
 min-classes classes e = add-one classes ∙ ap (λ w. classesAfter (wordOf w) classes) (sym e)
-
--- copies of a word
-pub record Copying (before : List ℕ) (at w count : ℕ) (now : List ℕ) (end i : ℕ) : Type 0 where
-  pub range : at + count < 2 ^ 63
-  pub few : i ≤ count
-  pub written : Emitted before at (replicate i w) now end
-
-pub copying : (d : List ℕ) (at w count : ℕ) → at + count < 2 ^ 63 → Copying d at w count d at 0
-copying d at w count h = record { range = h; few = zero-le; written = none }
-
-module _ {before : List ℕ} {at w count : ℕ} {now : List ℕ} {end i : ℕ} (c : Copying before at w count now end i) where
-  pub copy-range : i < count → InRange end (w ∷ [])
-  copy-range l = record { below = omega (arith, c .range, c .written .place, length-replicate i w) }
-
-  pub copied : count ≤ i → Emitted before at (replicate count w) now end
-  copied l = let e : i ≡ count = omega (arith, c .few) in renamed (c .written) (ap (λ n. replicate n w) e)
-
-  pub copy-again : i < count → {now′ : List ℕ} {end′ : ℕ} → Emitted now end (w ∷ []) now′ end′ → Copying before at w count now′ end′ (i + 1)
-  copy-again l p = record { range = c .range; few = omega arith; written = renamed (then (c .written) p) (replicate-append-replicate i 1 w) }
 
 -- the class words of each word
 module _ (classes count : ℕ) {before : List ℕ} {at : ℕ} {word : Keyword} where

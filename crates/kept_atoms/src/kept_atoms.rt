@@ -8,10 +8,9 @@ use kinds::limits::Preference;
 use kinds::refusals::Refusal;
 use lines::forms::Keyword;
 use lines::stage::Stage;
-use output::words::push;
+use output::words::emit_copies;
 ghost use mathlib.Core.Path.{_≡_};
 ghost use Prim.Native.Nat.{_+_, _^_, _≤_, _<_};
-ghost use lib.ListN.{replicate};
 ghost use Rattle.kinds.specs.Limits.{classLimit};
 ghost use Rattle.output.specs.Emitted.{Emitted};
 ghost use Rattle.lines.specs.Faults.{stageAfter, classesAfter, classWords};
@@ -41,20 +40,6 @@ fn classes_after(word: Keyword, classes: usize) -> usize
     }
 }
 
-// Writes a word so many times.
-fn put_copies(w: u16, count: usize, words: &mut [u16], at: usize) -> usize
-    requires { ⌜ at + count < 2 ^ 63 ⌝ }
-    ensures { λ r. ⌜ Emitted (now (words .entry)) at (replicate count w) (now (words .exit)) r ⌝ }
-{
-    let mut end = at;
-    let mut i: usize = 0;
-    while i < count {
-        end = push(w, words, end);
-        i += 1;
-    }
-    end
-}
-
 // The class words of a line's atoms.
 fn put_class_words(
     word: Keyword,
@@ -68,9 +53,9 @@ fn put_class_words(
 {
     match word {
         Keyword::Atoms => at,
-        Keyword::Min => put_copies((classes + 1) as u16, count, words, at),
-        Keyword::Vary => put_copies(ClassWord::VARYING, count, words, at),
-        Keyword::Fix => put_copies(ClassWord::FIXED, count, words, at),
+        Keyword::Min => emit_copies((classes + 1) as u16, count, words, at),
+        Keyword::Vary => emit_copies(ClassWord::VARYING, count, words, at),
+        Keyword::Fix => emit_copies(ClassWord::FIXED, count, words, at),
     }
 }
 

@@ -1,4 +1,4 @@
-// The refusals and their numbers (document 01, "Who can be turned back").
+// The refusals and their numbers (document 01, "Who can be turned back"; from 15 on document 02).
 ghost use mathlib.Core.Path.{_≡_};
 ghost use Rattle.kinds.specs.Refusals.{refusalNumber};
 
@@ -17,6 +17,8 @@ pub enum Refusal {
     SetNumber,
     Budget,
     NameStore,
+    BrokenClauses,
+    LiteralBeyond,
 }
 
 impl Refusal {
@@ -38,6 +40,8 @@ impl Refusal {
             Refusal::SetNumber => 12,
             Refusal::Budget => 13,
             Refusal::NameStore => 14,
+            Refusal::BrokenClauses => 15,
+            Refusal::LiteralBeyond => 16,
         }
     }
 }

@@ -1,3 +1,4 @@
 -- The laws of writing into an output.
 pub mod Emitting
 pub mod Copying
+pub mod Copies

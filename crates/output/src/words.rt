@@ -1,5 +1,7 @@
 // The words of a rule store.
 ghost use mathlib.Core.List.{[], _∷_};
+ghost use Prim.Native.Nat.{_+_, _^_, _<_};
+ghost use lib.ListN.{replicate};
 ghost use Rattle.output.specs.Emitted.{Emitted, InRange};
 
 pub fn push(word: u16, out: &mut [u16], at: usize) -> usize
@@ -21,6 +23,20 @@ pub fn emit(words: &[u16], out: &mut [u16], at: usize) -> usize
     let mut i: usize = 0;
     while i < words.len() {
         next = push(words[i], out, next);
+        i += 1;
+    }
+    next
+}
+
+// A word so many times.
+pub fn emit_copies(word: u16, count: usize, out: &mut [u16], at: usize) -> usize
+    requires { ⌜ at + count < 2 ^ 63 ⌝ }
+    ensures { λ r. ⌜ Emitted (now (out .entry)) at (replicate count word) (now (out .exit)) r ⌝ }
+{
+    let mut next = at;
+    let mut i: usize = 0;
+    while i < count {
+        next = push(word, out, next);
         i += 1;
     }
     next

@@ -30,6 +30,7 @@ use Rattle.lines.specs.Said.{accepted, refused, start, readLines, typed, whatRe
 use Rattle.answers.specs.Reading.{readAnswer, readRules, readNames}
 use Rattle.gathering.specs.Gathered.{stateOf, Held, HeldIndex, HeldMarks}
 use Rattle.delivery.specs.Delivered.{Delivered}
+use Rattle.delivery.proofs.Outcomes.{refused-as, delivered-as}
 use Rattle.reader.specs.Gathering.{startCounts, GatherSays, GatherIs}
 use Rattle.reader.proofs.RoundTrip.{typed-form}
 use Rattle.numbering.proofs.NameBlocks.{empty-index}
@@ -73,13 +74,9 @@ pub start-marks : {marks : List ℕ} → Below 1 marks → length marks ≡ atom
 start-marks m i = record { below = record { mark = λ x. omega (arith, m .mark x) }; room = i }
 
 module _ (text rules names : List ℕ) where
-  refused-as : {f : Refusal} {k : ℕ} → said text ≡ refused f k → (Refused f k ≡ readAnswer text (length rules) (length names)) × ((rules ≡ readRules text rules names) × (names ≡ readNames text rules names))
-  unfolding readAnswer readRules readNames
-  refused-as e = rw e (refl, (refl, refl))
-
   pub too-long : textLimit < length text → (Refused TextTooLong 0 ≡ readAnswer text (length rules) (length names)) × ((rules ≡ readRules text rules names) × (names ≡ readNames text rules names))
-  unfolding said typed
-  too-long l = refused-as (rw (lt-leb (length text) textLimit l))
+  unfolding said typed readAnswer readRules readNames
+  too-long l = refused-as (said text) rules names (rw (lt-leb (length text) textLimit l))
 
   module _ (l : length text ≤ textLimit) where
     typed-lines : typed text ≡ readLines 1 (start text) (lines text)
@@ -95,7 +92,8 @@ module _ (text rules names : List ℕ) where
       gather e = subst (GatherSays kind (readLines 1 (start text) (lines text)) words bytes) e (w .says)
 
       pub lines-refused : {f : Refusal} {k : ℕ} → q ≡ Gather.Refused f k → (Refused f k ≡ readAnswer text (length rules) (length names)) × ((rules ≡ readRules text rules names) × (names ≡ readNames text rules names))
-      lines-refused e = refused-as (said-lines ∙ ap whatRemains (gather e))
+      unfolding readAnswer readRules readNames
+      lines-refused e = refused-as (said text) rules names (said-lines ∙ ap whatRemains (gather e))
 
       module _ {g : Gathered} (e : q ≡ Gather.Whole g) where
         abbrev program : Program
@@ -111,6 +109,4 @@ module _ (text rules names : List ℕ) where
         pub delivered : {rules′ names′ : List ℕ} {r : Read} → Delivered (remaining program) (remainingNames program atom-names) rules names rules′ names′ r
             → (r ≡ readAnswer text (length rules) (length names)) × ((rules′ ≡ readRules text rules names) × (names′ ≡ readNames text rules names))
         unfolding readAnswer readRules readNames
-        delivered d =
-            let s : said text ≡ accepted (remaining program) (remainingNames program atom-names) = said-lines ∙ ap whatRemains (gather e .0) in
-            rw s (d .answer, (rw (sym (d .answer)) (d .rules-after), rw (sym (d .answer)) (d .names-after)))
+        delivered d = delivered-as (said text) rules names (said-lines ∙ ap whatRemains (gather e .0)) d

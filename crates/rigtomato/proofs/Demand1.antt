@@ -7,7 +7,8 @@ use Rattle.faults.specs.EarliestFault.{Accepts}
 use Rattle.faults.proofs.EarliestFault.{said-accepted}
 use Rattle.reader.specs.WrittenText.{WrittenText}
 use Rattle.reader.proofs.RoundTrip.{accepted-iff, round-trips}
-use Rattle.answers.proofs.Refusals.{read-refuses, write-refuses, translate-refuses, verdict-refuses, print-refuses, prints-into}
+use Rattle.answers.proofs.Readers.{read-refuses}
+use Rattle.answers.proofs.Refusals.{write-refuses, translate-refuses, verdict-refuses, print-refuses, prints-into}
 use Rattle.rigtomato.specs.Demand1.{Demand1}
 
 accepted-texts : (text : List ℕ) → ((p : Program) × (names : List (List ℕ)) × Accepts text p names) ↔ WrittenText text

@@ -12,6 +12,7 @@ ghost use mathlib.Core.Path.{_≡_};
 ghost use lib.ListN.{length};
 ghost use Rattle.answers.specs.Writing.{writeAnswer, writeOutput};
 ghost use Rattle.answers.specs.Reading.{readAnswer, readRules, readNames};
+ghost use Rattle.answers.specs.ReadingClauses.{clausesAnswer, clausesRules, clausesNames};
 ghost use Rattle.answers.specs.Translating.{translateAnswer, translateOutput};
 ghost use Rattle.walks.specs.Answers.{preferredAnswer, stableAnswer, nextAnswer, placeAnswer};
 ghost use Rattle.fields.specs.Fields.{readFields, writtenFields, verdictFields, nextFields, placeFields};
@@ -23,6 +24,20 @@ pub extern "C" fn rigtomato_read(text: &[u8], rules: &mut [u16], names: &mut [u8
     ensures names { λ r. ⌜ now (names .exit) ≡ readNames (now (text .entry)) (now (rules .entry)) (now (names .entry)) ⌝ }
 {
     let answer = crate::read(text, rules, names);
+    read_fields(answer)
+}
+
+#[no_mangle]
+pub extern "C" fn rigtomato_read_clauses(
+    text: &[u8],
+    rules: &mut [u16],
+    names: &mut [u8],
+) -> ReadFields
+    ensures answer { λ r. ⌜ r ≡ readFields (clausesAnswer (now (text .entry)) (length (now (rules .entry))) (length (now (names .entry)))) ⌝ }
+    ensures rules { λ r. ⌜ now (rules .exit) ≡ clausesRules (now (text .entry)) (now (rules .entry)) (now (names .entry)) ⌝ }
+    ensures names { λ r. ⌜ now (names .exit) ≡ clausesNames (now (text .entry)) (now (rules .entry)) (now (names .entry)) ⌝ }
+{
+    let answer = crate::read_clauses(text, rules, names);
     read_fields(answer)
 }
 

@@ -5,6 +5,7 @@ ghost use mathlib.Core.Path.{_≡_};
 ghost use lib.ListN.{length};
 ghost use Rattle.answers.specs.Writing.{writeAnswer, writeOutput};
 ghost use Rattle.answers.specs.Reading.{readAnswer, readRules, readNames};
+ghost use Rattle.answers.specs.ReadingClauses.{clausesAnswer, clausesRules, clausesNames};
 ghost use Rattle.answers.specs.Translating.{translateAnswer, translateOutput};
 ghost use Rattle.walks.specs.Answers.{preferredAnswer, stableAnswer, nextAnswer, placeAnswer};
 
@@ -15,6 +16,15 @@ pub fn read(text: &[u8], rules: &mut [u16], names: &mut [u8]) -> answers::Read
     ensures names { λ r. ⌜ now (names .exit) ≡ readNames (now (text .entry)) (now (rules .entry)) (now (names .entry)) ⌝ }
 {
     reader::read(text, rules, names)
+}
+
+// A clause file into the two stores of its preference program (document 02, W-202).
+pub fn read_clauses(text: &[u8], rules: &mut [u16], names: &mut [u8]) -> answers::Read
+    ensures answer { λ r. ⌜ r ≡ clausesAnswer (now (text .entry)) (length (now (rules .entry))) (length (now (names .entry))) ⌝ }
+    ensures rules { λ r. ⌜ now (rules .exit) ≡ clausesRules (now (text .entry)) (now (rules .entry)) (now (names .entry)) ⌝ }
+    ensures names { λ r. ⌜ now (names .exit) ≡ clausesNames (now (text .entry)) (now (rules .entry)) (now (names .entry)) ⌝ }
+{
+    clause_reader::read_clauses(text, rules, names)
 }
 
 // The text of two stores.

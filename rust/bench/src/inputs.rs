@@ -195,3 +195,21 @@ pub fn long_file(every: usize) -> Vec<u8> {
     let names = generate::names(&mut random, Kind::Preference, 256);
     reference::writer::write(&file, &names)
 }
+
+/// The largest clause file: 256 atoms, 1,024 clauses, 8,192 literals of either sign. Between two items
+/// stand so many spaces, and before each clause so many comments.
+pub fn clause_file(spaces: usize, comments: usize) -> Vec<u8> {
+    let mut random = Random::new(6);
+    let space = " ".repeat(spaces);
+    let comment = "c the clause of one gate, as its table has it\n".repeat(comments);
+    let mut text = "p cnf 256 1024\n".to_string();
+    for _ in 0..1_024 {
+        text += &comment;
+        for atom in random.choose(8, 256) {
+            let sign = *random.pick(&["", "-"]);
+            text += &format!("{sign}{}{space}", atom + 1);
+        }
+        text += "0\n";
+    }
+    text.into_bytes()
+}

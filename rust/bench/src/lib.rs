@@ -1,6 +1,7 @@
 //! What the engine's speed is measured against: hand-written C and Rust for the walks, a fast
-//! reader, writer and translator.
+//! readers, writer and translator.
 
+pub mod clauses;
 pub mod inputs;
 pub mod twin;
 pub mod walks;

@@ -1,8 +1,9 @@
 //! Prints the table. Speeds are by processor time, the best of several turns taken
 //! alternately.
 
+use bench::clauses;
 use bench::inputs::{self, Walk};
-use bench::twin;
+use bench::twin::{self, Refused};
 use bench::walks::{self, Answer};
 use reference::lent;
 use std::cell::RefCell;
@@ -312,6 +313,61 @@ fn read_row(what: &str, text: &[u8]) {
     );
 }
 
+/// A reader of clause files: how much it wrote of the lent stores.
+type ReadLent = fn(&[u8], &mut [u16], &mut [u8]) -> Result<(usize, usize), Refused>;
+
+#[cfg(feature = "engine")]
+fn engine_clauses() -> Option<(&'static str, ReadLent)> {
+    let read: ReadLent = |text, rules, names| {
+        let read = rigtomato::lent::read_clauses(text, rules, names);
+        let refused = read.map_err(|refused| (refused.refusal as u64, refused.line.unwrap_or(0)));
+        refused.map(|read| (read.words, read.bytes))
+    };
+    Some(("engine", read))
+}
+
+#[cfg(not(feature = "engine"))]
+fn engine_clauses() -> Option<(&'static str, ReadLent)> {
+    None
+}
+
+fn reference_clauses(
+    text: &[u8],
+    rules: &mut [u16],
+    names: &mut [u8],
+) -> Result<(usize, usize), Refused> {
+    let read = lent::read_clauses(text, rules, names);
+    let refused = read.map_err(|refused| (refused.number(), refused.line));
+    refused.map(|read| (read.words, read.bytes))
+}
+
+/// Each reader fills the stores as the second implementation does, or the bench ends.
+fn clauses_row(what: &str, text: &[u8]) {
+    let stores = |read: ReadLent| {
+        let mut stores = (vec![7u16; 36_604], vec![7u8; 20_900]);
+        let read = read(text, &mut stores.0, &mut stores.1);
+        (read.expect("an accepted text"), stores)
+    };
+    let expected = stores(reference_clauses);
+    let others: [(&'static str, ReadLent); 2] =
+        [("Rust", clauses::read), ("reference", reference_clauses)];
+    let readers = engine_clauses().into_iter().chain(others);
+    let contestant = |(name, read): (&'static str, ReadLent)| -> Contestant<'_> {
+        let given = stores(read);
+        assert!(given == expected, "{name} reads clauses differently");
+        let lent = RefCell::new(given.1);
+        let call = move || {
+            let (rules, names) = &mut *lent.borrow_mut();
+            let read = read(black_box(text), rules, names);
+            assert_eq!(read, Ok(given.0));
+        };
+        (name, Box::new(call))
+    };
+    let contestants: Vec<Contestant> = readers.map(contestant).collect();
+    let what = format!("read clauses, {what}, {} bytes", text.len());
+    row(&what, text.len() as f64, "MB/s", &contestants);
+}
+
 fn write_row(writers: &Writers, stores: &twin::Stores, text: &Vec<u8>) {
     let what = format!("{}, {} bytes", writers.what, text.len());
     let fast = writers.fast;
@@ -354,6 +410,8 @@ fn text_rows() {
     read_row("256 atoms, all in rules", &file);
     read_row("256 atoms, half in no rule", &inputs::long_file(2));
     read_row("a translation", &delivered);
+    clauses_row("8,192 literals", &inputs::clause_file(1, 0));
+    clauses_row("comments and spaces", &inputs::clause_file(3, 2));
     write_row(&WRITE, &stores, &file);
     write_row(&WRITE, &plain, &delivered);
     write_row(&TRANSLATE, &stores, &delivered);
@@ -364,7 +422,9 @@ fn main() {
     println!(
         "C: rust/bench/c/walks.c, gcc -O3; Rust: hand-written, release; reference: rust/reference."
     );
-    println!("Lent outputs are not cleared between calls; Rust allocates its own.");
+    println!(
+        "Lent outputs are not cleared between calls; Rust allocates its own, but for clauses."
+    );
     println!("In the walks C and Rust trust the store that they are handed; the engine checks it.");
     println!("A ratio over 1 means that the engine is faster.");
     walk_rows();

@@ -1,6 +1,8 @@
 //! What is timed has to answer as the second implementation does.
 
-use bench::{inputs, twin, walks};
+use bench::{clauses, inputs, twin, walks};
+use compare::clause_files::{self, damage, damage_text, soup};
+use compare::clause_kit;
 use compare::engine::{Engine, Reference, VerdictAnswer};
 use compare::generate::{either, partly_used, plain, preference, Size};
 use compare::random::Random;
@@ -52,6 +54,70 @@ fn the_fast_reader_writer_and_translator() {
                 .map(|length| out[..length].to_vec())
                 .map_err(|reason| reason as u64);
             assert_eq!(fast(&stores), expected, "{stores:?}");
+        }
+    }
+}
+
+/// Holds the fast reader of clauses to the second implementation, with outputs of several sizes.
+fn hold_clauses(text: &[u8], lengths: (usize, usize)) {
+    let lend = || (vec![7u16; lengths.0], vec![7u8; lengths.1]);
+    let (mut ours, mut theirs) = (lend(), lend());
+    let expected = lent::read_clauses(text, &mut ours.0, &mut ours.1)
+        .map(|read| (read.words, read.bytes))
+        .map_err(|refusal| (refusal.number(), refusal.line));
+    let read = clauses::read(text, &mut theirs.0, &mut theirs.1);
+    assert_eq!(read, expected, "{}", String::from_utf8_lossy(text));
+    assert!(ours == theirs, "{}", String::from_utf8_lossy(text));
+}
+
+#[test]
+fn the_fast_reader_of_clauses() {
+    let mut random = Random::new(6);
+    for case in clause_kit::cases() {
+        hold_clauses(&case.text, (14_000, 2_000));
+    }
+    for turn in 0..20_000 {
+        let size = clause_files::Size {
+            atoms: *random.pick(&[3, 6, 256]),
+            ..clause_files::SMALL
+        };
+        let mut file = clause_files::right(&mut random, size);
+        for _ in 0..turn % 4 {
+            damage(&mut random, &mut file);
+        }
+        let mut text = match turn % 10 {
+            0 => soup(&mut random, 16),
+            _ => clause_files::text(&mut random, &file),
+        };
+        if turn % 3 == 0 {
+            damage_text(&mut random, &mut text);
+        }
+        let lengths = (random.within(0, 80), random.within(0, 80));
+        hold_clauses(&text, lengths);
+        hold_clauses(&text, (400, 400));
+    }
+}
+
+#[test]
+fn the_clause_files() {
+    for (spaces, comments) in [(1, 0), (3, 2)] {
+        let text = inputs::clause_file(spaces, comments);
+        let (file, names) = reference::clauses::read(&text).expect("an accepted text");
+        assert_eq!((file.atoms, names.len()), (256, 256));
+        assert_eq!((file.rules.len(), file.occurrences()), (1_024, 8_192));
+        let (words, bytes) = (rule_store(&file).len(), name_store(&names).len());
+        hold_clauses(&text, (words, bytes));
+        hold_clauses(&text, (words - 1, bytes));
+        hold_clauses(&text, (words, bytes - 1));
+        let mut more = text.clone();
+        more.extend_from_slice(b"1 0\n");
+        hold_clauses(&more, (words, bytes));
+        let end = text.iter().rposition(|byte| *byte == b'0').unwrap();
+        for item in ["1 2 3 4 5 6 7 8 9 0", "257 1 -1 0", "x 257 1 -1 0", "300 0"] {
+            let mut more = text[..end].to_vec();
+            more.extend_from_slice(item.as_bytes());
+            more.push(b'\n');
+            hold_clauses(&more, (14_000, 2_000));
         }
     }
 }

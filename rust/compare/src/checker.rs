@@ -4,7 +4,7 @@
 //! with a pattern; after the call the whole piece is compared, so a write before or past the lent
 //! part shows, and so does a byte that should have kept its content.
 
-use crate::engine::{Engine, Reference, TextAnswer, VerdictAnswer};
+use crate::engine::{Engine, ReadAnswer, Reference, TextAnswer, VerdictAnswer};
 use std::collections::BTreeMap;
 use std::fmt::Debug;
 
@@ -124,21 +124,44 @@ impl<'e> Checker<'e> {
         Err(Difference { text })
     }
 
-    pub fn read(&mut self, text: &[u8], rules_len: usize, names_len: usize) -> Checked {
+    fn read_call(
+        &mut self,
+        name: &'static str,
+        text: &[u8],
+        (rules_len, names_len): (usize, usize),
+        call: impl Fn(&dyn Engine, &[u8], &mut [u16], &mut [u8]) -> ReadAnswer,
+    ) -> Checked {
         let outcome = |engine: &dyn Engine| {
             let input = text.to_vec();
             let (mut rules, mut names) = (words(rules_len), bytes(names_len));
-            let answer = engine.read(&input, rules.lend(), names.lend());
+            let answer = call(engine, &input, rules.lend(), names.lend());
             (answer, rules.memory, names.memory, input == text)
         };
         let (ours, theirs) = (outcome(&Reference), outcome(self.engine));
         let outcome = outcome_of_refusal(ours.0.refusal);
-        self.same("read", outcome, &ours, &theirs, || {
+        self.same(name, outcome, &ours, &theirs, || {
             format!(
-                "read, outputs {rules_len} and {names_len}, text:\n{}",
+                "{name}, outputs {rules_len} and {names_len}, text:\n{}",
                 shown(text)
             )
         })
+    }
+
+    pub fn read(&mut self, text: &[u8], rules_len: usize, names_len: usize) -> Checked {
+        let lengths = (rules_len, names_len);
+        self.read_call("read", text, lengths, |engine, text, rules, names| {
+            engine.read(text, rules, names)
+        })
+    }
+
+    pub fn read_clauses(&mut self, text: &[u8], rules_len: usize, names_len: usize) -> Checked {
+        let lengths = (rules_len, names_len);
+        self.read_call(
+            "read_clauses",
+            text,
+            lengths,
+            |engine, text, rules, names| engine.read_clauses(text, rules, names),
+        )
     }
 
     fn text_call(

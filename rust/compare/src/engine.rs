@@ -1,7 +1,7 @@
 //! What is compared: anything that has the public functions, with answers in one common form,
 //! that of the C interface.
 
-use reference::lent;
+use reference::lent::{self, Accepted};
 use reference::refusal::{Reason, Refusal};
 use reference::verdicts::{Next, Verdict};
 
@@ -35,6 +35,7 @@ pub struct ValueAnswer {
 pub trait Engine {
     fn name(&self) -> &str;
     fn read(&self, text: &[u8], rules: &mut [u16], names: &mut [u8]) -> ReadAnswer;
+    fn read_clauses(&self, text: &[u8], rules: &mut [u16], names: &mut [u8]) -> ReadAnswer;
     fn write(&self, rules: &[u16], names: &[u8], out: &mut [u8]) -> TextAnswer;
     fn translate(&self, rules: &[u16], names: &[u8], out: &mut [u8]) -> TextAnswer;
     fn preferred(&self, rules: &[u16], set: u64, budget: u64) -> VerdictAnswer;
@@ -45,6 +46,23 @@ pub trait Engine {
 
 /// The second implementation.
 pub struct Reference;
+
+fn read_answer(result: Result<Accepted, Refusal>) -> ReadAnswer {
+    match result {
+        Ok(written) => ReadAnswer {
+            refusal: 0,
+            line: 0,
+            words: written.words as u64,
+            bytes: written.bytes as u64,
+        },
+        Err(Refusal { reason, line }) => ReadAnswer {
+            refusal: reason as u64,
+            line,
+            words: 0,
+            bytes: 0,
+        },
+    }
+}
 
 fn text_answer(result: Result<usize, Reason>) -> TextAnswer {
     match result {
@@ -79,20 +97,11 @@ impl Engine for Reference {
     }
 
     fn read(&self, text: &[u8], rules: &mut [u16], names: &mut [u8]) -> ReadAnswer {
-        match lent::read(text, rules, names) {
-            Ok(written) => ReadAnswer {
-                refusal: 0,
-                line: 0,
-                words: written.words as u64,
-                bytes: written.bytes as u64,
-            },
-            Err(Refusal { reason, line }) => ReadAnswer {
-                refusal: reason as u64,
-                line,
-                words: 0,
-                bytes: 0,
-            },
-        }
+        read_answer(lent::read(text, rules, names))
+    }
+
+    fn read_clauses(&self, text: &[u8], rules: &mut [u16], names: &mut [u8]) -> ReadAnswer {
+        read_answer(lent::read_clauses(text, rules, names))
     }
 
     fn write(&self, rules: &[u16], names: &[u8], out: &mut [u8]) -> TextAnswer {

@@ -5,6 +5,9 @@
 
 pub mod cases;
 pub mod checker;
+pub mod clause_cases;
+pub mod clause_files;
+pub mod clause_kit;
 pub mod engine;
 pub mod generate;
 #[cfg(feature = "engine")]

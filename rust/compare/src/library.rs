@@ -1,10 +1,19 @@
 //! The proved engine, twice: through the C interface as it is, and through the safe binding.
 
 use crate::engine::{Engine, ReadAnswer, TextAnswer, ValueAnswer, VerdictAnswer};
-use rigtomato::{lent, sys, Next, Refusal, Verdict};
+use rigtomato::{lent, sys, Next, Refusal, TextRefusal, Verdict};
 
 /// The static library through the C interface, each field of each answer taken as it comes.
 pub struct Library;
+
+fn read_answer(answer: sys::ReadAnswer) -> ReadAnswer {
+    ReadAnswer {
+        refusal: answer.refusal,
+        line: answer.line,
+        words: answer.words,
+        bytes: answer.bytes,
+    }
+}
 
 fn text_answer(answer: sys::TextAnswer) -> TextAnswer {
     TextAnswer {
@@ -30,7 +39,7 @@ impl Engine for Library {
 
     fn read(&self, text: &[u8], rules: &mut [u16], names: &mut [u8]) -> ReadAnswer {
         let (rules_at, names_at) = (rules.as_mut_ptr(), names.as_mut_ptr());
-        let answer = unsafe {
+        read_answer(unsafe {
             sys::rigtomato_read(
                 text.as_ptr(),
                 text.len(),
@@ -39,13 +48,21 @@ impl Engine for Library {
                 names_at,
                 names.len(),
             )
-        };
-        ReadAnswer {
-            refusal: answer.refusal,
-            line: answer.line,
-            words: answer.words,
-            bytes: answer.bytes,
-        }
+        })
+    }
+
+    fn read_clauses(&self, text: &[u8], rules: &mut [u16], names: &mut [u8]) -> ReadAnswer {
+        let (rules_at, names_at) = (rules.as_mut_ptr(), names.as_mut_ptr());
+        read_answer(unsafe {
+            sys::rigtomato_read_clauses(
+                text.as_ptr(),
+                text.len(),
+                rules_at,
+                rules.len(),
+                names_at,
+                names.len(),
+            )
+        })
     }
 
     fn write(&self, rules: &[u16], names: &[u8], out: &mut [u8]) -> TextAnswer {
@@ -103,6 +120,23 @@ impl Engine for Library {
 /// The safe binding.
 pub struct Binding;
 
+fn read_result(result: Result<lent::Accepted, TextRefusal>) -> ReadAnswer {
+    match result {
+        Ok(accepted) => ReadAnswer {
+            refusal: 0,
+            line: 0,
+            words: accepted.words as u64,
+            bytes: accepted.bytes as u64,
+        },
+        Err(refused) => ReadAnswer {
+            refusal: refused.refusal as u64,
+            line: refused.line.unwrap_or(0),
+            words: 0,
+            bytes: 0,
+        },
+    }
+}
+
 fn text_result(result: Result<usize, Refusal>) -> TextAnswer {
     TextAnswer {
         refusal: result.map_or_else(|refusal| refusal as u64, |_| 0),
@@ -130,20 +164,11 @@ impl Engine for Binding {
     }
 
     fn read(&self, text: &[u8], rules: &mut [u16], names: &mut [u8]) -> ReadAnswer {
-        match lent::read(text, rules, names) {
-            Ok(accepted) => ReadAnswer {
-                refusal: 0,
-                line: 0,
-                words: accepted.words as u64,
-                bytes: accepted.bytes as u64,
-            },
-            Err(refused) => ReadAnswer {
-                refusal: refused.refusal as u64,
-                line: refused.line.unwrap_or(0),
-                words: 0,
-                bytes: 0,
-            },
-        }
+        read_result(lent::read(text, rules, names))
+    }
+
+    fn read_clauses(&self, text: &[u8], rules: &mut [u16], names: &mut [u8]) -> ReadAnswer {
+        read_result(lent::read_clauses(text, rules, names))
     }
 
     fn write(&self, rules: &[u16], names: &[u8], out: &mut [u8]) -> TextAnswer {

@@ -2,6 +2,7 @@
 
 use crate::cases;
 use crate::checker::{Checked, Checker, Difference, Outcome};
+use crate::clause_cases;
 use crate::engine::Engine;
 use crate::random::Random;
 use std::collections::BTreeMap;
@@ -10,7 +11,7 @@ use std::time::{Duration, Instant};
 type Family = fn(&mut Checker, &mut Random) -> Checked;
 
 /// The families with how often each has its turn in a round.
-const FAMILIES: [(&str, Family, usize); 16] = [
+const FAMILIES: [(&str, Family, usize); 18] = [
     ("valid files", cases::valid, 60),
     ("damaged texts", cases::damaged_text, 40),
     ("no files", cases::soup, 20),
@@ -27,6 +28,8 @@ const FAMILIES: [(&str, Family, usize); 16] = [
     ("partial choices", cases::partial_choices, 20),
     ("rows of inverters", cases::rows_of_inverters, 5),
     ("unused atoms", cases::unused_atoms, 20),
+    ("clause files", clause_cases::clause_files, 40),
+    ("large clause files", clause_cases::large_clause_files, 1),
 ];
 
 /// When a run ends: when both are reached.
@@ -47,12 +50,23 @@ pub struct Report {
 
 /// Compares the engine with the second implementation.
 pub fn run(engine: &dyn Engine, seed: u64, until: Until) -> Result<Report, Difference> {
+    run_families(engine, seed, until, |_| true)
+}
+
+/// The same by the families of these names.
+pub fn run_families(
+    engine: &dyn Engine,
+    seed: u64,
+    until: Until,
+    wanted: fn(&str) -> bool,
+) -> Result<Report, Difference> {
     let start = Instant::now();
     let mut check = Checker::new(engine);
     let mut counts = [0; FAMILIES.len()];
     let mut round = 0u64;
     while check.comparisons < until.comparisons || start.elapsed() < until.time {
-        for (place, (name, family, turns)) in FAMILIES.iter().enumerate() {
+        let families = FAMILIES.iter().enumerate();
+        for (place, (name, family, turns)) in families.filter(|(_, family)| wanted(family.0)) {
             // A turn has its own numbers, so that one family can change without the others.
             let own = seed ^ round.wrapping_mul(0x1_0001) ^ ((place as u64 + 1) << 56);
             let mut random = Random::new(own);
@@ -68,7 +82,11 @@ pub fn run(engine: &dyn Engine, seed: u64, until: Until) -> Result<Report, Diffe
     }
     let before = check.comparisons;
     cases::limits(&mut check, &mut Random::new(seed))?;
-    let mut families = vec![("limits", check.comparisons - before)];
+    clause_cases::limits(&mut check)?;
+    let limits = check.comparisons - before;
+    clause_cases::short_texts(&mut check)?;
+    let short = check.comparisons - before - limits;
+    let mut families = vec![("limits", limits), ("short clause files", short)];
     families.extend(
         FAMILIES
             .iter()
@@ -94,13 +112,21 @@ pub fn wanted_outcomes() -> Vec<(&'static str, Outcome)> {
         );
     };
     refusals("read", &[1, 2, 3, 4, 5, 6, 7, 8, 9]);
+    refusals("read_clauses", &[1, 7, 9, 15, 16]);
     refusals("write", &[10, 14, 9]);
     refusals("translate", &[10, 14, 9]);
     refusals("preferred", &[10, 11, 12, 13]);
     refusals("stable", &[10, 11, 12, 13]);
     refusals("next_state", &[10, 11, 12, 13]);
     refusals("place", &[10, 11, 12]);
-    for function in ["read", "write", "translate", "place", "listing"] {
+    for function in [
+        "read",
+        "read_clauses",
+        "write",
+        "translate",
+        "place",
+        "listing",
+    ] {
         wanted.push((function, Outcome::Done));
     }
     for kind in [0, 1, 2, 3] {

@@ -1,10 +1,11 @@
 //! Wrong engines: the harness has to notice each of them.
 
+mod wrong_clauses;
 mod wrong_readings;
 mod wrong_walks;
 
 use compare::engine::{Engine, ReadAnswer, Reference, TextAnswer, ValueAnswer, VerdictAnswer};
-use compare::run::{run, Until};
+use compare::run::{run, run_families, Until};
 use reference::limits::Kind;
 use reference::program::{Program, Role, Rule};
 use reference::stores::{check_names, check_rules, check_rules_of, name_store, rule_store};
@@ -12,6 +13,7 @@ use reference::used_atoms::{restricted, used_atoms, without_unused};
 use reference::verdicts::{self, beats, is_model, place, reduct, Next, Verdict};
 use reference::{translator, writer};
 use std::time::Duration;
+use wrong_clauses::{ClauseSlip, CLAUSE_SLIPS};
 use wrong_readings::{ReadSlip, READ_SLIPS};
 use wrong_walks::{WalkSlip, WALK_SLIPS};
 
@@ -54,6 +56,7 @@ enum Slip {
     JudgesWhatRemains,
     ListsWhatRemains,
     Read(ReadSlip),
+    Clauses(ClauseSlip),
     Walk(WalkSlip),
 }
 
@@ -293,6 +296,13 @@ impl Engine for Wrong {
         answer
     }
 
+    fn read_clauses(&self, text: &[u8], rules: &mut [u16], names: &mut [u8]) -> ReadAnswer {
+        match self.0 {
+            Slip::Clauses(slip) => wrong_clauses::read(slip, text, rules, names),
+            _ => Reference.read_clauses(text, rules, names),
+        }
+    }
+
     fn write(&self, rules: &[u16], names: &[u8], out: &mut [u8]) -> TextAnswer {
         if self.0 == Slip::WritesWhatRemains {
             if let Some((rules, names)) = what_remains(rules, names) {
@@ -459,10 +469,22 @@ fn each_slip_is_noticed() {
     }
 }
 
+#[test]
+fn each_slip_of_clauses_is_noticed() {
+    for slip in CLAUSE_SLIPS.map(Slip::Clauses) {
+        let noticed = run_families(&Wrong(slip), 7, UNTIL, |family| family.contains("clause"));
+        assert!(noticed.is_err(), "{slip:?} was not noticed");
+    }
+}
+
 /// What is noticed of a wrong walk or reading is its slip.
 #[test]
 fn without_a_slip_they_are_right() {
-    for nothing in [Slip::Walk(WalkSlip::Nothing), Slip::Read(ReadSlip::Nothing)] {
+    for nothing in [
+        Slip::Walk(WalkSlip::Nothing),
+        Slip::Read(ReadSlip::Nothing),
+        Slip::Clauses(ClauseSlip::Nothing),
+    ] {
         let report = run(&Wrong(nothing), 7, UNTIL);
         assert!(report.is_ok(), "{nothing:?}");
     }

@@ -19,6 +19,8 @@ with one space between items, no other spacing, no blank line and no comment; a 
 a to z or a digit and then letters, digits or _, also after N., S. or D.; E.0 to E.16 and U are
 names too.";
 
+const LINE_ENDS: &str = "Each line ends with a line feed (byte 10), the last one too.";
+
 /// The kind that a text has by its first bytes, also where it is refused.
 fn kind(file: &File) -> Kind {
     match file.text.starts_with(b"(atoms") {
@@ -28,15 +30,32 @@ fn kind(file: &File) -> Kind {
 }
 
 fn form(file: &File, line: u64) -> &'static str {
+    if file.has_clauses() {
+        return "This is a clause file: 'rigtomato clauses FILE' prints its preference file.";
+    }
     match (file.line(line), kind(file)) {
         (None, _) => {
             "The text ends too early: it needs one (vary ..) line and then one (fix ..) line."
         }
-        (Some(line), _) if !line.ends_with(b"\n") => {
-            "Each line ends with a line feed (byte 10), the last one too."
-        }
+        (Some(line), _) if !line.ends_with(b"\n") => LINE_ENDS,
         (_, Kind::Preference) => FORMS,
         (_, Kind::Plain) => PLAIN_FORMS,
+    }
+}
+
+const CLAUSES: &str = "\
+A clause file has lines that start with c, one line
+    p cnf ATOMS CLAUSES
+and then just as many clauses, each a list of literals that ends with 0. A literal is an atom's number
+or - and the number; no number has a + or a leading zero. Spaces, not tabs, stand between.";
+
+fn clauses(file: &File, line: u64) -> &'static str {
+    match file.line(line) {
+        None => {
+            "The text ends too early: its header, a clause or the 0 of the last clause is missing."
+        }
+        Some(line) if !line.ends_with(b"\n") => LINE_ENDS,
+        _ => CLAUSES,
     }
 }
 
@@ -58,6 +77,30 @@ fn limits(kind: Kind) -> String {
     }
 }
 
+fn text_limit() -> String {
+    format!("A text has at most {} bytes.", grouped(TEXT_LIMIT as u64))
+}
+
+/// One sentence of help for a refused clause file.
+pub fn explain_clauses(file: &File, refused: &Refused) -> String {
+    let limits = Kind::Preference.limits();
+    let limit = |limit: usize| grouped(limit as u64);
+    match refused.refusal {
+        Refusal::TextTooLong => text_limit(),
+        Refusal::Limit => format!(
+            "A clause file has at most {} atoms, {} clauses and {} literals; a literal that its \
+             clause repeats does not count.",
+            limit(limits.atoms),
+            limit(limits.rules),
+            limit(limits.occurrences)
+        ),
+        Refusal::LiteralBeyond => {
+            "A literal's number is at most the header's first number.".to_string()
+        }
+        _ => clauses(file, refused.line).to_string(),
+    }
+}
+
 /// One sentence of help for a refused text.
 pub fn explain(file: &File, refused: &Refused) -> String {
     let (one, declared) = match kind(file) {
@@ -65,7 +108,7 @@ pub fn explain(file: &File, refused: &Refused) -> String {
         Kind::Plain => ("", "the (atoms ..) line"),
     };
     match refused.refusal {
-        Refusal::TextTooLong => format!("A text has at most {} bytes.", grouped(TEXT_LIMIT as u64)),
+        Refusal::TextTooLong => text_limit(),
         Refusal::Form => form(file, refused.line).to_string(),
         Refusal::Name => format!(
             "A name has at most {HOUSE_NAME_LIMIT} bytes; N.a, S.a, D.a, E.0 and U are names that \

@@ -44,6 +44,14 @@ impl File {
         self.lines().nth(before)
     }
 
+    /// Is it made of clauses? The first line that is no comment and not blank is then the header.
+    pub fn has_clauses(&self) -> bool {
+        let says_something =
+            |line: &&[u8]| !line.starts_with(b"c") && !line.trim_ascii().is_empty();
+        let first = self.lines().find(says_something);
+        first.is_some_and(|line| line.starts_with(b"p cnf "))
+    }
+
     /// The names on the declaring lines of an accepted text, in declared order.
     pub fn declared(&self) -> impl Iterator<Item = &str> {
         let declaring = self.lines().take_while(|line| !line.starts_with(b"(rule"));
@@ -94,6 +102,16 @@ mod tests {
         ] {
             let text = format!("{text}{rule}");
             assert!(file(&text).declared().eq(names.iter().copied()), "{text}");
+        }
+    }
+
+    #[test]
+    fn clause_files() {
+        for text in ["p cnf 1 1\n1 0\n", "c\n\n \nc x\np cnf 3 x\n"] {
+            assert!(file(text).has_clauses(), "{text}");
+        }
+        for text in ["", "c\n", "(vary)\n(fix)\np cnf 1 1\n", "p\n", "1 0\n"] {
+            assert!(!file(text).has_clauses(), "{text}");
         }
     }
 

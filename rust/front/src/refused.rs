@@ -84,6 +84,11 @@ pub fn read(file: &File) -> Result<Program, Refused> {
     Program::read(&file.text).map_err(Refused::from)
 }
 
+/// The same of a clause file.
+pub fn read_clauses(file: &File) -> Result<Program, Refused> {
+    Program::read_clauses(&file.text).map_err(Refused::from)
+}
+
 /// The line's first bytes, the unprintable ones escaped.
 fn shown(line: &[u8]) -> String {
     let line = line.strip_suffix(b"\n").unwrap_or(line);

@@ -456,6 +456,7 @@ fn unreadable_files() {
             "check",
             "preferred",
             "stable",
+            "clauses",
             "solve",
         ] {
             let ran = run(front().args([command, path]), "");
@@ -485,6 +486,7 @@ fn help() {
         "check FILE",
         "preferred FILE [--budget N] [--json] ATOM..",
         "stable FILE [--budget N] [--json] ATOM..",
+        "clauses FILE",
         "solve FILE [--solver PATH] [--first N] [--check] [--json]",
     ] {
         assert!(page.out.contains(&format!("  {usage}\n")), "{usage}");

@@ -3,8 +3,9 @@
 //! Nothing is written on a refusal; after success, what lies past the written part keeps its
 //! content.
 
+use crate::clauses;
 use crate::limits::{Kind, BUDGET_LIMIT, VERDICT_ATOM_LIMIT};
-use crate::program::Program;
+use crate::program::{Names, Program};
 use crate::reader;
 use crate::refusal::{Reason, Refusal};
 use crate::stores::{check_names, check_rules, check_rules_of, name_store, rule_store};
@@ -21,9 +22,21 @@ pub struct Accepted {
 
 /// Reads a text into a rule store and a name store.
 pub fn read(text: &[u8], rules: &mut [u16], names: &mut [u8]) -> Result<Accepted, Refusal> {
-    let (program, read_names) = reader::read(text)?;
-    let words = rule_store(&program);
-    let bytes = name_store(&read_names);
+    deliver_stores(&reader::read(text)?, rules, names)
+}
+
+/// Reads a clause file into the rule store and the name store of its preference file.
+pub fn read_clauses(text: &[u8], rules: &mut [u16], names: &mut [u8]) -> Result<Accepted, Refusal> {
+    deliver_stores(&clauses::read(text)?, rules, names)
+}
+
+fn deliver_stores(
+    (program, read_names): &(Program, Names),
+    rules: &mut [u16],
+    names: &mut [u8],
+) -> Result<Accepted, Refusal> {
+    let words = rule_store(program);
+    let bytes = name_store(read_names);
     if rules.len() < words.len() || names.len() < bytes.len() {
         return Err(Refusal::without_line(Reason::OutputShort));
     }

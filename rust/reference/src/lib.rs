@@ -6,6 +6,7 @@
 //! code uses that word.
 
 pub mod choices;
+pub mod clauses;
 pub mod lent;
 pub mod limits;
 pub mod names;

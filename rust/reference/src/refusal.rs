@@ -1,7 +1,8 @@
-//! The refusals, with document 01's numbers ("Who can be turned back").
+//! The refusals, with document 01's numbers ("Who can be turned back"), from 15 on document 02's.
 
 /// Why somebody is turned back. The number of a reason is `reason as u64`; the order is that of
-/// the numbers, so the least of several faults of a line is the one that counts.
+/// the numbers, so the least of several faults of a line is the one that counts, but in a clause
+/// file.
 #[derive(Clone, Copy, Debug, PartialEq, Eq, PartialOrd, Ord)]
 pub enum Reason {
     TextTooLong = 1,
@@ -18,6 +19,8 @@ pub enum Reason {
     SetTooLarge = 12,
     BudgetTooLarge = 13,
     NameStore = 14,
+    BrokenClauses = 15,
+    LiteralBeyond = 16,
 }
 
 /// A refusal with its line, counted from 1, or line 0 where there is none.

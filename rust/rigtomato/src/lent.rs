@@ -56,6 +56,31 @@ pub fn read(text: &[u8], rules: &mut [u16], names: &mut [u8]) -> Result<Accepted
             names.len(),
         )
     };
+    accepted(answer)
+}
+
+/// Reads a clause file (DIMACS CNF) into the rule store and the name store of its preference file:
+/// atom i is called `v` and its number, all atoms that some clause has are one class, and each clause
+/// is a rule with its positive literals as the head and its negative ones as the body.
+pub fn read_clauses(
+    text: &[u8],
+    rules: &mut [u16],
+    names: &mut [u8],
+) -> Result<Accepted, TextRefusal> {
+    // SAFETY: as in `read`.
+    accepted(unsafe {
+        sys::rigtomato_read_clauses(
+            text.as_ptr(),
+            text.len(),
+            rules.as_mut_ptr(),
+            rules.len(),
+            names.as_mut_ptr(),
+            names.len(),
+        )
+    })
+}
+
+fn accepted(answer: sys::ReadAnswer) -> Result<Accepted, TextRefusal> {
     match answer.refusal {
         0 => Ok(Accepted {
             words: answer.words as usize,

@@ -42,6 +42,8 @@ const RULES_LIMIT: usize = 4 + 3 * 4_200 + 24_000;
 /// The most bytes of a name store: a plain program's, each name with its length and `N.`.
 const NAMES_LIMIT: usize = 1_100 * (HOUSE_NAME_LIMIT + 3);
 
+type ReadLent = fn(&[u8], &mut [u16], &mut [u8]) -> Result<lent::Accepted, TextRefusal>;
+
 #[derive(Clone, Copy, Debug, PartialEq, Eq)]
 pub enum Kind {
     Plain,
@@ -68,9 +70,27 @@ impl Program {
     /// # Ok::<(), rigtomato::TextRefusal>(())
     /// ```
     pub fn read(text: &[u8]) -> Result<Program, TextRefusal> {
+        Program::read_by(lent::read, text)
+    }
+
+    /// Reads a clause file (DIMACS CNF). What it gives is a preference file with one class: its models
+    /// are the sets that satisfy the clauses, its preferred states the least of them by subset.
+    ///
+    /// ```
+    /// # use rigtomato::{Program, LARGEST_BUDGET};
+    /// let file = Program::read_clauses(b"c v1 or v3, v3 if v1\np cnf 3 2\n1 3 0\n-1 3 0\n")?;
+    /// assert_eq!(file.names().collect::<Vec<_>>(), ["v1", "v3"]);
+    /// assert_eq!(file.states(LARGEST_BUDGET).collect::<Result<Vec<_>, _>>(), Ok(vec![2]));
+    /// # Ok::<(), rigtomato::TextRefusal>(())
+    /// ```
+    pub fn read_clauses(text: &[u8]) -> Result<Program, TextRefusal> {
+        Program::read_by(lent::read_clauses, text)
+    }
+
+    fn read_by(read: ReadLent, text: &[u8]) -> Result<Program, TextRefusal> {
         let mut rules = vec![0; RULES_LIMIT];
         let mut names = vec![0; NAMES_LIMIT];
-        let accepted = lent::read(text, &mut rules, &mut names)?;
+        let accepted = read(text, &mut rules, &mut names)?;
         rules.truncate(accepted.words);
         names.truncate(accepted.bytes);
         Ok(Program { rules, names })

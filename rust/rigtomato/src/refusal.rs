@@ -3,7 +3,7 @@
 use std::error::Error;
 use std::fmt;
 
-/// A refusal. Its number, `refusal as u64`, is document 01's.
+/// A refusal. Its number, `refusal as u64`, is document 01's; from 15 on it is document 02's.
 #[derive(Clone, Copy, Debug, PartialEq, Eq)]
 pub enum Refusal {
     TextTooLong = 1,
@@ -20,10 +20,12 @@ pub enum Refusal {
     SetTooLarge = 12,
     BudgetTooLarge = 13,
     NameStore = 14,
+    BrokenClauses = 15,
+    LiteralBeyond = 16,
 }
 
 impl Refusal {
-    const ALL: [Refusal; 14] = [
+    const ALL: [Refusal; 16] = [
         Refusal::TextTooLong,
         Refusal::Form,
         Refusal::Name,
@@ -38,6 +40,8 @@ impl Refusal {
         Refusal::SetTooLarge,
         Refusal::BudgetTooLarge,
         Refusal::NameStore,
+        Refusal::BrokenClauses,
+        Refusal::LiteralBeyond,
     ];
 
     /// The refusal with this number. The library gives no other.
@@ -65,6 +69,10 @@ impl Refusal {
             Refusal::SetTooLarge => "the set number or the start is too large",
             Refusal::BudgetTooLarge => "the budget is over 2^40",
             Refusal::NameStore => "the name store does not fit the rule store",
+            Refusal::BrokenClauses => {
+                "the header, a clause or a line's end is broken, or the count of clauses differs"
+            }
+            Refusal::LiteralBeyond => "a literal is beyond the header's atoms",
         }
     }
 }

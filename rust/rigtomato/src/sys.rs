@@ -40,6 +40,14 @@ extern "C" {
         names: *mut u8,
         names_len: usize,
     ) -> ReadAnswer;
+    pub fn rigtomato_read_clauses(
+        text: *const u8,
+        text_len: usize,
+        rules: *mut u16,
+        rules_len: usize,
+        names: *mut u8,
+        names_len: usize,
+    ) -> ReadAnswer;
     pub fn rigtomato_write(
         rules: *const u16,
         rules_len: usize,

@@ -1,6 +1,7 @@
 //! The table of commands. Help and dispatch are made from it.
 
 mod check;
+mod clauses;
 mod solve;
 mod states;
 mod translate;
@@ -60,6 +61,14 @@ pub const COMMANDS: &[Command] = &[
         takes_atoms: true,
         more: verdicts::MORE_ON_STABLE,
         run: verdicts::stable,
+    },
+    Command {
+        name: "clauses",
+        does: "print the preference file that a clause file (DIMACS CNF) gives",
+        options: &[],
+        takes_atoms: false,
+        more: clauses::MORE,
+        run: clauses::run,
     },
     Command {
         name: "solve",

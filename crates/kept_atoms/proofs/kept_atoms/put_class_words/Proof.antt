@@ -9,26 +9,26 @@ enum-told c = search needs
 enum-told-2 : tie.Need-enum-told-2
 enum-told-2 c = search needs
 
-add-put-copies : tie.Need-add-put-copies
-add-put-copies c = search needs
+add-emit-copies : tie.Need-add-emit-copies
+add-emit-copies c = search needs
 
-cast-put-copies : tie.Need-cast-put-copies
-cast-put-copies c = search needs
+cast-emit-copies : tie.Need-cast-emit-copies
+cast-emit-copies c = search needs
 
-put-copies-requires : tie.Need-put-copies-requires
-put-copies-requires c κs = search needs
+emit-copies-requires : tie.Need-emit-copies-requires
+emit-copies-requires c κs = search needs
 
 enum-told-3 : tie.Need-enum-told-3
 enum-told-3 c = search needs
 
-put-copies-requires-2 : tie.Need-put-copies-requires-2
-put-copies-requires-2 c κs = search needs
+emit-copies-requires-2 : tie.Need-emit-copies-requires-2
+emit-copies-requires-2 c κs = search needs
 
 enum-told-4 : tie.Need-enum-told-4
 enum-told-4 c = search needs
 
-put-copies-requires-3 : tie.Need-put-copies-requires-3
-put-copies-requires-3 c κs = search needs
+emit-copies-requires-3 : tie.Need-emit-copies-requires-3
+emit-copies-requires-3 c κs = search needs
 
 returns : tie.Need-returns
 returns c = no-class-words (c .before .before .before .args .classes) (c .before .before .before .args .count) (c .enum-told .given .1)
@@ -37,19 +37,19 @@ same-length : tie.Need-same-length
 same-length c = search needs
 
 returns-2 : tie.Need-returns-2
-returns-2 c = min-words (c .before .before .before .before .before .before .before .args .classes) (c .before .before .before .before .before .before .before .args .count) (c .before .before .before .before .enum-told2 .given .1) (c .before .before .put-copies .ensures)
+returns-2 c = min-words (c .before .before .before .before .before .before .before .args .classes) (c .before .before .before .before .before .before .before .args .count) (c .before .before .before .before .enum-told2 .given .1) (c .before .before .emit-copies .ensures)
 
 same-length-2 : tie.Need-same-length-2
 same-length-2 c = search needs
 
 returns-3 : tie.Need-returns-3
-returns-3 c = vary-words (c .before .before .before .before .before .before .before .args .classes) (c .before .before .before .before .before .before .before .args .count) (c .before .before .before .before .enum-told3 .given .1) (c .before .before .put-copies2 .ensures)
+returns-3 c = vary-words (c .before .before .before .before .before .before .before .args .classes) (c .before .before .before .before .before .before .before .args .count) (c .before .before .before .before .enum-told3 .given .1) (c .before .before .emit-copies2 .ensures)
 
 same-length-3 : tie.Need-same-length-3
 same-length-3 c = search needs
 
 returns-4 : tie.Need-returns-4
-returns-4 c = fix-words (c .before .before .before .before .before .before .before .args .classes) (c .before .before .before .before .before .before .before .args .count) (c .before .before .before .before .enum-told4 .given .1) (c .before .before .put-copies3 .ensures)
+returns-4 c = fix-words (c .before .before .before .before .before .before .before .args .classes) (c .before .before .before .before .before .before .before .args .count) (c .before .before .before .before .enum-told4 .given .1) (c .before .before .emit-copies3 .ensures)
 
 pub put-class-words-spec : {M : Type 1} → statement M
 put-class-words-spec =
@@ -57,13 +57,13 @@ put-class-words-spec =
     (tie.spec
     enum-told
     enum-told-2
-    add-put-copies
-    cast-put-copies
-    put-copies-requires
+    add-emit-copies
+    cast-emit-copies
+    emit-copies-requires
     enum-told-3
-    put-copies-requires-2
+    emit-copies-requires-2
     enum-told-4
-    put-copies-requires-3
+    emit-copies-requires-3
     returns
     same-length
     returns-2

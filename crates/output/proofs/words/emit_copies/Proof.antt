@@ -1,16 +1,16 @@
 use Prim.Native.Nat.{_-_}
 use mathlib.Core.Path.{_≡_, refl, _∙_}
 use lib.ListN.{length}
-use Rattle.kept_atoms.proofs.KeptAtoms.{Copying, copying, copy-range, copied, copy-again}
+use Rattle.output.proofs.Copies.{Copies, copying, copy-range, copied, copy-again}
 use native.Mathlib.Omega.{arith}
-use Rattle.kept_atoms.proofs.kept_atoms.put_copies.Statement.{statement}
-use Rattle.kept_atoms.proofs.kept_atoms.put_copies.Tie as tie
+use Rattle.output.proofs.words.emit_copies.Statement.{statement}
+use Rattle.output.proofs.words.emit_copies.Tie as tie
 
 abbrev Inv-loop : tie.InvT-loop
-Inv-loop w count words₀ at end₀ i₀ words end i = (length words ≡ length words₀) × Copying words₀ at w count words end i
+Inv-loop word count out₀ at next₀ i₀ out next i = (length out ≡ length out₀) × Copies out₀ at word count out next i
 
 abbrev μ-loop : tie.MeasureT-loop
-μ-loop w count words₀ at end₀ i₀ words end i = count - i
+μ-loop word count out₀ at next₀ i₀ out next i = count - i
 
 loop-holds : tie.Need-loop-holds Inv-loop μ-loop
 loop-holds c = (refl, copying _ _ _ _ (c .before .pre))
@@ -33,8 +33,8 @@ same-length c = c .before .loop .inv .0
 returns : tie.Need-returns Inv-loop μ-loop
 returns c = copied (c .before .loop .inv .1) (c .loop-test .left)
 
-pub put-copies-spec : {M : Type 1} → statement M
-put-copies-spec =
+pub emit-copies-spec : {M : Type 1} → statement M
+emit-copies-spec =
     tie.close
     (tie.spec
     Inv-loop

@@ -1,0 +1,88 @@
+-- The first item from a place on, and those behind it.
+use Prim.Native.Nat.{ℕ, zero, suc, _+_, _<_, _≤_}
+use native.Mathlib.Omega.{arith}
+use native.Mathlib.Decide.{decLt}
+use mathlib.Core.Path.{_≡_, sym, ap, _∙_, subst}
+use mathlib.Core.List.{List, [], _∷_}
+use mathlib.Core.Bool.{Bool, true, false}
+use lib.ListN.{length, getD, take, drop, length-drop, drop-of-length-le}
+use lib.Seq.{drop-cons, drop-drop, length-take-le}
+use Rattle.rules.proofs.Booleans.{T-of}
+use Rattle.name_store.specs.NameStore.{sameBytes}
+use Rattle.name_store.proofs.NameStores.{same-equal}
+use Rattle.name_store.proofs.ByteLoops.{other-length}
+use Rattle.lines.specs.Forms.{begins}
+use Rattle.clauses.specs.Numerals.{numeral?}
+use Rattle.clauses.specs.Items.{run, itemsFrom, items}
+use Rattle.clause_items.specs.Found.{gap, front}
+use Rattle.clause_items.proofs.Gaps.{run-le, run-goes-on, behind-gap, item-byte, items-gap, items-first}
+use Rattle.clause_items.proofs.FoundNumbers.{NumberAt}
+
+-- no item, or a first one that fails the test
+abbrev pub Fails : (List ℕ → Bool) → List (List ℕ) → Type 0
+Fails p [] = Unit {0}
+Fails p (x ∷ xs) = p x ≡ false
+
+-- the item x stands first from `at` on, and ends before `to`
+pub record First (line : List ℕ) (at : ℕ) (x : List ℕ) (to : ℕ) : Type 0 where
+  pub items-are : items (drop at line) ≡ x ∷ items (drop to line)
+  pub further : at < to
+  pub inside : to ≤ length line
+
+module _ (line : List ℕ) (at : ℕ) {from : ℕ} (q : from ≡ at + gap (drop at line)) where
+  items-from : items (drop at line) ≡ items (drop from line)
+  items-from = items-gap (drop at line) ∙ ap items (behind-gap line at q)
+
+  pub items-none : length line ≤ from → items (drop at line) ≡ []
+  unfolding items itemsFrom
+  items-none l = items-from ∙ ap items (drop-of-length-le line l)
+
+  items-some : from < length line → items (drop at line) ≡ front (drop from line) ∷ items (drop (from + run (drop from line)) line)
+  items-some l =
+      let e = drop-cons line from 0 l in
+      items-from
+      ∙ ap items e
+      ∙ items-first (getD line from 0) (drop (suc from) line) (item-byte line at q l)
+      ∙ ap (λ (s : List ℕ). front s ∷ items (drop (run s) s)) (sym e)
+      ∙ ap (λ (s : List ℕ). front (drop from line) ∷ items s) (drop-drop (run (drop from line)) from line)
+
+  pub first-is : from < length line → First line at (front (drop from line)) (from + run (drop from line))
+  first-is l = record {
+    items-are = items-some l;
+    further = omega (arith, run-goes-on line from l (item-byte line at q l));
+    inside = omega (arith, run-le (drop from line), length-drop from line);
+  }
+
+  pub first-fails : (p : List ℕ → Bool) → p (front (drop from line)) ≡ false → Fails p (items (drop at line))
+  first-fails p e = go (decLt from (length line))
+    where
+      go : Dec (from < length line) → Fails p (items (drop at line))
+      go (yes l) = subst (Fails p) (sym (first-is l .items-are)) e
+      go (no l) = subst (Fails p) (sym (items-none (omega arith))) tt
+
+  some-run : 0 < run (drop from line) → from < length line
+  some-run h = omega (arith, run-le (drop from line), length-drop from line)
+
+  pub first-word : (w : List ℕ) → 0 < length w → {r : Bool} → r ≡ sameBytes (front (drop from line)) w → r ≡ true → First line at w (from + length w)
+  first-word w l e t =
+      let s = same-equal (front (drop from line)) w (T-of (sym t ∙ e) tt) in
+      let n : run (drop from line) ≡ length w = sym (length-take-le (run (drop from line)) (drop from line) (run-le (drop from line))) ∙ ap length s in
+      rw (← n, ← s) (first-is (some-run (omega arith)))
+
+  pub first-number : {v to : ℕ} → NumberAt (drop from line) from v to → First line at (front (drop from line)) to
+  first-number {v} {to} n = rw (n .place) (first-is (some-run (some-bytes (run (drop from line)) (n .numeral))))
+    where
+      some-bytes : (k : ℕ) → numeral? (take k (drop from line)) ≡ true → 0 < k
+      some-bytes zero e = absurd (let z : _≡_ {A = ℕ} 0 1 = cc in omega arith)
+      some-bytes (suc k) e = omega arith
+
+-- a word
+module _ (s w : List ℕ) {n : ℕ} (e : n ≡ run s) where
+  long : length (front s) ≡ n
+  long = length-take-le (run s) s (run-le s) ∙ sym e
+
+  pub other-word : (n ≡ length w → ⊥) → false ≡ sameBytes (front s) w
+  other-word h = other-length (front s) w (λ q. h (sym long ∙ q))
+
+  pub same-word : n ≡ length w → {r : Bool} → r ≡ begins w s → r ≡ sameBytes (front s) w
+  same-word h q = q ∙ ap (λ (k : ℕ). sameBytes (take k s) w) (sym h ∙ e)

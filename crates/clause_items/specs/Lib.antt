@@ -1,0 +1,3 @@
+-- What the code finds at a place of a line.
+pub mod Found
+pub mod DigitRuns

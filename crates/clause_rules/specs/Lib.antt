@@ -1,0 +1,3 @@
+-- What the scratch holds of the clauses so far.
+pub mod HeldClauses
+pub mod AsPreference

@@ -1,0 +1,53 @@
+-- A number's decimal digits: few enough, digits all, and they say that number.
+use Prim.Native.Nat.{ℕ, zero, suc, _+_, _-_, _*_, _/_, _%_, _^_, _≤_, _<_}
+use native.Mathlib.Omega.{arith}
+use mathlib.Core.Path.{_≡_, refl, sym, ap, _∙_}
+use mathlib.Core.List.{List, [], _∷_, _++_}
+use mathlib.Core.Bool.{Bool, true, false, cond}
+use lib.Dec.{T, leb, ltb, le→leb}
+use lib.ListN.{length, length-append}
+use borrow.Author.Tests.{ltb-true}
+use Rattle.kinds.specs.Words.{digits, decimal}
+use Rattle.rules.specs.Lists.{All}
+use Rattle.rules.proofs.Booleans.{T-and}
+use Rattle.rules.proofs.Lists.{all-app}
+use Rattle.names.specs.Names.{digit?}
+use Rattle.clauses.specs.Numerals.{valueFrom, value}
+
+pub digits-few : (f x : ℕ) → length (digits f x) ≤ f
+unfolding digits
+digits-few zero x = omega arith
+digits-few (suc f) x = go (ltb x 10) (digits-few f (x / 10))
+  where
+    go : (b : Bool) → length (digits f (x / 10)) ≤ f → length (cond b ((48 + x) ∷ []) (digits f (x / 10) ++ ((48 + x % 10) ∷ []))) ≤ suc f
+    go true h = omega arith
+    go false h = omega (arith, length-append (digits f (x / 10)) ((48 + x % 10) ∷ []))
+
+is-digit : (d : ℕ) → d < 10 → T (digit? (48 + d))
+is-digit d l = T-and (leb 48 (48 + d)) (leb (48 + d) 57) (le→leb 48 (48 + d) (omega arith)) (le→leb (48 + d) 57 (omega arith))
+
+pub digits-all : (f x : ℕ) → All (λ b. T (digit? b)) (digits f x)
+unfolding digits
+digits-all zero x = tt
+digits-all (suc f) x = go (ltb x 10) refl (digits-all f (x / 10))
+  where
+    go : (b : Bool) → ltb x 10 ≡ b → All (λ b. T (digit? b)) (digits f (x / 10)) → All (λ b. T (digit? b)) (cond b ((48 + x) ∷ []) (digits f (x / 10) ++ ((48 + x % 10) ∷ [])))
+    go true e h = (is-digit x (ltb-true x 10 e), tt)
+    go false e h = all-app (λ b. T (digit? b)) (digits f (x / 10)) ((48 + x % 10) ∷ []) h (is-digit (x % 10) (omega arith), tt)
+
+-- digits behind digits
+value-app : (v : ℕ) (xs ys : List ℕ) → valueFrom v (xs ++ ys) ≡ valueFrom (valueFrom v xs) ys
+value-app v [] ys = refl
+value-app v (x ∷ xs) ys = value-app (10 * v + (x - 48)) xs ys
+
+pub value-digits : (f x : ℕ) → x < 10 ^ f → value (digits f x) ≡ x
+unfolding digits value
+value-digits zero x l = omega arith
+value-digits (suc f) x l = go (ltb x 10) (value-digits f (x / 10) (omega arith))
+  where
+    go : (b : Bool) → valueFrom 0 (digits f (x / 10)) ≡ x / 10 → valueFrom 0 (cond b ((48 + x) ∷ []) (digits f (x / 10) ++ ((48 + x % 10) ∷ []))) ≡ x
+    go true h = omega arith
+    go false h = value-app 0 (digits f (x / 10)) ((48 + x % 10) ∷ []) ∙ omega arith
+
+pub decimal-inj : (x y : ℕ) → x < 10 ^ 20 → y < 10 ^ 20 → decimal x ≡ decimal y → x ≡ y
+decimal-inj x y l u e = sym (value-digits 20 x l) ∙ ap value e ∙ value-digits 20 y u
