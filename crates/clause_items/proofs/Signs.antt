@@ -3,10 +3,11 @@ use Prim.Native.Nat.{ℕ, zero, suc, _+_, _<_, _≤_}
 use native.Mathlib.Omega.{arith}
 use mathlib.Core.Path.{_≡_, refl, sym, ap, ap₂, _∙_}
 use mathlib.Core.List.{List, _∷_}
-use mathlib.Core.Bool.{Bool, true, false, cond}
+use mathlib.Core.Bool.{Bool, true, false, cond, not}
+use lib.Dec.{eqb}
 use lib.ListN.{length, getD, drop, drop-of-length-le}
 use lib.Seq.{drop-cons}
-use borrow.Author.Tests.{eq-eqb, ne-eqb}
+use borrow.Author.Tests.{eq-eqb, ne-eqb, eqb-true, eqb-false}
 use Rattle.clauses.specs.Numerals.{numeral?, value}
 use Rattle.clauses.specs.Items.{run}
 use Rattle.clauses.specs.Literals.{signed}
@@ -80,3 +81,12 @@ module _ (line : List ℕ) (at : ℕ) {from : ℕ} (q : from ≡ at + gap (drop 
     pub item-plain : (getD line from 0 ≡ 45 → ⊥) → {r : Item} → r ≡ signedItem true (drop from line) from → r ≡ itemAt at (drop at line)
     item-plain e p =
         p ∙ ap (λ (k : Token). tokenItem k (from + run (drop from line))) (sym (plain-token e)) ∙ sym item-token
+
+    -- by the place behind a sign
+    pub item-signed : (b : Bool) → eqb (getD line from 0) 45 ≡ b → {k : ℕ} → k ≡ cond (not b) from (from + 1) → {r : Item} → r ≡ signedItem (not b) (drop k line) k → r ≡ itemAt at (drop at line)
+    item-signed true e f p = item-minus (eqb-true (getD line from 0) 45 e) (p ∙ ap (λ (x : ℕ). signedItem false (drop x line) x) f)
+    item-signed false e f p = item-plain (eqb-false (getD line from 0) 45 e) (p ∙ ap (λ (x : ℕ). signedItem true (drop x line) x) f)
+
+    pub past-sign-inside : (b : Bool) {k : ℕ} → k ≡ cond b from (from + 1) → k ≤ length line
+    past-sign-inside true e = omega arith
+    past-sign-inside false e = omega arith

@@ -4,7 +4,7 @@ use crate::numbers::number_at;
 use crate::numbers::skip;
 ghost use mathlib.Core.Path.{_≡_};
 ghost use mathlib.Core.Bool.{cond};
-ghost use Prim.Native.Nat.{_+_, _≤_};
+ghost use Prim.Native.Nat.{_+_, _^_, _≤_, _<_};
 ghost use lib.ListN.{length, drop};
 ghost use Rattle.clauses.specs.Items.{run};
 ghost use Rattle.clauses.specs.Literals.{signed};
@@ -47,6 +47,14 @@ fn signed_at(line: &[u8], at: usize, positive: bool) -> Item
     Item::Broken
 }
 
+// The place behind a `-`, if it stands at `at`. No branch on it: signs are as good as random.
+fn past_sign(at: usize, positive: bool) -> usize
+    requires { ⌜ at < 2 ^ 63 ⌝ }
+    ensures { λ r. ⌜ r ≡ cond positive at (at + 1) ⌝ }
+{
+    if positive { at } else { at + 1 }
+}
+
 pub fn item_at(line: &[u8], at: usize) -> Item
     requires { ⌜ at ≤ length (now line) ⌝ }
     ensures { λ r. ⌜ r ≡ itemAt at (drop at (now (line .entry))) ⌝ }
@@ -55,8 +63,6 @@ pub fn item_at(line: &[u8], at: usize) -> Item
     if line.len() <= from {
         return Item::Stop;
     }
-    if line[from] == b'-' {
-        return signed_at(line, from + 1, false);
-    }
-    signed_at(line, from, true)
+    let positive = line[from] != b'-';
+    signed_at(line, past_sign(from, positive), positive)
 }

@@ -1,14 +1,13 @@
 -- What an item of a line of clauses adds to what the scratch holds.
 use Prim.Native.Nat.{ℕ, suc, _+_, _≤_, _<_}
 use native.Mathlib.Omega.{arith}
-use native.Mathlib.Numerals.{add-one}
 use mathlib.Core.Path.{_≡_, refl, sym, ap, ap₂, _∙_, subst}
 use mathlib.Core.Bool.{Bool, true, false, cond, _&&_}
 use mathlib.Core.List.{List, [], _∷_}
 use lib.Dec.{T, eqb, leb, ltb}
 use lib.ListN.{length, drop}
 use borrow.Author.Tests.{eqb-true, eqb-false, ne-eqb, lt-ltb, le-ltb}
-use Rattle.kinds.specs.Limits.{atomLimit, occurrenceLimit}
+use Rattle.kinds.specs.Limits.{occurrenceLimit}
 use Rattle.kinds.specs.declared.limits.Kind.the-variants.{Preference}
 use Rattle.kinds.specs.declared.refusals.Refusal.{Refusal}
 use Rattle.kinds.specs.declared.refusals.Refusal.the-variants.{BrokenClauses}
@@ -17,7 +16,7 @@ use Rattle.rules.proofs.Booleans.{both-true}
 use Rattle.clauses.specs.Literals.{Literal, signed, atomOf}
 use Rattle.clauses.specs.Tokens.{literal, ends, wrong?, lineTokens}
 use Rattle.clauses.specs.Gathered.{Gathered, withLiteral, withEnd, closed?, begun, occurrencesIn}
-use Rattle.clauses.specs.Faults.{next, fault, headed, clauseLine}
+use Rattle.clauses.specs.Faults.{fault, clauseLine}
 use Rattle.clause_items.specs.Found.{capped, itemAt, TokenAt, ItemSays}
 use Rattle.clause_items.specs.declared.items.Item.{Item}
 use Rattle.clause_items.specs.declared.items.Item.the-variants as Item
@@ -26,7 +25,7 @@ use Rattle.clause_items.proofs.CappedLaws.{capped-same, capped-over}
 use Rattle.clause_rules.specs.declared.clause.ClauseCounts.{ClauseCounts}
 use Rattle.clause_rules.specs.declared.clause.Taken.{Taken}
 use Rattle.clause_rules.specs.declared.clause.Taken.the-variants as Taken
-use Rattle.clause_rules.specs.HeldClauses.{held, HeldClauses, Marked, SameHeader, TakenSays, TakenIs, EndedAs}
+use Rattle.clause_rules.specs.HeldClauses.{held, HeldClauses, SameHeader, TakenSays, TakenIs, EndedAs}
 use Rattle.clause_rules.proofs.HeldGathered.{held-clauses-is}
 use Rattle.clause_rules.proofs.LiteralMarks.{marked-end}
 use Rattle.clause_reader.specs.declared.clause_line.Progress.{Progress}
@@ -42,11 +41,13 @@ no-entry (x ∷ xs) {n} e = ne-eqb n 0 (λ z. absurd (let q : suc (length xs) �
 
 -- the test of the counts is that of what is gathered
 pub full-is : {g : Gathered} {c : ClauseCounts} {words bodies : List ℕ} → HeldClauses g c words bodies → full? c ≡ (closed? g && eqb (length (g .rules)) (c .clauses))
-full-is {g} {c} h = rw (no-entry (g .heads) (h .heads-are), no-entry (g .bodies) (h .bodies-are), sym (h .rules-are)) (assoc (empty? (g .heads)) (empty? (g .bodies)) (eqb (c .rules) (c .clauses)))
+full-is {g} {c} h = rw (no-entry (g .heads) (h .heads-are), no-entry (g .bodies) (h .bodies-are), sym (h .rules-are)) (and-comm (eqb (c .rules) (c .clauses)) (empty? (g .heads) && empty? (g .bodies)))
   where
-    assoc : (a b d : Bool) → (a && (b && d)) ≡ ((a && b) && d)
-    assoc true b d = refl
-    assoc false b d = refl
+    and-comm : (a b : Bool) → (a && b) ≡ (b && a)
+    and-comm true true = refl
+    and-comm true false = refl
+    and-comm false true = refl
+    and-comm false false = refl
 
 module _ {g : Gathered} {c : ClauseCounts} {words bodies marks : List ℕ} (k : Gathers g c words bodies marks) where
   pub surplus : full? c ≡ true → c .clauses < suc (length (g .rules))

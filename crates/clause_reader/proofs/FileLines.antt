@@ -2,13 +2,13 @@
 use Prim.Native.Nat.{ℕ, zero, suc, _+_, _-_, _≤_, _<_, zero-le}
 use native.Mathlib.Omega.{arith}
 use mathlib.Core.Path.{_≡_, refl, sym, ap, ap₂, _∙_, subst}
-use mathlib.Core.Bool.{Bool, true, false, cond, not}
+use mathlib.Core.Bool.{true, false}
 use mathlib.Core.List.{List, [], _∷_, map}
 use lib.Dec.{T, eqb}
 use lib.ListN.{length, getD, drop, drop-of-length-le}
 use lib.Seq.{drop-cons}
 use borrow.Author.Tests.{eq-eqb, ne-eqb}
-use Rattle.kinds.specs.Limits.{atomLimit, ruleLimit, occurrenceLimit}
+use Rattle.kinds.specs.Limits.{atomLimit, ruleLimit}
 use Rattle.kinds.specs.Words.{byte, line-end}
 use Rattle.kinds.specs.declared.limits.Kind.the-variants.{Preference}
 use Rattle.kinds.specs.declared.refusals.Refusal.the-variants.{BrokenClauses, Limit}
@@ -22,12 +22,12 @@ use Rattle.clause_items.specs.declared.header.Header.{Header}
 use Rattle.clause_items.specs.declared.header.Header.the-variants as Header
 use Rattle.clause_items.proofs.Gaps.{from-inside, item-byte, behind-gap, items-gap, items-first}
 use Rattle.clause_rules.specs.declared.clause.ClauseCounts.{ClauseCounts}
-use Rattle.clause_rules.specs.HeldClauses.{held, HeldClauses, Started}
+use Rattle.clause_rules.specs.HeldClauses.{Started}
 use Rattle.clause_rules.proofs.HeldGathered.{held-clauses-is}
-use Rattle.clause_reader.specs.declared.clause_line.Reading.the-variants.{Unheaded, Headed}
+use Rattle.clause_reader.specs.declared.clause_line.Reading.the-variants.{Headed}
 use Rattle.clause_reader.specs.declared.clause_line.Line.{Line}
 use Rattle.clause_reader.specs.declared.clause_line.Line.the-variants.{Next, Fault}
-use Rattle.clause_reader.specs.Reading.{Gathers, Empty, LineSays, LineIs}
+use Rattle.clause_reader.specs.Reading.{Gathers, Empty, LineIs}
 
 -- the last byte
 pub last-byte : (l : List ℕ) (i : ℕ) → length l ≡ suc i → ended? l ≡ eqb (getD l i 0) line-end

@@ -2,7 +2,6 @@
 use Prim.Native.Nat.{ℕ, suc, _≤_, _<_}
 use native.Mathlib.Omega.{arith}
 use mathlib.Core.Path.{_≡_, refl, sym, ap, ap₂, _∙_, subst}
-use mathlib.Core.Logic.{_↔_}
 use mathlib.Core.Bool.{Bool, true, false, cond, _||_}
 use mathlib.Core.List.{List, [], _∷_}
 use lib.Dec.{ltb, leb}
@@ -14,7 +13,7 @@ use Rattle.kinds.specs.declared.refusals.Refusal.the-variants.{BrokenClauses, L
 use Rattle.rules.specs.Lists.{some}
 use Rattle.clauses.specs.Items.{items, itemsFrom}
 use Rattle.clauses.specs.Literals.{Literal, atomOf, signed}
-use Rattle.clauses.specs.Tokens.{Token, literal, ends, wrong, wrong?, beyond?, lineTokens}
+use Rattle.clauses.specs.Tokens.{Token, literal, ends, wrong?, beyond?, lineTokens}
 use Rattle.clause_items.specs.Found.{capped, itemAt, TokenAt, ItemSays}
 use Rattle.clause_items.specs.declared.items.Item.{Item}
 use Rattle.clause_items.specs.declared.items.Item.the-variants as Item

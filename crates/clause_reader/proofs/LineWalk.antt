@@ -6,7 +6,7 @@ use mathlib.Core.List.{List}
 use lib.ListN.{length, drop}
 use Rattle.kinds.specs.declared.refusals.Refusal.{Refusal}
 use Rattle.clauses.specs.Tokens.{lineTokens}
-use Rattle.clauses.specs.Faults.{Step, headed, next, fault, clauseLine}
+use Rattle.clauses.specs.Faults.{Step, clauseLine}
 use Rattle.clause_rules.specs.declared.clause.ClauseCounts.{ClauseCounts}
 use Rattle.clause_rules.specs.HeldClauses.{held}
 use Rattle.clause_reader.specs.declared.clause_line.Reading.the-variants.{Headed}

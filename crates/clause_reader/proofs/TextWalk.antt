@@ -11,13 +11,11 @@ use Rattle.kinds.specs.declared.refusals.Refusal.{Refusal}
 use Rattle.kinds.specs.declared.refusals.Refusal.the-variants.{BrokenClauses}
 use Rattle.rules.proofs.Booleans.{both-true}
 use Rattle.lines.specs.Lines.{lineLength, linesFrom, lines}
-use Rattle.lines.specs.Said.{Said, accepted, refused}
+use Rattle.lines.specs.Said.{Said}
 use Rattle.lines.proofs.LinePlaces.{line, line-inside, lines-at}
 use Rattle.clauses.specs.Gathered.{closed?}
-use Rattle.clauses.specs.Faults.{State, unheaded, stepLine}
-use Rattle.clauses.specs.Written.{clauseNames, clauseProgram}
+use Rattle.clauses.specs.Faults.{unheaded, stepLine}
 use Rattle.clauses.specs.ClausesSaid.{onStep, readLines}
-use Rattle.clause_rules.specs.declared.clause.ClauseCounts.{ClauseCounts}
 use Rattle.clause_rules.specs.HeldClauses.{held}
 use Rattle.clause_reader.specs.declared.clause_line.Reading.{Reading}
 use Rattle.clause_reader.specs.declared.clause_line.Reading.the-variants.{Unheaded, Headed}
@@ -25,7 +23,7 @@ use Rattle.clause_reader.specs.declared.clause_line.Line.{Line}
 use Rattle.clause_reader.specs.declared.clause_line.Line.the-variants.{Next, Fault}
 use Rattle.clause_reader.specs.declared.reading.Gather.{Gather}
 use Rattle.clause_reader.specs.declared.reading.Gather.the-variants.{Whole, Refused}
-use Rattle.clause_reader.specs.Reading.{stateOf, InClauses, Empty, HeldReading, full?, LineSays, LineIs, passedOn, atEnd, GatherSays, GatherIs}
+use Rattle.clause_reader.specs.Reading.{stateOf, Empty, HeldReading, full?, LineSays, LineIs, passedOn, atEnd, GatherSays, GatherIs}
 use Rattle.clause_reader.proofs.ClauseSteps.{full-is}
 
 -- what the whole text says, with all atoms of the header

@@ -1,23 +1,24 @@
 -- A line of clauses, one token after another.
 use Prim.Native.Nat.{ℕ, suc, _+_, _≤_, _<_}
 use native.Mathlib.Omega.{arith}
-use mathlib.Core.Path.{_≡_, refl, sym, ap, ap₂, _∙_, subst}
+use mathlib.Core.Path.{_≡_, refl, sym, ap, ap₂, _∙_}
 use mathlib.Core.Bool.{Bool, true, false, cond, not, _&&_, _||_}
 use mathlib.Core.List.{List, [], _∷_, _++_}
-use lib.Dec.{ltb, leb}
+use lib.Dec.{ltb}
 use lib.ListN.{length, length-append}
 use borrow.Author.Tests.{lt-ltb, le-ltb}
 use Rattle.kinds.specs.Limits.{occurrenceLimit}
 use Rattle.kinds.specs.declared.limits.Kind.the-variants.{Preference}
 use Rattle.kinds.specs.declared.refusals.Refusal.{Refusal}
 use Rattle.kinds.specs.declared.refusals.Refusal.the-variants.{BrokenClauses, LiteralBeyond, Limit}
-use Rattle.rules.specs.Lists.{some, sum, empty?}
-use Rattle.rules.specs.Rules.{Rule, rule, occurrences}
+use Rattle.rules.specs.Lists.{some, empty?}
+use Rattle.rules.specs.Rules.{rule}
 use Rattle.restriction.specs.Atoms.{member?}
+use Rattle.gathering.proofs.HeldState.{sum-last}
 use Rattle.clauses.specs.Literals.{Literal, positive, negative}
 use Rattle.clauses.specs.Tokens.{Token, literal, ends, wrong, wrong?, beyond?}
 use Rattle.clauses.specs.Gathered.{Gathered, once, withLiteral, withEnd, withToken, withTokens, closed?, begun, occurrencesIn}
-use Rattle.clauses.specs.Faults.{Step, next, fault, headed, first, clauseLine}
+use Rattle.clauses.specs.Faults.{next, fault, headed, first, clauseLine}
 use Rattle.clause_reader.specs.Later.{begunAfter, laterRefusal}
 
 -- a list with an atom once is not empty
@@ -74,10 +75,6 @@ after-more k u (wrong ∷ ts) = after-more k u ts
 
 pub begun-more : (g : Gathered) (ts : List Token) → begun g ≤ begun (withTokens g ts)
 begun-more g ts = omega (arith, begun-after g ts, after-more (begun g) (not (closed? g)) ts)
-
-sum-last : (rs : List (Rule ℕ)) (r : Rule ℕ) → sum occurrences (rs ++ (r ∷ [])) ≡ sum occurrences rs + occurrences r
-sum-last [] r = omega arith
-sum-last (s ∷ rs) r = omega (arith, sum-last rs r)
 
 once-longer : (xs : List ℕ) (a : ℕ) → length xs ≤ length (once xs a)
 once-longer xs a = go (member? xs a)

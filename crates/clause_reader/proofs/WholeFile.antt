@@ -1,8 +1,7 @@
 -- What the clause reader answers and writes, from what its lines give.
-use Prim.Native.Nat.{ℕ, suc, _+_, _*_, _≤_, _<_}
+use Prim.Native.Nat.{ℕ, _+_, _*_, _≤_, _<_}
 use native.Mathlib.Omega.{arith}
-use mathlib.Core.Path.{_≡_, refl, sym, ap, ap₂, _∙_, subst}
-use mathlib.Core.Bool.{true}
+use mathlib.Core.Path.{_≡_, sym, ap, ap₂, _∙_, subst}
 use mathlib.Core.List.{List}
 use lib.ListN.{length, getD, replicate}
 use borrow.Author.Tests.{lt-leb, le-leb, ne-eqb}
@@ -17,7 +16,7 @@ use Rattle.name_store.specs.NameStore.{encodeNames}
 use Rattle.output.specs.Emitted.{Emitted}
 use Rattle.restriction.specs.Remaining.{remaining, remainingNames}
 use Rattle.lines.specs.Lines.{lines}
-use Rattle.lines.specs.Said.{accepted, refused, whatRemains, programOf}
+use Rattle.lines.specs.Said.{accepted, whatRemains, programOf}
 use Rattle.gathering.specs.Gathered.{stateOf, Held}
 use Rattle.gathering.specs.declared.gathered.Gathered.{Gathered}
 use Rattle.gathering.proofs.HeldState.{held-is}
@@ -32,7 +31,7 @@ use Rattle.clauses.specs.Written.{clauseNames, clauseProgram}
 use Rattle.clauses.specs.ClausesSaid.{readLines, clausesTyped, clausesSaid}
 use Rattle.clauses.proofs.ClauseForms.{typed-form}
 use Rattle.clause_rules.specs.declared.clause.ClauseCounts.{ClauseCounts}
-use Rattle.clause_rules.specs.HeldClauses.{held, HeldClauses, Marked}
+use Rattle.clause_rules.specs.HeldClauses.{held}
 use Rattle.clause_rules.specs.AsPreference.{clauseState, clauseLines}
 use Rattle.clause_rules.proofs.ClauseNames.{names-count}
 use Rattle.clause_rules.proofs.HeldPreference.{held-preference}

@@ -53,7 +53,7 @@ HeldReading (Headed c) words bodies marks = InClauses c words bodies marks
 
 -- every clause of the header has come, and none is unended: an item would begin a surplus one
 abbrev pub full? : ClauseCounts → Bool
-full? c = eqb (c .heads) 0 && (eqb (c .bodies) 0 && eqb (c .rules) (c .clauses))
+full? c = eqb (c .rules) (c .clauses) && (eqb (c .heads) 0 && eqb (c .bodies) 0)
 
 -- what an item's answer says of the line from there on
 abbrev pub ProgressSays : List ℕ → ℕ → ClauseCounts → Gathered → List ℕ → List ℕ → List ℕ → Progress → Type 0

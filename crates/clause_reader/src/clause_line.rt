@@ -42,7 +42,7 @@ pub enum Progress {
 pub fn is_full(counts: ClauseCounts) -> bool
     ensures { λ r. ⌜ r ≡ full? counts ⌝ }
 {
-    counts.heads == 0 && (counts.bodies == 0 && counts.rules == counts.clauses)
+    counts.rules == counts.clauses && (counts.heads == 0 && counts.bodies == 0)
 }
 
 // The refusal of a line with a literal that ends at `at` and is past a limit.
