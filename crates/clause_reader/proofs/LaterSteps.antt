@@ -11,6 +11,7 @@ use Rattle.kinds.specs.Limits.{atomLimit}
 use Rattle.kinds.specs.declared.limits.Kind.the-variants.{Preference}
 use Rattle.kinds.specs.declared.refusals.Refusal.the-variants.{BrokenClauses, LiteralBeyond, Limit}
 use Rattle.rules.specs.Lists.{some}
+use Rattle.rules.proofs.Booleans.{or-assoc, or-true}
 use Rattle.clauses.specs.Items.{items, itemsFrom}
 use Rattle.clauses.specs.Literals.{Literal, atomOf, signed}
 use Rattle.clauses.specs.Tokens.{Token, literal, ends, wrong?, beyond?, lineTokens}
@@ -29,14 +30,6 @@ use Rattle.clause_reader.proofs.TokenSteps.{after-more}
 pub none-left : (line : List ℕ) (at : ℕ) → length line ≤ at → lineTokens (drop at line) ≡ []
 unfolding items itemsFrom
 none-left line at l = rw (drop-of-length-le line l)
-
-or-assoc : (a b c : Bool) → (a || (b || c)) ≡ ((a || b) || c)
-or-assoc true b c = refl
-or-assoc false b c = refl
-
-or-true : (a : Bool) → (a || true) ≡ true
-or-true true = refl
-or-true false = refl
 
 module _ (n m k : ℕ) (u b : Bool) where
   later-ends : (ts : List Token) → laterRefusal n m k u b (ends ∷ ts) ≡ laterRefusal n m (cond u k (suc k)) false b ts

@@ -45,18 +45,24 @@ pub fn is_full(counts: ClauseCounts) -> bool
     counts.rules == counts.clauses && (counts.heads == 0 && counts.bodies == 0)
 }
 
-// The refusal of a line with a literal that ends at `at` and is past a limit.
-fn past_limit(line: &[u8], at: usize, counts: ClauseCounts, beyond: bool) -> Refusal
-    requires { ⌜ (at ≤ length (now line)) × (counts .atoms ≤ atomLimit Kind.Preference) × (counts .rules < counts .clauses) × (counts .clauses ≤ ruleLimit Kind.Preference) ⌝ }
-    ensures { λ r. ⌜ r ≡ laterRefusal (counts .atoms) (counts .clauses) (counts .rules + 1) true beyond (lineTokens (drop at (now (line .entry)))) ⌝ }
+// The refusal of a line with a literal that ends at `at` and is past a limit. It takes the counts one by one, so that they stay in registers where none is.
+fn past_limit(
+    line: &[u8],
+    at: usize,
+    atoms: usize,
+    clauses: usize,
+    rules: usize,
+    beyond: bool,
+) -> Refusal
+    requires { ⌜ (at ≤ length (now line)) × (atoms ≤ atomLimit Kind.Preference) × (rules < clauses) × (clauses ≤ ruleLimit Kind.Preference) ⌝ }
+    ensures { λ r. ⌜ r ≡ laterRefusal atoms clauses (rules + 1) true beyond (lineTokens (drop at (now (line .entry)))) ⌝ }
 {
-    let begun = counts.rules + 1;
     let pending = Pending {
-        begun,
+        begun: rules + 1,
         unended: true,
         beyond,
     };
-    later_refusal(line, at, counts.atoms, counts.clauses, pending)
+    later_refusal(line, at, atoms, clauses, pending)
 }
 
 // A literal that ends at `to`.
@@ -76,15 +82,18 @@ fn read_literal(
     if is_full(counts) {
         return Progress::Fault(Refusal::BrokenClauses);
     }
-    if counts.atoms < number {
-        return Progress::Fault(past_limit(line, to, counts, true));
+    let atoms = counts.atoms;
+    let clauses = counts.clauses;
+    let rules = counts.rules;
+    if atoms < number {
+        return Progress::Fault(past_limit(line, to, atoms, clauses, rules, true));
     }
     match take_literal(counts, positive, number - 1, words, bodies, marks) {
         Taken::Next(after) => Progress::Next {
             counts: after,
             at: to,
         },
-        Taken::Full => Progress::Fault(past_limit(line, to, counts, false)),
+        Taken::Full => Progress::Fault(past_limit(line, to, atoms, clauses, rules, false)),
     }
 }
 
