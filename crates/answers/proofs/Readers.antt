@@ -16,10 +16,14 @@ use Rattle.name_store.specs.NameStore.{encodeNames}
 use Rattle.lines.specs.Said.{Said, accepted, refused, said}
 use Rattle.faults.specs.EarliestFault.{Refuses, Accepts}
 use Rattle.faults.proofs.EarliestFault.{said-refused, said-accepted}
+use Rattle.clauses.specs.ClausesSaid.{clausesSaid}
+use Rattle.clauses.specs.Sentences.{RefusesClauses, AcceptsClauses}
+use Rattle.clauses.proofs.ClauseSentences.{clauses-refused, clauses-accepted}
 use Rattle.answers.specs.declared.Read.{Read}
 use Rattle.answers.specs.declared.Read.the-variants.{Accepted, Refused as NotRead}
 use Rattle.answers.specs.Reading.{answerOf, writtenIf, rulesAfter, namesAfter, readAnswer, readRules, readNames}
-use Rattle.answers.specs.Refusals.{TooShort, NoRoom, Reads, ReadRefuses}
+use Rattle.answers.specs.ReadingClauses.{clausesAnswer, clausesRules, clausesNames}
+use Rattle.answers.specs.Refusals.{TooShort, NoRoom, Reads, ReadRefuses, ClausesRefuse}
 use Rattle.answers.proofs.Refusals.{past}
 use Rattle.rules.proofs.Booleans.{T-and-l, T-and-r}
 
@@ -110,3 +114,7 @@ module _ (Refuses : Refusal → ℕ → Type 0) (Accepts : Program → List (Lis
 pub read-refuses : (text rules names : List ℕ) → ReadRefuses text rules names
 unfolding readAnswer readRules readNames
 read-refuses text rules names = reads (Refuses text) (Accepts text) (said text) (said-refused text) (said-accepted text) rules names
+
+pub clauses-refuse : (text rules names : List ℕ) → ClausesRefuse text rules names
+unfolding clausesAnswer clausesRules clausesNames
+clauses-refuse text rules names = reads (RefusesClauses text) (AcceptsClauses text) (clausesSaid text) (clauses-refused text) (clauses-accepted text) rules names

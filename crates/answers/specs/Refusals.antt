@@ -14,9 +14,11 @@ use Rattle.rules.specs.Lists.{over}
 use Rattle.stores.specs.RuleStore.{StoreOf, encode, decode}
 use Rattle.name_store.specs.NameStore.{NamesOf, encodeNames}
 use Rattle.faults.specs.EarliestFault.{Refuses, Accepts}
+use Rattle.clauses.specs.Sentences.{RefusesClauses, AcceptsClauses}
 use Rattle.answers.specs.declared.Read.{Read}
 use Rattle.answers.specs.declared.Read.the-variants.{Accepted, Refused as NotRead}
 use Rattle.answers.specs.Reading.{readAnswer, readRules, readNames}
+use Rattle.answers.specs.ReadingClauses.{clausesAnswer, clausesRules, clausesNames}
 use Rattle.answers.specs.declared.Written.{Written}
 use Rattle.answers.specs.declared.Written.the-variants.{Text, Refused as NotWritten}
 use Rattle.answers.specs.Writing.{storesText, writeAnswer, writeOutput}
@@ -83,6 +85,11 @@ pub record Reads (Refuses : Refusal → ℕ → Type 0) (Accepts : Program → L
 -- the reader: 1, then 2 to 8 with their line (crate `faults`)
 abbrev pub ReadRefuses : List ℕ → List ℕ → List ℕ → Type 0
 ReadRefuses text rules names = Reads (Refuses text) (Accepts text) (readAnswer text (length rules) (length names)) rules names (readRules text rules names) (readNames text rules names)
+
+-- the clause reader: 1, then 15, 16 and 7 with their line (crate `clauses`)
+abbrev pub ClausesRefuse : List ℕ → List ℕ → List ℕ → Type 0
+ClausesRefuse text rules names =
+    Reads (RefusesClauses text) (AcceptsClauses text) (clausesAnswer text (length rules) (length names)) rules names (clausesRules text rules names) (clausesNames text rules names)
 
 -- the writer: 10, 14, 9
 pub record WriteRefuses (rules names before : List ℕ) : Type 0 where

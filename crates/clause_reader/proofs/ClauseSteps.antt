@@ -12,7 +12,7 @@ use Rattle.kinds.specs.declared.limits.Kind.the-variants.{Preference}
 use Rattle.kinds.specs.declared.refusals.Refusal.{Refusal}
 use Rattle.kinds.specs.declared.refusals.Refusal.the-variants.{BrokenClauses}
 use Rattle.rules.specs.Lists.{empty?}
-use Rattle.rules.proofs.Booleans.{both-true}
+use Rattle.rules.proofs.Booleans.{both-true, and-comm}
 use Rattle.clauses.specs.Literals.{Literal, signed, atomOf}
 use Rattle.clauses.specs.Tokens.{literal, ends, wrong?, lineTokens}
 use Rattle.clauses.specs.Gathered.{Gathered, withLiteral, withEnd, closed?, begun, occurrencesIn}
@@ -42,12 +42,6 @@ no-entry (x ∷ xs) {n} e = ne-eqb n 0 (λ z. absurd (let q : suc (length xs) �
 -- the test of the counts is that of what is gathered
 pub full-is : {g : Gathered} {c : ClauseCounts} {words bodies : List ℕ} → HeldClauses g c words bodies → full? c ≡ (closed? g && eqb (length (g .rules)) (c .clauses))
 full-is {g} {c} h = rw (no-entry (g .heads) (h .heads-are), no-entry (g .bodies) (h .bodies-are), sym (h .rules-are)) (and-comm (eqb (c .rules) (c .clauses)) (empty? (g .heads) && empty? (g .bodies)))
-  where
-    and-comm : (a b : Bool) → (a && b) ≡ (b && a)
-    and-comm true true = refl
-    and-comm true false = refl
-    and-comm false true = refl
-    and-comm false false = refl
 
 module _ {g : Gathered} {c : ClauseCounts} {words bodies marks : List ℕ} (k : Gathers g c words bodies marks) where
   pub surplus : full? c ≡ true → c .clauses < suc (length (g .rules))

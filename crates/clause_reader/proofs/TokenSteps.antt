@@ -13,6 +13,7 @@ use Rattle.kinds.specs.declared.refusals.Refusal.{Refusal}
 use Rattle.kinds.specs.declared.refusals.Refusal.the-variants.{BrokenClauses, LiteralBeyond, Limit}
 use Rattle.rules.specs.Lists.{some, empty?}
 use Rattle.rules.specs.Rules.{rule}
+use Rattle.rules.proofs.Booleans.{and-false}
 use Rattle.restriction.specs.Atoms.{member?}
 use Rattle.gathering.proofs.HeldState.{sum-last}
 use Rattle.clauses.specs.Literals.{Literal, positive, negative}
@@ -29,10 +30,6 @@ once-filled (x ∷ xs) a = go (member? (x ∷ xs) a)
     go : (b : Bool) → empty? (cond b (x ∷ xs) ((x ∷ xs) ++ (a ∷ []))) ≡ false
     go true = refl
     go false = refl
-
-and-false : (b : Bool) → (b && false) ≡ false
-and-false true = refl
-and-false false = refl
 
 pub literal-unended : (g : Gathered) (l : Literal) → closed? (withLiteral g l) ≡ false
 literal-unended g (positive a) = ap (λ b. b && empty? (g .bodies)) (once-filled (g .heads) a)

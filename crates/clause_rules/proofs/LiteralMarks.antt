@@ -4,7 +4,7 @@ use native.Mathlib.Decide.{ℕ-discrete}
 use native.Mathlib.Numerals.{add-one}
 use native.Mathlib.Omega.{arith}
 use mathlib.Core.Path.{_≡_, refl, sym, ap, ap₂, _∙_}
-use mathlib.Core.Bool.{Bool, true, false, cond, _||_}
+use mathlib.Core.Bool.{true, false, cond, _||_}
 use mathlib.Core.List.{List, [], _∷_, _++_}
 use lib.Dec.{eqb}
 use lib.ListN.{length, getD, set, length-append, length-set}
@@ -12,6 +12,7 @@ use lib.Seq.{getD-set-other}
 use borrow.Author.Tests.{eq-eqb, ne-eqb}
 use Rattle.kinds.specs.Limits.{atomLimit}
 use Rattle.kinds.specs.declared.limits.Kind.the-variants.{Preference}
+use Rattle.rules.proofs.Lists.{some-last}
 use Rattle.stores.specs.Checking.{Below}
 use Rattle.stores.proofs.Marks.{below-more, set-below, set-marks}
 use Rattle.restriction.specs.Atoms.{member?}
@@ -32,15 +33,6 @@ once-there xs a e = ap (λ b. cond b xs (xs ++ (a ∷ []))) e
 once-new : (xs : List ℕ) (a : ℕ) → member? xs a ≡ false → once xs a ≡ xs ++ (a ∷ [])
 once-new xs a e = ap (λ b. cond b xs (xs ++ (a ∷ []))) e
 
-member-last : (xs : List ℕ) (a b : ℕ) → member? (xs ++ (a ∷ [])) b ≡ (eqb b a || member? xs b)
-member-last [] a b = refl
-member-last (x ∷ xs) a b = ap (λ t. eqb b x || t) (member-last xs a b) ∙ swap (eqb b x) (eqb b a) (member? xs b)
-  where
-    swap : (p q r : Bool) → (p || (q || r)) ≡ (q || (p || r))
-    swap true true r = refl
-    swap true false r = refl
-    swap false q r = refl
-
 pub marked-end : {g : Gathered} {marks : List ℕ} → Marked g marks → Marked (withEnd g) marks
 marked-end {g} {marks} m =
     let more : length (withEnd g .rules) ≡ suc (length (g .rules)) = length-append (g .rules) _ ∙ add-one (length (g .rules)) in
@@ -50,7 +42,7 @@ marked-end {g} {marks} m =
 -- the marks of one list, by the place of an atom's mark
 module _ (place : ℕ → ℕ) (marks xs : List ℕ) (stamp : ℕ) (h : (a : ℕ) → a < atomLimit Preference → eqb (getD marks (place a) 0) stamp ≡ member? xs a) (x : ℕ) where
   set-listed : place x < length marks → ((a : ℕ) → eqb (place a) (place x) ≡ eqb a x) → (a : ℕ) → a < atomLimit Preference → eqb (getD (set marks (place x) stamp) (place a) 0) stamp ≡ member? (xs ++ (x ∷ [])) a
-  set-listed l same a k = set-marks marks (place x) stamp l (place a) ∙ ap₂ _||_ (same a) (h a k) ∙ sym (member-last xs x a)
+  set-listed l same a k = set-marks marks (place x) stamp l (place a) ∙ ap₂ _||_ (same a) (h a k) ∙ sym (some-last (eqb a) xs x)
 
   set-beside : (p : ℕ) → ((a : ℕ) → a < atomLimit Preference → place a ≡ p → ⊥) → (a : ℕ) → a < atomLimit Preference → eqb (getD (set marks p stamp) (place a) 0) stamp ≡ member? xs a
   set-beside p apart a k = ap (λ n. eqb n stamp) (getD-set-other marks p (place a) stamp 0 (apart a k)) ∙ h a k

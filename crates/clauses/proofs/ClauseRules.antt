@@ -3,12 +3,12 @@ use Prim.Native.Nat.{ℕ}
 use mathlib.Core.Path.{_≡_, refl, sym, ap, fun-ext, _∙_}
 use mathlib.Core.Logic.{_↔_, Iff·rfl}
 use mathlib.Core.List.{List, [], _∷_, _++_, map, append-nil, append-assoc}
-use mathlib.Core.Bool.{Bool, true, false, cond, not, _||_}
+use mathlib.Core.Bool.{Bool, true, false, cond, not, _||_, or-comm}
 use lib.Dec.{T, eqb}
 use Rattle.rules.specs.Lists.{Any, every, some, from}
 use Rattle.rules.specs.Rules.{Rule, rule, Model, holds?, model?}
 use Rattle.rules.proofs.Booleans.{T-of, T-not-in, T-not-out, or-true, or-false}
-use Rattle.rules.proofs.Lists.{all-imp, every-all, some-any, some-each}
+use Rattle.rules.proofs.Lists.{all-imp, every-all, some-any, some-app, some-each}
 use Rattle.rules.proofs.ListLaws.{all-each}
 use Rattle.rules.proofs.MappedLists.{every-map, some-map}
 use Rattle.rules.proofs.Filtered.{filter-same}
@@ -19,7 +19,7 @@ use Rattle.clauses.specs.Literals.{Literal, positive, negative, atomOf, 
 use Rattle.clauses.specs.Tokens.{Token, literal, ends, wrong, clausesFrom}
 use Rattle.clauses.specs.Gathered.{Gathered, nothing, once, withLiteral, withTokens}
 use Rattle.clauses.specs.Satisfying.{stands?, standing}
-use Rattle.clauses.proofs.Tests.{or-comm, some-app, not-all}
+use Rattle.clauses.proofs.Tests.{not-all}
 
 -- the atoms of a clause's positive literals, each once, behind others
 abbrev headsFrom : List ℕ → List Literal → List ℕ

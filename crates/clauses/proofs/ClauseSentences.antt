@@ -13,6 +13,7 @@ use Rattle.kinds.specs.declared.refusals.Refusal.{Refusal}
 use Rattle.kinds.specs.declared.refusals.Refusal.the-variants.{TextTooLong, BrokenClauses}
 use Rattle.rules.specs.Lists.{empty?}
 use Rattle.rules.proofs.Booleans.{decide, is-true, is-false, eq→eqb}
+use Rattle.rules.proofs.Connectives.{and-law}
 use Rattle.stores.specs.Program.{Program}
 use Rattle.restriction.specs.Remaining.{remaining, remainingNames}
 use Rattle.lines.specs.Lines.{lines}
@@ -23,7 +24,7 @@ use Rattle.clauses.specs.Written.{clauseNames, clauseProgram}
 use Rattle.clauses.specs.ClausesSaid.{atEnd, onStep, readLines, clausesTyped, clausesSaid}
 use Rattle.clauses.specs.Sentences.{LineRefused, LinePassed, Passed, Complete, FaultyLine, Missing, RefusesClauses, AcceptsClauses}
 use Rattle.clauses.proofs.HeadedLines.{apart}
-use Rattle.clauses.proofs.LineTests.{both-iff, empty-iff}
+use Rattle.clauses.proofs.LineTests.{empty-iff}
 use Rattle.clauses.proofs.LineSentences.{step-refused, step-passed}
 
 -- past the last line
@@ -35,7 +36,7 @@ complete? (headed n m g) = closed? g && eqb (length (g .rules)) m
 complete-iff : (st : State) → T (complete? st) ↔ Complete st
 complete-iff unheaded = (λ t. t, λ h. h)
 complete-iff (headed n m g) =
-    let law = both-iff (closed? g) (eqb (length (g .rules)) m) (both-iff (empty? (g .heads)) (empty? (g .bodies)) (empty-iff (g .heads)) (empty-iff (g .bodies))) (eqb→eq (length (g .rules)) m, eq→eqb (length (g .rules)) m) in
+    let law = and-law (closed? g) (eqb (length (g .rules)) m) (and-law (empty? (g .heads)) (empty? (g .bodies)) (empty-iff (g .heads)) (empty-iff (g .bodies))) (eqb→eq (length (g .rules)) m, eq→eqb (length (g .rules)) m) in
     (λ t. let h = law .0 t in (h .0 .0, h .0 .1, h .1), λ h. law .1 ((h .0, h .1), h .2))
 
 end-complete : (k n m : ℕ) (g : Gathered) → Complete (headed n m g) → atEnd k (headed n m g) ≡ accepted (clauseProgram n (g .rules)) (clauseNames n)
@@ -218,6 +219,13 @@ module _ (text : List ℕ) where
       step (accepted p names) e = absurd (apart (sym e))
       step (refused q j) e = e
 
+  -- an accepted text says all atoms of its header
+  pub accepted-typed : (p : Program) (names : List (List ℕ)) (h : AcceptsClauses text p names) → clausesTyped text ≡ accepted (clauseProgram (h .atoms) (h .gathered .rules)) (clauseNames (h .atoms))
+  accepted-typed p names h = typed-accepted (clauseProgram (h .atoms) (h .gathered .rules)) (clauseNames (h .atoms)) .1 (
+    h .short,
+    record { atoms = h .atoms; clauses = h .clauses; gathered = h .gathered; passed = h .passed; complete = h .complete; program = refl; are-names = refl },
+  )
+
   pub clauses-accepted : (p : Program) (names : List (List ℕ)) → clausesSaid text ≡ accepted p names ↔ AcceptsClauses text p names
   unfolding clausesSaid
   clauses-accepted p names = (step (clausesTyped text) refl, back)
@@ -240,6 +248,4 @@ module _ (text : List ℕ) where
       step (refused r k) t e = absurd (apart e)
 
       back : AcceptsClauses text p names → whatRemains (clausesTyped text) ≡ accepted p names
-      back h =
-          ap whatRemains (typed-accepted (clauseProgram (h .atoms) (h .gathered .rules)) (clauseNames (h .atoms)) .1 (h .short, record { atoms = h .atoms; clauses = h .clauses; gathered = h .gathered; passed = h .passed; complete = h .complete; program = refl; are-names = refl }))
-          ∙ ap₂ accepted (sym (h .program)) (sym (h .are-names))
+      back h = ap whatRemains (accepted-typed p names h) ∙ ap₂ accepted (sym (h .program)) (sym (h .are-names))

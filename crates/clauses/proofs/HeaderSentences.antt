@@ -9,6 +9,7 @@ use lib.Dec.{T}
 use lib.ListN.{length}
 use Rattle.kinds.specs.Words.{bytes}
 use Rattle.kinds.specs.declared.refusals.Refusal.the-variants.{BrokenClauses}
+use Rattle.rules.proofs.Connectives.{and-law}
 use Rattle.name_store.specs.NameStore.{sameBytes}
 use Rattle.name_store.proofs.NameStores.{same-law}
 use Rattle.clauses.specs.Numerals.{numeral?, value, DecimalWriting}
@@ -16,7 +17,6 @@ use Rattle.clauses.specs.Items.{items}
 use Rattle.clauses.specs.Faults.{Step, fault, first, headerWith, headerLine}
 use Rattle.clauses.specs.Sentences.{Header}
 use Rattle.clauses.proofs.Numerals.{numeral-iff}
-use Rattle.clauses.proofs.LineTests.{both-iff}
 
 module _ (l : List ℕ) where
   pub one-header : {n m i j : ℕ} → Header l n m → Header l i j → (n ≡ i) × (m ≡ j)
@@ -45,9 +45,9 @@ module _ (l : List ℕ) where
 
       law : T test ↔ Says
       law =
-          both-iff (sameBytes p (bytes "p")) (sameBytes cnf (bytes "cnf") && (numeral? n && numeral? m)) (same-law p (bytes "p"))
-          (both-iff (sameBytes cnf (bytes "cnf")) (numeral? n && numeral? m) (same-law cnf (bytes "cnf"))
-          (both-iff (numeral? n) (numeral? m) (numeral-iff n) (numeral-iff m)))
+          and-law (sameBytes p (bytes "p")) (sameBytes cnf (bytes "cnf") && (numeral? n && numeral? m)) (same-law p (bytes "p"))
+          (and-law (sameBytes cnf (bytes "cnf")) (numeral? n && numeral? m) (same-law cnf (bytes "cnf"))
+          (and-law (numeral? n) (numeral? m) (numeral-iff n) (numeral-iff m)))
 
       says : (i j : ℕ) → Header l i j → Says
       says i j h =

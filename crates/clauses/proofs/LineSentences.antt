@@ -11,6 +11,7 @@ use Rattle.kinds.specs.declared.refusals.Refusal.{Refusal}
 use Rattle.kinds.specs.declared.refusals.Refusal.the-variants.{BrokenClauses, LiteralBeyond, Limit}
 use Rattle.rules.specs.Lists.{some, empty?}
 use Rattle.rules.proofs.Booleans.{T-and-r}
+use Rattle.rules.proofs.Connectives.{not-law, and-law, or-law}
 use Rattle.clauses.specs.Items.{items, comment?, ended?}
 use Rattle.clauses.specs.Tokens.{Token, tokenOf, wrong?, beyond?, lineTokens}
 use Rattle.clauses.specs.Gathered.{Gathered, nothing, withTokens, begun, occurrencesIn}
@@ -18,7 +19,7 @@ use Rattle.clauses.specs.Faults.{State, unheaded, headed, Step, next, fa
 use Rattle.clauses.specs.ClausesSaid.{filled?}
 use Rattle.clauses.specs.Sentences.{Header, Breaks, GoesBeyond, PassesLimit, LineRefused, Leads, LinePassed}
 use Rattle.clauses.proofs.HeadedLines.{no-fault}
-use Rattle.clauses.proofs.LineTests.{not-iff, both-iff, either-iff, ended-iff, filled-iff, wrong-iff, beyond-iff}
+use Rattle.clauses.proofs.LineTests.{ended-iff, filled-iff, wrong-iff, beyond-iff}
 use Rattle.clauses.proofs.HeaderSentences.{one-header, HeaderSaid, header-said}
 
 -- one test before the others
@@ -102,10 +103,10 @@ headed-tests n m g l = record {
   passes = filled? l && ltb (occurrenceLimit Preference) (occurrencesIn after);
   then = cond (filled? l) (headed n m after) (headed n m g);
   breaks-iff =
-      either-iff (not (ended? l)) (filled? l && broken) (not-iff (ended? l) (ended-iff l))
-      (both-iff (filled? l) broken (filled-iff l) (either-iff (some wrong? ts) (ltb m (begun after)) (wrong-iff ts) (past-iff m (begun after))));
-  goes-iff = both-iff (filled? l) (some (beyond? n) ts) (filled-iff l) (beyond-iff n ts);
-  passes-iff = both-iff (filled? l) (ltb (occurrenceLimit Preference) (occurrencesIn after)) (filled-iff l) (past-iff (occurrenceLimit Preference) (occurrencesIn after));
+      or-law (not (ended? l)) (filled? l && broken) (not-law (ended? l) (ended-iff l))
+      (and-law (filled? l) broken (filled-iff l) (or-law (some wrong? ts) (ltb m (begun after)) (wrong-iff ts) (past-iff m (begun after))));
+  goes-iff = and-law (filled? l) (some (beyond? n) ts) (filled-iff l) (beyond-iff n ts);
+  passes-iff = and-law (filled? l) (ltb (occurrenceLimit Preference) (occurrencesIn after)) (filled-iff l) (past-iff (occurrenceLimit Preference) (occurrencesIn after));
   leads-iff = λ b s. leads-by (filled? l) (headed n m after) (headed n m g) s (filled-iff l) (λ f. (λ e. e, λ e. e));
   steps =
       line-steps (headed n m g) l (λ xs. clauseLine n m g (map tokenOf xs)) (λ x xs. refl)
@@ -130,10 +131,10 @@ module _ (l : List ℕ) where
     passes = filled? l && past;
     then = cond (filled? l) (headed n m nothing) unheaded;
     breaks-iff =
-        either-iff (not (ended? l)) (filled? l && false) (not-iff (ended? l) (ended-iff l))
-        (both-iff (filled? l) false (filled-iff l) (λ t. absurd t, λ none. none n m h));
+        or-law (not (ended? l)) (filled? l && false) (not-law (ended? l) (ended-iff l))
+        (and-law (filled? l) false (filled-iff l) (λ t. absurd t, λ none. none n m h));
     goes-iff = (λ t. T-and-r (filled? l) false t, λ h. absurd h);
-    passes-iff = both-iff (filled? l) past (filled-iff l) (
+    passes-iff = and-law (filled? l) past (filled-iff l) (
       λ t. (n, m, h, limits .0 t),
       λ p. limits .1 (let e = one-header l h (p .2) in same (sym (e .0)) (sym (e .1)) (p .3)),
     );
@@ -157,7 +158,7 @@ module _ (l : List ℕ) where
       same e f p = subst₂ Past e f p
 
       limits : T past ↔ Past n m
-      limits = either-iff (ltb (atomLimit Preference) n) (ltb (ruleLimit Preference) m) (past-iff (atomLimit Preference) n) (past-iff (ruleLimit Preference) m)
+      limits = or-law (ltb (atomLimit Preference) n) (ltb (ruleLimit Preference) m) (past-iff (atomLimit Preference) n) (past-iff (ruleLimit Preference) m)
 
   no-header-tests : ((n m : ℕ) → Header l n m → ⊥) → headerLine (items l) ≡ fault BrokenClauses → Tests unheaded l
   no-header-tests none q = record {
@@ -165,9 +166,9 @@ module _ (l : List ℕ) where
     goes = filled? l && false;
     passes = filled? l && false;
     then = cond (filled? l) unheaded unheaded;
-    breaks-iff = either-iff (not (ended? l)) (filled? l && true) (not-iff (ended? l) (ended-iff l)) (both-iff (filled? l) true (filled-iff l) (λ t. none, λ n. tt));
+    breaks-iff = or-law (not (ended? l)) (filled? l && true) (not-law (ended? l) (ended-iff l)) (and-law (filled? l) true (filled-iff l) (λ t. none, λ n. tt));
     goes-iff = (λ t. T-and-r (filled? l) false t, λ h. absurd h);
-    passes-iff = both-iff (filled? l) false (filled-iff l) (λ t. absurd t, λ p. none (p .0) (p .1) (p .2));
+    passes-iff = and-law (filled? l) false (filled-iff l) (λ t. absurd t, λ p. none (p .0) (p .1) (p .2));
     leads-iff = λ b s. leads-by (filled? l) unheaded unheaded s (filled-iff l) (λ f. absurd (b (inr (f, none))));
     steps =
         line-steps unheaded l headerLine (λ x xs. refl)

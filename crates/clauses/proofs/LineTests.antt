@@ -2,40 +2,21 @@
 use Prim.Native.Nat.{ℕ}
 use native.Mathlib.Omega.{arith}
 use mathlib.Core.Path.{_≡_, refl, ap}
-use mathlib.Core.Logic.{_⊎_, inl, inr, _↔_, Iff·trans, Iff·and}
+use mathlib.Core.Logic.{_↔_}
 use mathlib.Core.List.{List, [], _∷_}
-use mathlib.Core.Bool.{Bool, not, _&&_, _||_}
+use mathlib.Core.Bool.{not}
 use lib.Dec.{T, eqb→eq, leb→le, le→leb}
 use lib.ListN.{length, length-append}
 use Rattle.kinds.specs.Words.{byte, line-end}
 use Rattle.rules.specs.Lists.{Any, some, empty?}
-use Rattle.rules.proofs.Booleans.{T-or, T-or-out, T-not-in, T-not-out, eq→eqb}
+use Rattle.rules.proofs.Booleans.{eq→eqb}
+use Rattle.rules.proofs.Connectives.{not-law, and-law}
 use Rattle.rules.proofs.Lists.{some-any}
-use Rattle.stores.proofs.RuleTests.{and-iff}
 use Rattle.clauses.specs.Items.{items, comment?, ended?}
 use Rattle.clauses.specs.Literals.{atomOf}
 use Rattle.clauses.specs.Tokens.{Token, literal, ends, wrong, wrong?, beyond?}
 use Rattle.clauses.specs.ClausesSaid.{filled?}
 use Rattle.clauses.specs.Sentences.{Ended, Comment, Filled, BeyondAtoms}
-
--- tests put together
-
-pub not-iff : {P : Type 0} (b : Bool) → T b ↔ P → T (not b) ↔ (P → ⊥)
-not-iff b law = (λ t p. T-not-out b t (law .1 p), λ h. T-not-in b (λ t. h (law .0 t)))
-
-pub both-iff : {P Q : Type 0} (a b : Bool) → T a ↔ P → T b ↔ Q → T (a && b) ↔ (P × Q)
-both-iff a b f g = Iff·trans (and-iff a b) (Iff·and f g)
-
-pub either-iff : {P Q : Type 0} (a b : Bool) → T a ↔ P → T b ↔ Q → T (a || b) ↔ (P ⊎ Q)
-either-iff {P} {Q} a b f g = (λ t. there (T-or-out a b t), λ h. T-or a b (back h))
-  where
-    there : T a ⊎ T b → P ⊎ Q
-    there (inl t) = inl (f .0 t)
-    there (inr t) = inr (g .0 t)
-
-    back : P ⊎ Q → T a ⊎ T b
-    back (inl h) = inl (f .1 h)
-    back (inr h) = inr (g .1 h)
 
 -- a line's end, its first byte and its items
 
@@ -61,7 +42,7 @@ empty-iff [] = (λ t. refl, λ e. tt)
 empty-iff (x ∷ xs) = (λ t. absurd t, λ e. omega (arith, ap length e))
 
 pub filled-iff : (l : List ℕ) → T (filled? l) ↔ Filled l
-filled-iff l = both-iff (not (comment? l)) (not (empty? (items l))) (not-iff (comment? l) (comment-iff l)) (not-iff (empty? (items l)) (empty-iff (items l)))
+filled-iff l = and-law (not (comment? l)) (not (empty? (items l))) (not-law (comment? l) (comment-iff l)) (not-law (empty? (items l)) (empty-iff (items l)))
 
 -- tokens
 

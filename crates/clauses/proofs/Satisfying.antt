@@ -26,14 +26,13 @@ use Rattle.restriction.proofs.PreferredLeft.{cut-at}
 use Rattle.restriction.proofs.Forms.{covers-left, remaining-form, remaining-names}
 use Rattle.restriction.proofs.Whole.{remaining-preference, names-preference, all-used}
 use Rattle.lines.specs.Lines.{lines}
-use Rattle.lines.specs.Said.{Said, accepted, refused, whatRemains}
 use Rattle.clauses.specs.Literals.{Literal, Satisfies}
 use Rattle.clauses.specs.Tokens.{lineTokens}
 use Rattle.clauses.specs.Written.{clauseName, clauseNames, clauseProgram}
-use Rattle.clauses.specs.ClausesSaid.{clausesTyped, clausesSaid, filled?, clausesOf}
+use Rattle.clauses.specs.ClausesSaid.{filled?, clausesOf}
 use Rattle.clauses.specs.Satisfying.{standing, SatisfiedBy, Satisfying, WrittenClauses}
-use Rattle.clauses.proofs.ClauseNames.{names-form}
-use Rattle.clauses.proofs.HeadedLines.{apart}
+use Rattle.clauses.specs.Sentences.{AcceptsClauses}
+use Rattle.clauses.proofs.ClauseSentences.{accepted-typed}
 use Rattle.clauses.proofs.ClauseForms.{typed-lines, typed-form}
 use Rattle.clauses.proofs.RenamedRules.{model-renamed}
 use Rattle.clauses.proofs.ClauseRules.{clauseRule, gathered-rules, satisfies-iff, used-standing}
@@ -108,24 +107,17 @@ module _ (n : ℕ) (cs : List (List Literal)) (form : ProgramForm (clauseProgram
   left-written : WrittenClauses n cs (remaining all) (remainingNames all (clauseNames n))
   left-written = subst (λ (p : Program). WrittenClauses n cs p (remainingNames all (clauseNames n))) (sym left-is) written
 
-pub written-clauses : (text : List ℕ) (p : Program) (names : List (List ℕ)) → clausesSaid text ≡ accepted p names → (n : ℕ) × WrittenClauses n (clausesOf text) p names
-unfolding clausesSaid clausesOf
-written-clauses text p names e = go (clausesTyped text) refl e
-  where
-    typed : (q : Program) (given : List (List ℕ)) → clausesTyped text ≡ accepted q given → (n : ℕ) × WrittenClauses n (clausesOf text) (remaining q) (remainingNames q given)
-    typed q given t =
-        let h = typed-lines text q given t in
-        let program-is = h .rest .program-is ∙ ap (clauseProgram (h .atoms)) (gathered-rules (flat lineTokens (drop 1 (filter filled? (lines text))))) in
-        let form = subst ProgramForm program-is (typed-form text q given t .0) in (
-          h .atoms,
-          subst₂ (λ (p : Program) (names : List (List ℕ)). WrittenClauses (h .atoms) (clausesOf text) (remaining p) (remainingNames p names)) (sym program-is) (sym (h .rest .names-are))
-              (left-written (h .atoms) (clausesOf text) form (names-form (h .atoms) (h .atoms-fit))),
-        )
-
-    go : (s : Said) → clausesTyped text ≡ s → whatRemains s ≡ accepted p names → (n : ℕ) × WrittenClauses n (clausesOf text) p names
-    go (accepted q given) t r =
-        let u : remaining q ≡ p = cc in
-        let v : remainingNames q given ≡ names = cc in
-        let w = typed q given t in
-        (w .0, subst₂ (WrittenClauses (w .0) (clausesOf text)) u v (w .1))
-    go (refused f k) t r = absurd (apart r)
+pub written-clauses : (text : List ℕ) (p : Program) (names : List (List ℕ)) (a : AcceptsClauses text p names) → WrittenClauses (a .atoms) (clausesOf text) p names
+unfolding clausesOf
+written-clauses text p names a =
+    let n = a .atoms in
+    let cs = clausesOf text in
+    let q = clauseProgram n (a .gathered .rules) in
+    let t = accepted-typed text p names a in
+    let h = typed-lines text q (clauseNames n) t in
+    let same : n ≡ h .atoms = ap (λ (q : Program). q .atoms) (h .rest .program-is) in
+    let program-is : q ≡ clauseProgram n (map clauseRule cs) =
+    h .rest .program-is ∙ ap₂ clauseProgram (sym same) (gathered-rules (flat lineTokens (drop 1 (filter filled? (lines text))))) in
+    let f = typed-form text q (clauseNames n) t in
+    subst₂ (WrittenClauses n cs) (ap remaining (sym program-is) ∙ sym (a .program)) (ap (λ (q : Program). remainingNames q (clauseNames n)) (sym program-is) ∙ sym (a .are-names))
+    (left-written n cs (subst ProgramForm program-is (f .0)) (f .1))

@@ -2,12 +2,13 @@
 use Prim.Native.Nat.{ℕ, _≤_, _<_}
 use native.Mathlib.Omega.{arith}
 use mathlib.Core.Path.{_≡_, refl, sym, _∙_}
-use mathlib.Core.Bool.{Bool, true, false, _&&_}
+use mathlib.Core.Bool.{true, false}
 use mathlib.Core.List.{List, []}
 use lib.Dec.{leb}
 use lib.ListN.{length}
 use lib.Seq.{sets}
 use borrow.Author.Tests.{lt-leb, le-leb}
+use Rattle.rules.proofs.Booleans.{and-false}
 use Rattle.kinds.specs.declared.refusals.Refusal.the-variants.{Output}
 use Rattle.name_store.specs.NameStore.{encodeNames}
 use Rattle.stores.specs.Program.{Program}
@@ -20,10 +21,6 @@ use Rattle.output.proofs.Emitting.{sets-seam}
 
 over-is : (d w : List ℕ) → length w ≤ length d → sets d 0 w ≡ over w d
 over-is d w l = sets-seam [] d w l
-
-and-false : (a : Bool) → (a && false) ≡ false
-and-false true = refl
-and-false false = refl
 
 module _ (p : Program) (ns : List (List ℕ)) {w b : ℕ} (words-long : length (encode p) ≡ w) (bytes-long : length (encodeNames ns) ≡ b) (rules names : List ℕ) where
   pub rules-short : length rules < w → Delivered p ns rules names rules names (Refused Output 0)

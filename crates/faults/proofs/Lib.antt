@@ -1,5 +1,4 @@
 -- The laws of the faults.
-pub mod Connectives
 pub mod TextLines
 pub mod NameClasses
 pub mod LineForms

@@ -14,9 +14,9 @@ use Rattle.kinds.specs.declared.limits.Kind.{Kind}
 use Rattle.rules.specs.Lists.{sum}
 use Rattle.rules.specs.Rules.{Rule, occurrences}
 use Rattle.rules.proofs.Lists.{sum-app}
+use Rattle.rules.proofs.Connectives.{not-law, not-and}
 use Rattle.lines.specs.Forms.{Word, atoms, min, vary, fix, LineForm, declares, rules}
 use Rattle.lines.specs.Faults.{SoFar, countsOf, classesAfter, nameNumber, declared, numbered, with-rule}
-use Rattle.faults.proofs.Connectives.{not-law, not-and}
 use Rattle.faults.specs.Sentences.{atomsWith, rulesWith, occurrencesWith, classesWith, PassesLimit, atoms-pass, rules-pass, occurrences-pass, classes-pass}
 
 passes-law : (n limit : ℕ) → T (not (leb n limit)) ↔ (limit < n)

@@ -11,6 +11,7 @@ use lib.Seq.{drop-nil, take-append-seam, drop-append-seam}
 use Rattle.kinds.specs.Words.{space, open-bracket, close-bracket, line-end, bodyWord, notWord}
 use Rattle.rules.specs.Lists.{All, every}
 use Rattle.rules.proofs.Booleans.{T-not-in, is-true}
+use Rattle.rules.proofs.Connectives.{or-law, on-cond}
 use Rattle.rules.proofs.Lists.{all-app, all-imp, every-all}
 use Rattle.names.specs.declared.forms.NameClass.{NameClass}
 use Rattle.names.specs.declared.forms.NameClass.the-variants.{House, Generated, TooLong, Wrong}
@@ -22,7 +23,6 @@ use Rattle.lines.specs.Forms.{Word, atoms, min, vary, fix, LineForm, declares, 
 use Rattle.faults.specs.NameForms.{Letter, Digit, NameByte, HouseBytes, Marked, ClassNumber}
 use Rattle.faults.specs.LineForms.{IsName, spaced, DeclaringLine, RuleLine, HasForm}
 use Rattle.faults.specs.Sentences.{namesOf}
-use Rattle.faults.proofs.Connectives.{or-law, on-cond}
 use Rattle.faults.proofs.NameClasses.{eq-law, house-iff, long-iff, generated-iff}
 
 -- a name has no byte that ends a name

@@ -15,12 +15,12 @@ use Rattle.kinds.specs.declared.refusals.Refusal.{Refusal}
 use Rattle.kinds.specs.declared.refusals.Refusal.the-variants.{TextTooLong, BrokenForm, Name, DeclaredTwice, Undeclared, TwiceInList, Limit, FilledNot, Output, RuleStore, TooManyAtoms, SetNumber, Budget, NameStore, BrokenClauses, LiteralBeyond}
 use Rattle.rules.specs.Lists.{All, Any, some}
 use Rattle.rules.proofs.Lists.{all-app-l, all-app-r, some-any}
+use Rattle.rules.proofs.Connectives.{not-law}
 use Rattle.lines.specs.Forms.{Word, LineForm, declares, rules, broken, formOf}
 use Rattle.lines.specs.Faults.{SoFar, Step, next, fault, first, countsOf, expects, ruling?, classesAfter, twice, refusedName, anyOf, declared, numbered, with-rule, filled, declare, addRule, stepForm}
 use Rattle.lines.specs.Said.{start}
 use Rattle.faults.specs.LineForms.{IsName}
 use Rattle.faults.specs.Sentences.{namesOf, Among, NotAllowed, Says, Lowest, Faultless, added, Sound, classes-pass}
-use Rattle.faults.proofs.Connectives.{not-law}
 use Rattle.faults.proofs.LimitTests.{classes-counted, declared-limit, rule-limit}
 use Rattle.faults.proofs.Tests.{comes-law, ruling-law, names-law, any-law, twice-law, lists-law, undeclared-law, filled-law}
 use Rattle.faults.proofs.LineForms.{line-names}

@@ -12,12 +12,12 @@ use borrow.Author.Tests.{le-leb, ne-eqb}
 use Rattle.kinds.specs.Limits.{nameLimit}
 use Rattle.rules.specs.Lists.{every}
 use Rattle.rules.proofs.Booleans.{eq→eqb, is-true, is-false}
+use Rattle.rules.proofs.Connectives.{or-law, and-law, on-cond}
 use Rattle.rules.proofs.Lists.{every-all}
 use Rattle.names.specs.declared.forms.NameClass.{NameClass}
 use Rattle.names.specs.declared.forms.NameClass.the-variants.{House, Generated, TooLong, Wrong}
 use Rattle.names.specs.Names.{letter?, digit?, firstByte?, nameByte?, house?, classNumber?, byLength, dotted, generated, nameClass}
 use Rattle.faults.specs.NameForms.{NameByte, HouseBytes, HouseName, Marked, ClassNumber, GeneratedName, TooLongName}
-use Rattle.faults.proofs.Connectives.{or-law, and-law, on-cond}
 
 pub eq-law : (m n : ℕ) → T (eqb m n) ↔ (m ≡ n)
 eq-law m n = (eqb→eq m n, eq→eqb m n)

@@ -11,6 +11,7 @@ use Rattle.kinds.specs.declared.limits.Kind.{Kind}
 use Rattle.kinds.specs.declared.limits.Kind.the-variants.{Plain, Preference}
 use Rattle.rules.specs.Lists.{All, Any, Distinct, some}
 use Rattle.rules.proofs.Booleans.{stable, decide, T-or, T-or-out}
+use Rattle.rules.proofs.Connectives.{not-law, or-law}
 use Rattle.rules.proofs.Lists.{all-any, any-imp, any-with, any-app, app-any, some-any}
 use Rattle.names.specs.declared.forms.NameClass.{NameClass}
 use Rattle.names.specs.declared.forms.NameClass.the-variants.{House, Generated, TooLong, Wrong}
@@ -21,7 +22,6 @@ use Rattle.lines.specs.declared.stage.Stage.{Stage}
 use Rattle.lines.specs.declared.stage.Stage.the-variants.{Declaring, Fixing, Ruling}
 use Rattle.lines.specs.Forms.{Word, atoms, min, vary, fix}
 use Rattle.lines.specs.Faults.{expects, ruling?, twice, refusedName, anyOf, filled}
-use Rattle.faults.proofs.Connectives.{not-law, or-law}
 use Rattle.faults.proofs.NameClasses.{long-iff, generated-iff}
 use Rattle.faults.proofs.LineForms.{not-wrong}
 use Rattle.faults.specs.LineForms.{IsName}

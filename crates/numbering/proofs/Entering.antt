@@ -10,6 +10,7 @@ use Rattle.kinds.specs.Limits.{atomLimit}
 use Rattle.kinds.specs.declared.limits.Kind.the-variants.{Plain}
 use Rattle.rules.specs.Lists.{some}
 use Rattle.rules.proofs.Booleans.{or-assoc, or-false}
+use Rattle.rules.proofs.Lists.{some-app}
 use Rattle.name_store.specs.NameStore.{nameBytes, encodeNames, decodeNames, sameBytes, among}
 use Rattle.name_store.specs.NameIndex.{found, Indexed}
 use Rattle.name_store.specs.declared.index.Found.{Found}
@@ -33,10 +34,6 @@ twice-split old [] zs = ap (λ l. twice l zs) (sym (append-nil old))
 twice-split old (y ∷ ys) zs =
     ap (λ b. among old y || b) (twice-split (old ++ (y ∷ [])) ys zs ∙ ap (λ l. twice (old ++ (y ∷ [])) ys || twice l zs) (append-assoc old (y ∷ []) ys))
     ∙ or-assoc (among old y) (twice (old ++ (y ∷ [])) ys) (twice (old ++ (y ∷ ys)) zs)
-
-some-app : {A : Type 0} (p : A → Bool) (xs ys : List A) → some p (xs ++ ys) ≡ (some p xs || some p ys)
-some-app p [] ys = refl
-some-app p (x ∷ xs) ys = ap (λ b. p x || b) (some-app p xs ys) ∙ or-assoc (p x) (some p xs) (some p ys)
 
 -- later names against those of a block, and among themselves
 pub twice-apart : (old new zs : List (List ℕ)) → twice (old ++ new) zs ≡ (some (among old) zs || twice new zs)

@@ -10,7 +10,7 @@ use lib.ListN.{length, getD, drop, set, length-set, length-append, length-map}
 use borrow.Author.Tests.{ne-eqb}
 use Rattle.rules.specs.Lists.{All, some}
 use Rattle.rules.proofs.Booleans.{bool-ext, eq→eqb, or-assoc, or-true, or-false}
-use Rattle.rules.proofs.Lists.{all-app}
+use Rattle.rules.proofs.Lists.{all-app, some-last}
 use Rattle.name_store.specs.declared.index.Found.{Found}
 use Rattle.name_store.specs.declared.index.Found.the-variants as Found
 use Rattle.name_store.specs.NameStore.{sameBytes, among}
@@ -97,15 +97,6 @@ one-undeclared names [] x xs e = rw e
 one-undeclared names (y ∷ seen) x xs e = rw (one-undeclared names seen x xs e) (or-true (not (among names y)))
 
 -- one more at the end
-
-some-last : {A : Type 0} (p : A → Bool) (xs : List A) (x : A) → some p (xs ++ (x ∷ [])) ≡ (p x || some p xs)
-some-last p [] x = refl
-some-last p (y ∷ xs) x = ap (λ (b : Bool). p y || b) (some-last p xs x) ∙ exchange (p y) (p x) (some p xs)
-  where
-    exchange : (a b c : Bool) → (a || (b || c)) ≡ (b || (a || c))
-    exchange true true c = refl
-    exchange true false c = refl
-    exchange false b c = refl
 
 map-last : {A B : Type 0} (f : A → B) (xs : List A) (x : A) → map f (xs ++ (x ∷ [])) ≡ map f xs ++ (f x ∷ [])
 map-last f [] x = refl

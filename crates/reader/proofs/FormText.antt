@@ -13,7 +13,7 @@ use Rattle.text.specs.Text.{item, openText, listLine, ruleLine}
 use Rattle.lines.specs.Forms.{Word, atoms, min, vary, fix, tagOf, headTag, bodyTag, notTag, listEnd, ruleEnd}
 use Rattle.faults.specs.TextLines.{NoEnd, EndedLine}
 use Rattle.faults.specs.LineForms.{IsName}
-use Rattle.faults.proofs.Connectives.{not-law}
+use Rattle.rules.proofs.Connectives.{not-law}
 use Rattle.faults.proofs.NameClasses.{eq-law}
 use Rattle.faults.proofs.LineForms.{name-high}
 

@@ -8,6 +8,7 @@ use Rattle.kinds.specs.declared.limits.Kind.the-variants.{Preference}
 use Rattle.stores.specs.Program.{Program}
 use Rattle.faults.specs.EarliestFault.{Accepts}
 use Rattle.faults.proofs.EarliestFault.{said-accepted}
+use Rattle.clauses.proofs.Satisfying.{written-clauses}
 use Rattle.reader.proofs.RoundTrip.{accepted-form}
 use Rattle.reader.proofs.StatesLeft.{states-left}
 use Rattle.places.proofs.Places.{in-places}
@@ -38,4 +39,5 @@ demand-2 = record {
   verdicts = judges;
   lists = lists;
   left-out = states-left;
+  clause-sets = written-clauses;
 }

@@ -11,6 +11,12 @@ use Rattle.lines.specs.Faults.{twice, nameNumber, declare, addRule}
 use Rattle.restriction.specs.Atoms.{used}
 use Rattle.restriction.specs.Remaining.{restrict, remaining, remainingNames}
 use Rattle.lines.specs.Said.{start, readLines, typed, said}
+use Rattle.clauses.specs.Numerals.{value}
+use Rattle.clauses.specs.Items.{items as clauseItems, itemsFrom as clauseItemsFrom, run as clauseRun}
+use Rattle.clauses.specs.Tokens.{tokenOf}
+use Rattle.clauses.specs.Faults.{headerLine, clauseLine, stepLine}
+use Rattle.clauses.specs.Written.{clauseNames}
+use Rattle.clauses.specs.ClausesSaid.{readLines as readClauses, clausesTyped, clausesSaid}
 use Rattle.pairing.specs.Atoms.{declared}
 use Rattle.pairing.specs.Steps.{step1, step2, step3, step4, step5, step6, step7, step8, step9, step10, translation}
 use Rattle.pairing.specs.Translated.{translatedRules}
@@ -23,10 +29,10 @@ use Rattle.answers.specs.Writing.{storesText}
 use Rattle.answers.specs.Printed.{stateLine, totalLine}
 use Rattle.answers.specs.Listed.{listing, wholeListing, statesOf}
 use Rattle.answers.specs.Programs.{printed, statesPrinted}
-use Rattle.rigtomato.specs.Sheet.{rulesA, fileA, oneClass, lampFirst, darkFixed, nothing, emptyRule, oneRule, unused, unusedLong, unusedTwice, plainUnused, plain, inverters, Sheet}
+use Rattle.rigtomato.specs.Sheet.{rulesA, fileA, oneClass, lampFirst, darkFixed, nothing, emptyRule, oneRule, unused, unusedLong, unusedTwice, plainUnused, plain, inverters, clauseFile, manyLiterals, Sheet}
 
 pub sheet : Sheet
-unfolding rulesA fileA oneClass lampFirst darkFixed nothing emptyRule oneRule unused unusedLong unusedTwice plainUnused plain inverters nameClass house? classNumber? allowed encode ruleAt rulesFrom decode sameBytes encodeNames decodeNames listLine openText ruleLine textOf lines linesFrom lineLength items itemsFrom run span splitNames splitList declaredForm ruleForm formOf twice nameNumber declare addRule start readLines typed restrict remaining remainingNames used said declared step1 step2 step3 step4 step5 step6 step7 step8 step9 step10 translation translatedRules place closed? visited walkOrder preferredSets preferredWalk stableWalk candidates search capped preferredNeeds stableNeeds preferredVerdict stableVerdict firstState cappedNext nextNeeds nextVerdict digits storesText stateLine totalLine listing wholeListing printed statesOf statesPrinted
+unfolding rulesA fileA oneClass lampFirst darkFixed nothing emptyRule oneRule unused unusedLong unusedTwice plainUnused plain inverters clauseFile manyLiterals nameClass house? classNumber? allowed encode ruleAt rulesFrom decode sameBytes encodeNames decodeNames listLine openText ruleLine textOf lines linesFrom lineLength items itemsFrom run span splitNames splitList declaredForm ruleForm formOf twice nameNumber declare addRule start readLines typed restrict remaining remainingNames used said value clauseItems clauseItemsFrom clauseRun tokenOf headerLine clauseLine stepLine clauseNames readClauses clausesTyped clausesSaid declared step1 step2 step3 step4 step5 step6 step7 step8 step9 step10 translation translatedRules place closed? visited walkOrder preferredSets preferredWalk stableWalk candidates search capped preferredNeeds stableNeeds preferredVerdict stableVerdict firstState cappedNext nextNeeds nextVerdict digits storesText stateLine totalLine listing wholeListing printed statesOf statesPrinted
 sheet = record {
   a-6 = refl;
   a-1 = refl;
@@ -59,4 +65,23 @@ sheet = record {
   plain-unused = refl;
   handed-in-written = refl;
   handed-in-counts = refl;
+  clauses-written = refl;
+  clauses-rules = refl;
+  clauses-names = refl;
+  clauses-states = refl;
+  clauses-5 = refl;
+  clauses-1 = refl;
+  no-clause-written = refl;
+  no-clause = refl;
+  empty-clause = refl;
+  broken-clause = refl;
+  literal-beyond = refl;
+  atoms-257 = refl;
+  literal-8193 = refl;
+  beyond-before-limit = refl;
+  broken-before-beyond = refl;
+  beyond-line-first = refl;
+  surplus-clause = refl;
+  missing-clause = refl;
+  unfinished-clause = refl;
 }

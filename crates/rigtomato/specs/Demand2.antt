@@ -1,4 +1,4 @@
--- Demand 2 (document 01, "Verdicts"; document 02, W-203, W-206 and W-207): unless the budget runs out, the verdicts are those of the theory, and every preferred state is listed once, in order.
+-- Demand 2 (document 01, "Verdicts"; document 02, W-202, W-203, W-206 and W-207): unless the budget runs out, the verdicts are those of the theory, and every preferred state is listed once, in order.
 use Prim.Native.Nat.{ℕ, _≤_}
 use mathlib.Core.Path.{_≡_}
 use mathlib.Core.Logic.{_⊎_}
@@ -10,6 +10,9 @@ use Rattle.stores.specs.Program.{Program}
 use Rattle.restriction.specs.Remaining.{left}
 use Rattle.restriction.specs.PreferredLeft.{PreferredLeft}
 use Rattle.faults.specs.EarliestFault.{Accepts}
+use Rattle.clauses.specs.ClausesSaid.{clausesOf}
+use Rattle.clauses.specs.Satisfying.{WrittenClauses}
+use Rattle.clauses.specs.Sentences.{AcceptsClauses}
 use Rattle.walks.specs.Order.{walkOrder, preferredSets}
 use Rattle.places.specs.Places.{InPlaces}
 use Rattle.walks.specs.Meanings.{Ordered}
@@ -42,3 +45,5 @@ pub record Demand2 : Type 0 where
   -- a file's preferred sets are those of all atoms that it declares, cut to what is left
   pub left-out : (text : List ℕ) (p : Program) (names : List (List ℕ)) (a : Accepts text p names) → p .kind ≡ Preference
       → PreferredLeft (left (a .1 .whole)) (a .1 .whole .words) (a .1 .whole .rules) (p .words) (p .rules)
+  -- "The sets satisfying the clauses are exactly the models of what is written, and its preferred states are their subset-minimal ones" (W-202)
+  pub clause-sets : (text : List ℕ) (p : Program) (names : List (List ℕ)) (a : AcceptsClauses text p names) → WrittenClauses (a .atoms) (clausesOf text) p names

@@ -1,17 +1,18 @@
--- The marked cases of document 01's "Sheets of known states", from the bytes of the files; the order of states is that of document 02, W-206, units are those of W-207, the counts of translations those of W-214, and atoms that no rule has are left out by W-203.
+-- The marked cases of document 01's "Sheets of known states", from the bytes of the files; the order of states is that of document 02, W-206, units are those of W-207, the counts of translations those of W-214, atoms that no rule has are left out by W-203, and clause files are read by W-202.
 use Prim.Native.Nat.{ℕ}
 use mathlib.Core.Path.{_≡_}
 use mathlib.Core.List.{List, [], _∷_, _++_}
 use lib.ListN.{length}
 use Rattle.kinds.specs.Limits.{budgetLimit}
 use Rattle.kinds.specs.Words.{bytes}
-use Rattle.kinds.specs.declared.refusals.Refusal.the-variants.{Name, DeclaredTwice}
-use Rattle.rules.specs.Lists.{sum}
+use Rattle.kinds.specs.declared.refusals.Refusal.the-variants.{Name, DeclaredTwice, Limit, BrokenClauses, LiteralBeyond}
+use Rattle.rules.specs.Lists.{sum, flat, from}
 use Rattle.rules.specs.Rules.{occurrences}
 use Rattle.stores.specs.RuleStore.{encode}
 use Rattle.name_store.specs.NameStore.{encodeNames}
 use Rattle.text.specs.Text.{textOf}
 use Rattle.lines.specs.Said.{Said, accepted, refused, typed, said}
+use Rattle.clauses.specs.ClausesSaid.{clausesSaid}
 use Rattle.walks.specs.declared.answers.Verdict.{Verdict}
 use Rattle.walks.specs.declared.answers.Verdict.the-variants.{Yes, Broken, Beaten, Spent, Refused}
 use Rattle.walks.specs.declared.answers.NextState.{NextState}
@@ -82,6 +83,17 @@ inverters =
     bytes "(min ab1 ab2 ab3)\n(vary a b c d)\n(fix)\n(rule (head a b ab1) (body) (not))\n(rule (head ab1) (body a b) (not))\n(rule (head b c ab2) (body) (not))\n(rule (head ab2) (body b c) (not))\n"
     ++ bytes "(rule (head c d ab3) (body) (not))\n(rule (head ab3) (body c d) (not))\n(rule (head) (body a) (not))\n(rule (head) (body d) (not))\n"
 
+-- a clause file: v1 or not v2; v2 or v4, with a literal repeated; not v1 or not v4 or not v2, over two lines; no clause has atom 3
+unfoldable pub clauseFile : List ℕ
+clauseFile = bytes "c three clauses\np cnf 4 3\n1 -2 0\n  2 4 2 0 -1\nc 0\n\n-4 -2 0\n"
+
+-- 256 of 257 clauses, with 8,192 occurrences, on line 2
+unfoldable pub manyLiterals : List ℕ
+manyLiterals =
+    bytes "p cnf 32 257\n"
+    ++ (flat (λ i. bytes "1 2 3 4 5 6 7 8 9 10 11 12 13 14 15 16 17 18 19 20 21 22 23 24 25 26 27 28 29 30 31 32 0 ") (from 0 256)
+    ++ bytes "\n")
+
 -- the verdict on a set by a text's lines
 abbrev pub verdict : Said → ℕ → ℕ → Verdict
 verdict (accepted p names) set budget = preferredVerdict (p .words) (p .rules) set budget
@@ -106,6 +118,11 @@ next (refused f line) start = NotSearched f
 abbrev pub states : Said → List ℕ
 states (accepted p names) = preferredSets (p .words) (p .rules)
 states (refused f line) = []
+
+-- the two stores of what a text's lines leave
+abbrev pub stores : Said → List ℕ × List ℕ
+stores (accepted p names) = (encode p, encodeNames names)
+stores (refused f line) = ([], [])
 
 -- the writer's text of what a text's lines leave
 abbrev pub written : Said → List ℕ
@@ -160,3 +177,27 @@ pub record Sheet : Type 0 where
   -- stores with unused atoms that are handed in are written and translated with them
   pub handed-in-written : handedIn (typed unused) ≡ unused
   pub handed-in-counts : counts (typed unused) ≡ 25 ∷ 43 ∷ 111 ∷ []
+  -- the clause file: its text and stores; sets 4 and 3 preferred, set 5 satisfies the clauses and is beaten by 4, set 1 breaks the second clause
+  pub clauses-written : written (clausesSaid clauseFile)
+      ≡ bytes "(min v1 v2 v4)\n(vary)\n(fix)\n(rule (head v1) (body v2) (not))\n(rule (head v2 v4) (body) (not))\n(rule (head) (body v1 v4 v2) (not))\n"
+  pub clauses-rules : stores (clausesSaid clauseFile) .0 ≡ 1 ∷ 3 ∷ 1 ∷ 3 ∷ 1 ∷ 1 ∷ 1 ∷ 1 ∷ 1 ∷ 0 ∷ 0 ∷ 1 ∷ 2 ∷ 0 ∷ 0 ∷ 1 ∷ 2 ∷ 0 ∷ 3 ∷ 0 ∷ 0 ∷ 2 ∷ 1 ∷ []
+  pub clauses-names : stores (clausesSaid clauseFile) .1 ≡ 2 ∷ bytes "v1" ++ (2 ∷ bytes "v2" ++ (2 ∷ bytes "v4"))
+  pub clauses-states : states (clausesSaid clauseFile) ≡ 4 ∷ 3 ∷ []
+  pub clauses-5 : verdict (clausesSaid clauseFile) 5 budgetLimit ≡ Beaten 4 5
+  pub clauses-1 : verdict (clausesSaid clauseFile) 1 budgetLimit ≡ Broken 1
+  -- no clause: one empty state; an empty clause: none
+  pub no-clause-written : written (clausesSaid (bytes "p cnf 0 0\n")) ≡ bytes "(min)\n(vary)\n(fix)\n"
+  pub no-clause : states (clausesSaid (bytes "p cnf 0 0\n")) ≡ 0 ∷ []
+  pub empty-clause : states (clausesSaid (bytes "p cnf 1 2\n1 0\n0\n")) ≡ []
+  -- 15, 16 and 7, each with its line; on one line 15 before 16 before 7; the earliest line counts
+  pub broken-clause : clausesSaid (bytes "p cnf 2 2\n1 0\n2 -0\n") ≡ refused BrokenClauses 3
+  pub literal-beyond : clausesSaid (bytes "p cnf 2 1\n1\n-3 0\n") ≡ refused LiteralBeyond 3
+  pub atoms-257 : clausesSaid (bytes "c\np cnf 257 1\n1 0\n") ≡ refused Limit 2
+  pub literal-8193 : clausesSaid (manyLiterals ++ bytes "-1 0\n") ≡ refused Limit 3
+  pub beyond-before-limit : clausesSaid (manyLiterals ++ bytes "-1 33 0\n") ≡ refused LiteralBeyond 3
+  pub broken-before-beyond : clausesSaid (bytes "p cnf 1 1\n2 0 x\n") ≡ refused BrokenClauses 2
+  pub beyond-line-first : clausesSaid (bytes "p cnf 1 1\n2\nx 0\n") ≡ refused LiteralBeyond 2
+  -- a surplus clause on the line where it starts, a missing or unfinished one past the last line
+  pub surplus-clause : clausesSaid (bytes "p cnf 1 1\n1 0\n-1\n0\n") ≡ refused BrokenClauses 3
+  pub missing-clause : clausesSaid (bytes "p cnf 1 2\n1 0\n") ≡ refused BrokenClauses 3
+  pub unfinished-clause : clausesSaid (bytes "p cnf 1 1\n1\n") ≡ refused BrokenClauses 3

@@ -1,5 +1,6 @@
 -- The laws of the theory.
 pub mod Booleans
+pub mod Connectives
 pub mod Lists
 pub mod Filtered
 pub mod ListLaws

@@ -3,7 +3,7 @@ use Prim.Native.Nat.{ℕ, zero, suc, _+_, _-_, _*_, _≤_, _<_}
 use mathlib.Core.Path.{_≡_, refl, sym, ap, ap₂, _∙_, subst}
 use mathlib.Core.Logic.{_⊎_, inl, inr, _↔_, _≢_}
 use mathlib.Core.List.{List, [], _∷_, _++_, map}
-use mathlib.Core.Bool.{Bool, true, false}
+use mathlib.Core.Bool.{Bool, true, false, _||_, or-comm}
 use native.Mathlib.Omega.{arith}
 use native.Mathlib.Decide.{ℕ-discrete}
 use native.Mathlib.Nat.{add-sub-cancel-left}
@@ -12,7 +12,7 @@ use lib.ListN.{length, getD, take, drop, length-drop}
 use lib.Seq.{take-all}
 use borrow.Author.Tests.{eq-eqb, ne-eqb}
 use Rattle.rules.specs.Lists.{All, Any, Distinct, every, some, empty?, keep, filter, sum, flat, from}
-use Rattle.rules.proofs.Booleans.{decide, T-and, T-and-l, T-and-r, T-or, T-or-out}
+use Rattle.rules.proofs.Booleans.{decide, T-and, T-and-l, T-and-r, T-or, T-or-out, or-assoc, or-false}
 
 module _ {A : Type 0} (P : A → Type 0) where
   pub all-app : (xs ys : List A) → All P xs → All P ys → All P (xs ++ ys)
@@ -272,6 +272,14 @@ pub map-at : {A B : Type 0} (f : A → B) (l : List A) (i : ℕ) (d : A) (e : B)
 map-at f [] i d e h = absurd (omega arith)
 map-at f (x ∷ l) zero d e h = refl
 map-at f (x ∷ l) (suc i) d e h = map-at f l i d e (omega arith)
+
+-- a test somewhere in two lists, and in a list with one more entry
+pub some-app : {A : Type 0} (p : A → Bool) (xs ys : List A) → some p (xs ++ ys) ≡ (some p xs || some p ys)
+some-app p [] ys = refl
+some-app p (x ∷ xs) ys = ap (λ (b : Bool). p x || b) (some-app p xs ys) ∙ or-assoc (p x) (some p xs) (some p ys)
+
+pub some-last : {A : Type 0} (p : A → Bool) (xs : List A) (x : A) → some p (xs ++ (x ∷ [])) ≡ (p x || some p xs)
+some-last p xs x = some-app p xs (x ∷ []) ∙ or-comm (some p xs) (p x || false) ∙ ap (λ (b : Bool). b || some p xs) (or-false (p x))
 
 -- each entry that passes a test makes it pass somewhere
 pub some-each : {A B : Type 0} (p : B → A → Bool) (l : List A) → All (λ x. (b : B) → T (p b x) → T (some (p b) l)) l
