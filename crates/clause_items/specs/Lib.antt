@@ -1,3 +1,2 @@
 -- What the code finds at a place of a line.
 pub mod Found
-pub mod DigitRuns

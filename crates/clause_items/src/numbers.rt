@@ -2,13 +2,13 @@
 use names::forms::is_digit;
 ghost use mathlib.Core.Path.{_≡_};
 ghost use mathlib.Core.Bool.{true};
-ghost use Prim.Native.Nat.{_+_, _-_, _*_, _≤_};
-ghost use lib.ListN.{length, drop};
+ghost use Prim.Native.Nat.{_+_, _-_, _*_, _≤_, _<_};
+ghost use mathlib.Core.Logic.{_≢_};
+ghost use lib.ListN.{length, getD, drop};
 ghost use Rattle.names.specs.Names.{digit?};
 ghost use Rattle.kinds.specs.Words.{byte};
 ghost use Rattle.clauses.specs.Items.{separator?};
 ghost use Rattle.clause_items.specs.Found.{largest, capped, gap, numberAt};
-ghost use Rattle.clause_items.specs.DigitRuns.{DigitsTo};
 
 // A number and where it ends, or an item that is none.
 pub enum Number {
@@ -58,25 +58,24 @@ fn with_digit(value: usize, b: u8) -> usize
     }
 }
 
-// The number that digits from `at` to `to` are, unless there is none or a leading zero.
-fn number_to(line: &[u8], at: usize, to: usize, said: usize) -> Number
-    requires { ⌜ DigitsTo (now line) at to said ⌝ }
+// A 0 stands alone.
+fn zero_at(line: &[u8], at: usize) -> Number
+    requires { ⌜ (at < length (now line)) × (getD (now line) at 0 ≡ byte "0") ⌝ }
     ensures { λ r. ⌜ r ≡ numberAt at (drop at (now (line .entry))) ⌝ }
 {
-    if to == at {
-        return Number::Broken;
+    let to = at + 1;
+    if line.len() <= to {
+        return Number::Value { value: 0, to };
     }
-    if line[at] != b'0' {
-        return Number::Value { value: said, to };
-    }
-    if to - at == 1 {
-        return Number::Value { value: said, to };
+    if is_separator(line[to]) {
+        return Number::Value { value: 0, to };
     }
     Number::Broken
 }
 
-pub fn number_at(line: &[u8], at: usize) -> Number
-    requires { ⌜ at ≤ length (now line) ⌝ }
+// A number whose first digit is not 0.
+fn digits_at(line: &[u8], at: usize) -> Number
+    requires { ⌜ (at < length (now line)) × (digit? (getD (now line) at 0) ≡ true) × (getD (now line) at 0 ≢ byte "0") ⌝ }
     ensures { λ r. ⌜ r ≡ numberAt at (drop at (now (line .entry))) ⌝ }
 {
     let mut value: usize = 0;
@@ -85,12 +84,28 @@ pub fn number_at(line: &[u8], at: usize) -> Number
         let b = line[i];
         if !is_digit(b) {
             if is_separator(b) {
-                return number_to(line, at, i, value);
+                return Number::Value { value, to: i };
             }
             return Number::Broken;
         }
         value = with_digit(value, b);
         i += 1;
     }
-    number_to(line, at, i, value)
+    Number::Value { value, to: i }
+}
+
+pub fn number_at(line: &[u8], at: usize) -> Number
+    requires { ⌜ at ≤ length (now line) ⌝ }
+    ensures { λ r. ⌜ r ≡ numberAt at (drop at (now (line .entry))) ⌝ }
+{
+    if line.len() <= at {
+        return Number::Broken;
+    }
+    if line[at] == b'0' {
+        return zero_at(line, at);
+    }
+    if is_digit(line[at]) {
+        return digits_at(line, at);
+    }
+    Number::Broken
 }
