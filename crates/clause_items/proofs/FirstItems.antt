@@ -2,20 +2,23 @@
 use Prim.Native.Nat.{ℕ, zero, suc, _+_, _<_, _≤_}
 use native.Mathlib.Omega.{arith}
 use native.Mathlib.Decide.{decLt}
-use mathlib.Core.Path.{_≡_, sym, ap, _∙_, subst}
+use mathlib.Core.Path.{_≡_, refl, sym, ap, _∙_, subst}
 use mathlib.Core.List.{List, [], _∷_}
-use mathlib.Core.Bool.{Bool, true, false}
+use mathlib.Core.Bool.{Bool, true, false, not}
+use lib.Dec.{eqb}
 use lib.ListN.{length, getD, take, drop, length-drop, drop-of-length-le}
 use lib.Seq.{drop-cons, drop-drop, length-take-le}
-use Rattle.rules.proofs.Booleans.{T-of}
+use borrow.Author.Tests.{eqb-true, eqb-false, not-true}
+use Rattle.rules.specs.Lists.{every}
+use Rattle.rules.proofs.Booleans.{T-of, both-true}
 use Rattle.name_store.specs.NameStore.{sameBytes}
 use Rattle.name_store.proofs.NameStores.{same-equal}
 use Rattle.name_store.proofs.ByteLoops.{other-length}
 use Rattle.lines.specs.Forms.{begins}
 use Rattle.clauses.specs.Numerals.{numeral?}
-use Rattle.clauses.specs.Items.{run, itemsFrom, items}
+use Rattle.clauses.specs.Items.{separator?, run, itemsFrom, items}
 use Rattle.clause_items.specs.Found.{gap, front}
-use Rattle.clause_items.proofs.Gaps.{run-le, run-goes-on, behind-gap, item-byte, items-gap, items-first}
+use Rattle.clause_items.proofs.Gaps.{run-le, run-out, run-ends, run-goes-on, behind-gap, item-byte, items-gap, items-first}
 use Rattle.clause_items.proofs.FoundNumbers.{NumberAt}
 
 -- no item, or a first one that fails the test
@@ -77,12 +80,46 @@ module _ (line : List ℕ) (at : ℕ) {from : ℕ} (q : from ≡ at + gap (drop 
       some-bytes (suc k) e = omega arith
 
 -- a word
-module _ (s w : List ℕ) {n : ℕ} (e : n ≡ run s) where
-  long : length (front s) ≡ n
-  long = length-take-le (run s) s (run-le s) ∙ sym e
+module _ (s w : List ℕ) where
+  other-word : (run s ≡ length w → ⊥) → false ≡ sameBytes (front s) w
+  other-word h = other-length (front s) w (λ q. h (sym (length-take-le (run s) s (run-le s)) ∙ q))
 
-  pub other-word : (n ≡ length w → ⊥) → false ≡ sameBytes (front s) w
-  other-word h = other-length (front s) w (λ q. h (sym long ∙ q))
+  same-word : run s ≡ length w → {r : Bool} → r ≡ begins w s → r ≡ sameBytes (front s) w
+  same-word h q = q ∙ ap (λ (k : ℕ). sameBytes (take k s) w) (sym h)
 
-  pub same-word : n ≡ length w → {r : Bool} → r ≡ begins w s → r ≡ sameBytes (front s) w
-  same-word h q = q ∙ ap (λ (k : ℕ). sameBytes (take k s) w) (sym h ∙ e)
+-- a word without a separator, by what stands behind it
+
+word-run : (w : List ℕ) → every (λ b. not (separator? b)) w ≡ true → (s : List ℕ) → begins w s ≡ true → run s ≡ length w + run (drop (length w) s)
+unfolding run sameBytes
+word-run [] p s e = omega arith
+word-run (b ∷ w) p [] e = absurd (T-of (sym e) tt)
+word-run (b ∷ w) p (c ∷ s) e =
+    let a = both-true (not (separator? b)) (every (λ x. not (separator? x)) w) p in
+    let d = both-true (eqb c b) (sameBytes (take (length w) s) w) e in
+    let n : separator? c ≡ false = ap separator? (eqb-true c b (d .0)) ∙ not-true (separator? b) (a .0) in
+    rw n (omega (arith, word-run w (a .1) s (d .1)))
+
+module _ (line : List ℕ) (at : ℕ) (w : List ℕ) where
+  abbrev rest : List ℕ
+  rest = drop at line
+
+  pub word-absent : begins w rest ≡ false → false ≡ sameBytes (front rest) w
+  word-absent e = go (eqb (run rest) (length w)) refl
+    where
+      go : (b : Bool) → eqb (run rest) (length w) ≡ b → false ≡ sameBytes (front rest) w
+      go true q = same-word rest w (eqb-true (run rest) (length w) q) (sym e)
+      go false q = other-word rest w (eqb-false (run rest) (length w) q)
+
+  module _ (plain : every (λ b. not (separator? b)) w ≡ true) (e : begins w rest ≡ true) where
+    run-is : run rest ≡ length w + run (drop (at + length w) line)
+    run-is = word-run w plain rest e ∙ ap (λ (s : List ℕ). length w + run s) (drop-drop (length w) at line)
+
+    pub word-last : length line ≤ at + length w → true ≡ sameBytes (front rest) w
+    word-last l = same-word rest w (omega (arith, run-is, run-out line (at + length w) l)) (sym e)
+
+    pub word-parted : at + length w < length line → {b : Bool} → b ≡ separator? (getD line (at + length w) 0) → b ≡ sameBytes (front rest) w
+    word-parted l q = q ∙ go (separator? (getD line (at + length w) 0)) refl
+      where
+        go : (b : Bool) → separator? (getD line (at + length w) 0) ≡ b → b ≡ sameBytes (front rest) w
+        go true k = same-word rest w (omega (arith, run-is, run-ends line (at + length w) l k)) (sym e)
+        go false k = other-word rest w (λ n. omega (arith, run-is, run-goes-on line (at + length w) l k))

@@ -73,12 +73,12 @@ module _ (line : List ℕ) (at : ℕ) {from : ℕ} (q : from ≡ at + gap (drop 
         let g : tokenOf (getD line from 0 ∷ front rest) ≡ numbered ends (signed true) (getD line from 0 ∷ front rest) = simp (ne-eqb _ _ e) in
         ap tokenOf f ∙ g ∙ ap (numbered ends (signed true)) (sym f)
 
-    pub item-minus : getD line from 0 ≡ 45 → {r : Item} → r ≡ signedItem false rest (from + 1) → r ≡ itemAt at (drop at line)
+    item-minus : getD line from 0 ≡ 45 → {r : Item} → r ≡ signedItem false rest (from + 1) → r ≡ itemAt at (drop at line)
     item-minus e p =
         let n : from + 1 + run rest ≡ from + run (drop from line) = omega (arith, run-goes-on line from l (item-byte line at q l)) in
         p ∙ ap₂ tokenItem (sym (minus-token e)) n ∙ sym item-token
 
-    pub item-plain : (getD line from 0 ≡ 45 → ⊥) → {r : Item} → r ≡ signedItem true (drop from line) from → r ≡ itemAt at (drop at line)
+    item-plain : (getD line from 0 ≡ 45 → ⊥) → {r : Item} → r ≡ signedItem true (drop from line) from → r ≡ itemAt at (drop at line)
     item-plain e p =
         p ∙ ap (λ (k : Token). tokenItem k (from + run (drop from line))) (sym (plain-token e)) ∙ sym item-token
 

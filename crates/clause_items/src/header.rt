@@ -6,12 +6,14 @@ use crate::numbers::skip;
 use kinds::limits::Preference;
 use lines::scan::begins_at;
 ghost use mathlib.Core.Path.{_≡_};
+ghost use mathlib.Core.Bool.{true, not};
 ghost use mathlib.Core.List.{_∷_};
 ghost use Prim.Native.Nat.{_≤_};
 ghost use lib.ListN.{length, drop};
 ghost use Rattle.kinds.specs.Words.{bytes};
 ghost use Rattle.name_store.specs.NameStore.{sameBytes};
-ghost use Rattle.clauses.specs.Items.{run, items};
+ghost use Rattle.rules.specs.Lists.{every};
+ghost use Rattle.clauses.specs.Items.{separator?, items};
 ghost use Rattle.clauses.specs.Faults.{headerWith, headerLine};
 ghost use Rattle.clause_items.specs.Found.{front, headerStep};
 
@@ -21,30 +23,20 @@ pub enum Header {
     Broken,
 }
 
-// How many bytes stand from `at` on before a separator.
-fn run_at(line: &[u8], at: usize) -> usize
-    requires { ⌜ at ≤ length (now line) ⌝ }
-    ensures { λ r. ⌜ r ≡ run (drop at (now (line .entry))) ⌝ }
-{
-    let mut i = at;
-    while i < line.len() {
-        if is_separator(line[i]) {
-            return i - at;
-        }
-        i += 1;
-    }
-    i - at
-}
-
-// Whether the item at `at` is this word.
+// Whether the item at `at` is this word, in which no separator stands.
 fn is_word(line: &[u8], at: usize, word: &[u8]) -> bool
-    requires { ⌜ at ≤ length (now line) ⌝ }
+    requires { ⌜ (at ≤ length (now line)) × (every (λ b. not (separator? b)) (now word) ≡ true) ⌝ }
     ensures { λ r. ⌜ r ≡ sameBytes (front (drop at (now (line .entry)))) (now (word .entry)) ⌝ }
 {
-    if run_at(line, at) != word.len() {
+    let begins = begins_at(line, at, word);
+    if !begins {
         return false;
     }
-    begins_at(line, at, word)
+    let to = at + word.len();
+    if line.len() <= to {
+        return true;
+    }
+    is_separator(line[to])
 }
 
 // A header by its numbers.

@@ -50,7 +50,7 @@ module _ (n m k : ℕ) (u b : Bool) where
   unfolding laterRefusal
   later-surplus ts l = rw (lt-ltb m (begunAfter k u ts) (omega (arith, after-more k u ts)), or-true (some wrong? ts))
 
-  pub later-end : {ts : List Token} → ts ≡ [] → k ≤ m → laterRefusal n m k u b ts ≡ cond b LiteralBeyond Limit
+  later-end : {ts : List Token} → ts ≡ [] → k ≤ m → laterRefusal n m k u b ts ≡ cond b LiteralBeyond Limit
   unfolding laterRefusal
   later-end e l = ap (laterRefusal n m k u b) e ∙ go b
     where

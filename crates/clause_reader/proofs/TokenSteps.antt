@@ -70,7 +70,7 @@ after-more k u (literal l ∷ ts) = omega (arith, cond-le u k, after-more (cond 
 after-more k u (ends ∷ ts) = omega (arith, cond-le u k, after-more (cond u k (suc k)) false ts)
 after-more k u (wrong ∷ ts) = after-more k u ts
 
-pub begun-more : (g : Gathered) (ts : List Token) → begun g ≤ begun (withTokens g ts)
+begun-more : (g : Gathered) (ts : List Token) → begun g ≤ begun (withTokens g ts)
 begun-more g ts = omega (arith, begun-after g ts, after-more (begun g) (not (closed? g)) ts)
 
 once-longer : (xs : List ℕ) (a : ℕ) → length xs ≤ length (once xs a)

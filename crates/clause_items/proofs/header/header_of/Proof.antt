@@ -1,6 +1,6 @@
 use Prim.Native.Nat.{ℕ, zero-le}
 use native.Mathlib.Omega.{arith}
-use mathlib.Core.Path.{sym, ap, _∙_}
+use mathlib.Core.Path.{refl, sym, ap, _∙_}
 use mathlib.Core.List.{List, _∷_}
 use borrow.Author.Tests.{not-true, not-false}
 use Rattle.kinds.specs.Words.{bytes}
@@ -20,7 +20,7 @@ slice-aggregate-is-word : tie.Need-slice-aggregate-is-word
 slice-aggregate-is-word c = search needs
 
 is-word-requires : tie.Need-is-word-requires
-is-word-requires c κs = from-inside _ 0 (c .before .skip .ensures) zero-le
+is-word-requires c κs = (from-inside _ 0 (c .before .skip .ensures) zero-le, refl)
 
 returns : tie.Need-returns
 returns c = no-p _ (first-fails _ 0 (c .before .before .before .skip .ensures) (λ x. sameBytes x (bytes "p")) (sym (c .before .is-word .ensures) ∙ not-true _ (c .if1 .taken)))
@@ -35,7 +35,7 @@ slice-aggregate-is-word-2 : tie.Need-slice-aggregate-is-word-2
 slice-aggregate-is-word-2 c = search needs
 
 is-word-requires-2 : tie.Need-is-word-requires-2
-is-word-requires-2 c κs = from-inside _ _ (c .before .skip2 .ensures) (first-word _ 0 (c .before .before .before .before .before .skip .ensures) (bytes "p") (omega arith) (c .before .before .before .is-word .ensures) (not-false _ (c .before .before .if1 .left)) .inside)
+is-word-requires-2 c κs = (from-inside _ _ (c .before .skip2 .ensures) (first-word _ 0 (c .before .before .before .before .before .skip .ensures) (bytes "p") (omega arith) (c .before .before .before .is-word .ensures) (not-false _ (c .before .before .if1 .left)) .inside), refl)
 
 returns-2 : tie.Need-returns-2
 returns-2 c = let p = first-word _ 0 (c .before .before .before .before .before .before .before .skip .ensures) (bytes "p") (omega arith) (c .before .before .before .before .before .is-word .ensures) (not-false _ (c .before .before .before .before .if1 .left)) in ap headerLine (p .items-are) ∙ no-cnf _ (first-fails _ _ (c .before .before .before .skip2 .ensures) (λ x. sameBytes x (bytes "cnf")) (sym (c .before .is-word2 .ensures) ∙ not-true _ (c .if2 .taken)))
