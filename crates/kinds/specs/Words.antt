@@ -28,6 +28,10 @@ close-bracket = byte ")"
 abbrev pub line-end : ℕ
 line-end = byte "\n"
 
+-- a comment goes from here to the line's end (document 02, W-205)
+abbrev pub comment-mark : ℕ
+comment-mark = byte ";"
+
 abbrev pub atomsWord : List ℕ
 atomsWord = bytes "atoms"
 

@@ -1,91 +1,247 @@
 -- The form of a line by the places of its lists.
-use Prim.Native.Nat.{ℕ}
-use mathlib.Core.Path.{_≡_, sym, _∙_}
-use mathlib.Core.List.{List}
-use mathlib.Core.Bool.{Bool, true, false, _||_}
-use lib.ListN.{drop}
+use Prim.Native.Nat.{ℕ, _≤_}
+use native.Mathlib.Omega.{arith}
+use mathlib.Core.Path.{_≡_, refl, sym, ap, _∙_, subst}
+use mathlib.Core.List.{List, [], _∷_}
+use mathlib.Core.Bool.{Bool, true, false, cond, not, _||_}
+use lib.Dec.{T}
+use lib.ListN.{length, drop}
+use borrow.Author.Tests.{not-true, not-false}
+use Rattle.kinds.specs.Words.{atomsWord, minWord, varyWord, fixWord, ruleWord, headWord, bodyWord, notWord}
 use Rattle.kinds.specs.declared.limits.Kind.{Kind}
+use Rattle.rules.specs.Lists.{some, empty?}
 use Rattle.name_store.specs.NameStore.{sameBytes}
+use Rattle.lines.specs.declared.scan.Place.{Place}
+use Rattle.lines.specs.declared.scan.Place.the-variants as Place
 use Rattle.lines.specs.declared.forms.Keyword.{Keyword}
-use Rattle.lines.specs.Items.{items}
-use Rattle.lines.specs.Forms.{broken, begins, tagOf, headTag, bodyTag, notTag, listEnd, ruleEnd, split, none, splitList, declaredForm, ruleForm, formOf, atoms, min, vary, fix}
-use Rattle.lines.specs.Shapes.{wordOf, Declared, Ruled}
-use Rattle.lines.proofs.NameLists.{Listed}
+use Rattle.lines.specs.declared.forms.Keyword.the-variants as Key
+use Rattle.lines.specs.declared.forms.Shape.{Shape}
+use Rattle.lines.specs.declared.forms.Shape.the-variants as Line
+use Rattle.lines.specs.Lines.{ended?}
+use Rattle.lines.specs.Tokens.{Token, opening, closing, word, tokens, items}
+use Rattle.lines.specs.Forms.{Word, wordBytes, atoms, min, vary, fix, LineForm, declares, rules, blank, broken, Opened, opened, unopened, openedOf, Split, split, none, splitNames, splitList, onSplit, lastly, closedLastly, declaredForm, ruleForm, openedForm, tokenForm, typedForm, names?, named, formOf}
+use Rattle.lines.specs.Faults.{refusedName, anyOf}
+use Rattle.lines.specs.Shapes.{closes?, closesLast?, opensWith, ClosedSays, ClosedIs, OpenedSays, OpenedIs, Listed, ListedBehind, wordOf, Declared, Ruled, ShapeIs}
+
+-- a closing bracket, and nothing behind it
+module _ (s : List ℕ) (at : ℕ) {q : Place} (c : ClosedIs s at q) where
+  pub not-closing : q ≡ Place.Absent → false ≡ closesLast? (tokens (drop at s))
+  not-closing e = go (tokens (drop at s)) (subst (ClosedSays s at) e (c .says))
+    where
+      go : (ts : List Token) → closes? ts ≡ false → false ≡ closesLast? ts
+      go [] n = refl
+      go (opening ∷ ts) n = refl
+      go (closing ∷ ts) n = absurd (let z : _≡_ {A = ℕ} 0 1 = cc in omega arith)
+      go (word x ∷ ts) n = refl
+
+  pub closing-last : {p : ℕ} → q ≡ Place.At p → {r : Bool} → r ≡ empty? (tokens (drop p s)) → r ≡ closesLast? (tokens (drop at s))
+  closing-last {p} e f = let k : ClosedSays s at (Place.At p) = subst (ClosedSays s at) e (c .says) in f ∙ sym (ap closesLast? (k .1))
+
+  pub closing-inside : {p : ℕ} → q ≡ Place.At p → p ≤ length s
+  closing-inside {p} e = let k : ClosedSays s at (Place.At p) = subst (ClosedSays s at) e (c .says) in k .0 .inside
+
+last-form : (ts : List Token) (f : LineForm) {r : Bool} → r ≡ empty? ts → lastly ts f ≡ cond r f broken
+last-form [] f e = ap (λ (b : Bool). cond b f broken) (sym e)
+last-form (t ∷ ts) f e = ap (λ (b : Bool). cond b f broken) (sym e)
+
+closed-form : (ts : List Token) (f : LineForm) {r : Bool} → r ≡ closesLast? ts → closedLastly ts f ≡ cond r f broken
+closed-form [] f e = ap (λ (b : Bool). cond b f broken) (sym e)
+closed-form (opening ∷ ts) f e = ap (λ (b : Bool). cond b f broken) (sym e)
+closed-form (closing ∷ ts) f e = last-form ts f e
+closed-form (word x ∷ ts) f e = ap (λ (b : Bool). cond b f broken) (sym e)
 
 -- a line that declares atoms
-module _ (kind : Kind) (l : List ℕ) (w : Keyword) {tag : List ℕ} (p : tag ≡ tagOf (wordOf w)) where
-  pub no-names : splitList tag l ≡ none → declaredForm (wordOf w) l ≡ broken
+module _ (kind : Kind) (l : List ℕ) (from : ℕ) (w : Keyword) where
+  pub no-names : ((xs : List (List ℕ)) (rest : List Token) → splitNames (tokens (drop from l)) ≡ split xs rest → names? xs ≡ false) → named (declaredForm (wordOf w) (tokens (drop from l))) ≡ broken
   unfolding declaredForm
-  no-names e = rw (rw p at e)
+  no-names n = go (splitNames (tokens (drop from l))) n
+    where
+      ending : (xs : List (List ℕ)) (rest : List Token) → names? xs ≡ false → named (lastly rest (declares (wordOf w) xs)) ≡ broken
+      ending xs [] e = ap (λ (b : Bool). cond b (declares (wordOf w) xs) broken) e
+      ending xs (t ∷ ts) e = refl
 
-  module _ {from end count : ℕ} {refused : Bool} (h : Listed kind tag l 0 from end count refused) {q : Bool} (e : q ≡ sameBytes (drop end l) listEnd) where
-    cuts : splitList (tagOf (wordOf w)) l ≡ split (items (drop from l)) (drop end l)
-    cuts = rw p at h .cuts
+      go : (p : Split) → ((xs : List (List ℕ)) (rest : List Token) → p ≡ split xs rest → names? xs ≡ false) → named (onSplit p (λ xs rest. lastly rest (declares (wordOf w) xs))) ≡ broken
+      go (split xs rest) n = ending xs rest (n xs rest refl)
+      go none n = refl
 
-    pub not-closed : q ≡ false → declaredForm (wordOf w) l ≡ broken
+  module _ {end count : ℕ} {refused : Bool} (h : Listed kind l from end count refused) {r : Bool} (e : r ≡ empty? (tokens (drop end l))) where
+    form-is : named (declaredForm (wordOf w) (tokens (drop from l))) ≡ cond r (declares (wordOf w) (items (drop from l))) broken
     unfolding declaredForm
-    not-closed d = rw (cuts, sym e ∙ d)
+    form-is =
+        ap (λ p. named (onSplit p (λ xs rest. lastly rest (declares (wordOf w) xs)))) (h .cuts)
+        ∙ ap named (last-form (tokens (drop end l)) (declares (wordOf w) (items (drop from l))) e)
+        ∙ go r
+      where
+        go : (b : Bool) → named (cond b (declares (wordOf w) (items (drop from l))) broken) ≡ cond b (declares (wordOf w) (items (drop from l))) broken
+        go true = ap (λ (b : Bool). cond b (declares (wordOf w) (items (drop from l))) broken) (h .are-names)
+        go false = refl
 
-    pub declaring : q ≡ true → Declared kind l (declaredForm (wordOf w) l) (record { word = w; from = from; count = count; refused = refused })
-    unfolding declaredForm
-    declaring d = record { form = rw (cuts, sym e ∙ d); inside = h .in-from; is-count = h .is-count; is-refused = h .is-refused }
+    pub more-behind : r ≡ false → named (declaredForm (wordOf w) (tokens (drop from l))) ≡ broken
+    more-behind d = form-is ∙ ap (λ (b : Bool). cond b (declares (wordOf w) (items (drop from l))) broken) d
+
+    pub declaring : r ≡ true → from ≤ length l → Declared kind l (named (declaredForm (wordOf w) (tokens (drop from l)))) (record { word = w; from = from; count = count; refused = refused })
+    declaring d i = record { form = form-is ∙ ap (λ (b : Bool). cond b (declares (wordOf w) (items (drop from l))) broken) d; inside = i; is-count = h .is-count; is-refused = h .is-refused }
 
 -- a rule
-module _ (kind : Kind) (l : List ℕ) where
-  pub no-head : splitList headTag l ≡ none → ruleForm l ≡ broken
+
+module _ (hs bs ns : List (List ℕ)) where
+  wrong-head : names? hs ≡ false → named (rules hs bs ns) ≡ broken
+  wrong-head e = rw e
+
+  wrong-body : names? bs ≡ false → named (rules hs bs ns) ≡ broken
+  wrong-body e = go (names? hs)
+    where
+      go : (b : Bool) → cond b (cond (names? bs) (cond (names? ns) (rules hs bs ns) broken) broken) broken ≡ broken
+      go true = rw e
+      go false = refl
+
+  wrong-not : names? ns ≡ false → named (rules hs bs ns) ≡ broken
+  wrong-not e = go (names? hs) (names? bs)
+    where
+      go : (b c : Bool) → cond b (cond c (cond (names? ns) (rules hs bs ns) broken) broken) broken ≡ broken
+      go true true = rw e
+      go true false = refl
+      go false c = refl
+
+  -- whatever follows
+  closed-wrong : named (rules hs bs ns) ≡ broken → (rest : List Token) → named (closedLastly rest (rules hs bs ns)) ≡ broken
+  closed-wrong e rest = ap named (closed-form rest (rules hs bs ns) refl) ∙ go (closesLast? rest)
+    where
+      go : (b : Bool) → named (cond b (rules hs bs ns) broken) ≡ broken
+      go true = e
+      go false = refl
+
+abbrev behindBody : List (List ℕ) → List (List ℕ) → List Token → LineForm
+behindBody hs bs s = onSplit (splitList notWord s) (λ ns rest. closedLastly rest (rules hs bs ns))
+
+abbrev behindHead : List (List ℕ) → List Token → LineForm
+behindHead hs r = onSplit (splitList bodyWord r) (λ bs s. behindBody hs bs s)
+
+body-wrong : (hs bs : List (List ℕ)) → ((ns : List (List ℕ)) → named (rules hs bs ns) ≡ broken) → (s : List Token) → named (behindBody hs bs s) ≡ broken
+body-wrong hs bs e s = go (splitList notWord s)
+  where
+    go : (p : Split) → named (onSplit p (λ ns rest. closedLastly rest (rules hs bs ns))) ≡ broken
+    go (split ns rest) = closed-wrong hs bs ns (e ns) rest
+    go none = refl
+
+head-wrong : (hs : List (List ℕ)) → names? hs ≡ false → (r : List Token) → named (behindHead hs r) ≡ broken
+head-wrong hs e r = go (splitList bodyWord r)
+  where
+    go : (p : Split) → named (onSplit p (λ bs s. behindBody hs bs s)) ≡ broken
+    go (split bs s) = body-wrong hs bs (λ ns. wrong-head hs bs ns e) s
+    go none = refl
+
+-- no list there, or a wrong name in it
+abbrev NoList : List ℕ → List Token → Type 0
+NoList w ts = (xs : List (List ℕ)) (rest : List Token) → splitList w ts ≡ split xs rest → names? xs ≡ false
+
+broken-split : (p : Split) (f : List (List ℕ) → List Token → LineForm) → ((xs : List (List ℕ)) (rest : List Token) → p ≡ split xs rest → named (f xs rest) ≡ broken) → named (onSplit p f) ≡ broken
+broken-split (split xs rest) f n = n xs rest refl
+broken-split none f n = refl
+
+module _ (kind : Kind) (l : List ℕ) (from : ℕ) where
+  abbrev form : LineForm
+  form = named (ruleForm (tokens (drop from l)))
+
+  pub no-head : NoList headWord (tokens (drop from l)) → form ≡ broken
   unfolding ruleForm
-  no-head e = rw e
+  no-head n = broken-split (splitList headWord (tokens (drop from l))) behindHead (λ hs r e. head-wrong hs (n hs r e) r)
 
-  module _ {head he heads : ℕ} {hr : Bool} (h : Listed kind headTag l 0 head he heads hr) where
-    pub no-body : splitList bodyTag (drop he l) ≡ none → ruleForm l ≡ broken
+  module _ {he : ℕ} {hr : Bool} (h : ListedBehind kind headWord l from he hr) where
+    behind-head : form ≡ named (behindHead (h .names) (tokens (drop he l)))
     unfolding ruleForm
-    no-body e = rw (h .cuts, e)
+    behind-head = ap (λ p. named (onSplit p behindHead)) (h .cuts)
 
-    module _ {body be bodies : ℕ} {br : Bool} (b : Listed kind bodyTag l he body be bodies br) where
-      pub no-not : splitList notTag (drop be l) ≡ none → ruleForm l ≡ broken
-      unfolding ruleForm
-      no-not e = rw (h .cuts, b .cuts, e)
+    pub no-body : NoList bodyWord (tokens (drop he l)) → form ≡ broken
+    no-body n = behind-head ∙ broken-split (splitList bodyWord (tokens (drop he l))) (behindBody (h .names)) (λ bs s e. body-wrong (h .names) bs (λ ns. wrong-body (h .names) bs ns (n bs s e)) s)
 
-      module _ {nots ne not-count : ℕ} {nr : Bool} (n : Listed kind notTag l be nots ne not-count nr) {q : Bool} (e : q ≡ sameBytes (drop ne l) ruleEnd) where
-        pub not-ended : q ≡ false → ruleForm l ≡ broken
-        unfolding ruleForm
-        not-ended d = rw (h .cuts, b .cuts, n .cuts, sym e ∙ d)
+    module _ {be : ℕ} {br : Bool} (b : ListedBehind kind bodyWord l he be br) where
+      behind-body : form ≡ named (behindBody (h .names) (b .names) (tokens (drop be l)))
+      behind-body = behind-head ∙ ap (λ p. named (onSplit p (behindBody (h .names)))) (b .cuts)
 
-        pub ruling : q ≡ true → {refused : Bool} → refused ≡ (hr || (br || nr)) → Ruled kind l (ruleForm l) (record { lists = record { head = head; body = body; not = nots }; heads = heads; bodies = bodies; nots = not-count; refused = refused })
-        unfolding ruleForm
+      pub no-not : NoList notWord (tokens (drop be l)) → form ≡ broken
+      no-not n = behind-body ∙ broken-split (splitList notWord (tokens (drop be l))) (λ ns rest. closedLastly rest (rules (h .names) (b .names) ns)) (λ ns rest e. closed-wrong (h .names) (b .names) ns (wrong-not (h .names) (b .names) ns (n ns rest e)) rest)
+
+      module _ {ne : ℕ} {nr : Bool} (n : ListedBehind kind notWord l be ne nr) {q : Bool} (e : q ≡ closesLast? (tokens (drop ne l))) where
+        abbrev rule : LineForm
+        rule = rules (h .names) (b .names) (n .names)
+
+        form-ends : form ≡ cond q rule broken
+        form-ends =
+            behind-body
+            ∙ ap (λ p. named (onSplit p (λ ns rest. closedLastly rest (rules (h .names) (b .names) ns)))) (n .cuts)
+            ∙ ap named (closed-form (tokens (drop ne l)) rule e)
+            ∙ go q
+          where
+            go : (c : Bool) → named (cond c rule broken) ≡ cond c rule broken
+            go true = rw (h .are-names, b .are-names, n .are-names)
+            go false = refl
+
+        pub not-ended : q ≡ false → form ≡ broken
+        not-ended d = form-ends ∙ ap (λ c. cond c rule broken) d
+
+        pub ruling : q ≡ true → {refused : Bool} → refused ≡ (hr || (br || nr)) → Ruled kind form refused
         ruling d g =
             record {
-              form = rw (h .cuts, b .cuts, n .cuts, sym e ∙ d);
-              in-head = h .in-from;
-              in-body = b .in-from;
-              in-not = n .in-from;
-              is-heads = h .is-count;
-              is-bodies = b .is-count;
-              is-nots = n .is-count;
+              heads = h .names;
+              bodies = b .names;
+              nots = n .names;
+              form = form-ends ∙ ap (λ c. cond c rule broken) d;
               is-refused = g ∙ (λ i. h .is-refused i || (b .is-refused i || n .is-refused i));
             }
 
 -- the word of a line
-module _ (l : List ℕ) {a : Bool} (e : a ≡ begins (tagOf atoms) l) where
-  pub of-atoms : a ≡ true → formOf l ≡ declaredForm atoms l
-  unfolding formOf
-  of-atoms d = rw (sym e ∙ d)
 
-  module _ (d : a ≡ false) {b : Bool} (f : b ≡ begins (tagOf min) l) where
-    pub of-min : b ≡ true → formOf l ≡ declaredForm min l
-    unfolding formOf
-    of-min g = rw (sym e ∙ d, sym f ∙ g)
+module _ (l : List ℕ) where
+  abbrev line : Opened
+  line = openedOf (tokens l)
 
-    module _ (g : b ≡ false) {c : Bool} (k : c ≡ begins (tagOf vary) l) where
-      pub of-vary : c ≡ true → formOf l ≡ declaredForm vary l
-      unfolding formOf
-      of-vary i = rw (sym e ∙ d, sym f ∙ g, sym k ∙ i)
+  opened-at : {w : List ℕ} {q : Place} → OpenedIs l 0 w q → {p : ℕ} → q ≡ Place.At p → line ≡ opened w (tokens (drop p l))
+  opened-at {w} o {p} e = let k : OpenedSays l 0 w (Place.At p) = subst (OpenedSays l 0 w) e (o .says) in k .1
 
-      module _ (i : c ≡ false) {t : Bool} (m : t ≡ begins (tagOf fix) l) where
-        pub of-fix : t ≡ true → formOf l ≡ declaredForm fix l
-        unfolding formOf
-        of-fix o = rw (sym e ∙ d, sym f ∙ g, sym k ∙ i, sym m ∙ o)
+  unlike : {w : List ℕ} {q : Place} → OpenedIs l 0 w q → q ≡ Place.Absent → opensWith w line ≡ false
+  unlike {w} o e = subst (OpenedSays l 0 w) e (o .says)
 
-        pub of-rule : t ≡ false → formOf l ≡ ruleForm l
-        unfolding formOf
-        of-rule o = rw (sym e ∙ d, sym f ∙ g, sym k ∙ i, sym m ∙ o)
+  pub of-word : (w : Keyword) {q : Place} → OpenedIs l 0 (wordBytes (wordOf w)) q → {p : ℕ} → q ≡ Place.At p → named (openedForm line) ≡ named (declaredForm (wordOf w) (tokens (drop p l)))
+  unfolding sameBytes
+  of-word Key.Atoms o e = ap (λ t. named (openedForm t)) (opened-at o e)
+  of-word Key.Min o e = ap (λ t. named (openedForm t)) (opened-at o e)
+  of-word Key.Vary o e = ap (λ t. named (openedForm t)) (opened-at o e)
+  of-word Key.Fix o e = ap (λ t. named (openedForm t)) (opened-at o e)
+
+  pub of-rule : {q : Place} → OpenedIs l 0 ruleWord q → {p : ℕ} → q ≡ Place.At p → named (openedForm line) ≡ named (ruleForm (tokens (drop p l)))
+  unfolding sameBytes
+  of-rule o e = ap (λ t. named (openedForm t)) (opened-at o e)
+
+  pub of-none : {a b c d f : Place} → OpenedIs l 0 ruleWord a → a ≡ Place.Absent → OpenedIs l 0 minWord b → b ≡ Place.Absent → OpenedIs l 0 varyWord c → c ≡ Place.Absent → OpenedIs l 0 fixWord d → d ≡ Place.Absent → OpenedIs l 0 atomsWord f → f ≡ Place.Absent → named (openedForm line) ≡ broken
+  of-none oa ea ob eb oc ec od ed of ef = ap named (go line (unlike oa ea) (unlike ob eb) (unlike oc ec) (unlike od ed) (unlike of ef))
+    where
+      go : (t : Opened) → opensWith ruleWord t ≡ false → opensWith minWord t ≡ false → opensWith varyWord t ≡ false → opensWith fixWord t ≡ false → opensWith atomsWord t ≡ false → openedForm t ≡ broken
+      go (opened x ts) r m v f a = rw (a, m, v, f, r)
+      go unopened r m v f a = refl
+
+  -- a line that is not ended, a blank one, and any other
+  pub of-unended : {r : Bool} → r ≡ ended? l → not r ≡ true → formOf l ≡ broken
+  unfolding formOf typedForm
+  of-unended e d = ap (λ b. named (cond b (tokenForm (tokens l)) broken)) (sym e ∙ not-true _ d)
+
+  module _ {r : Bool} (e : r ≡ ended? l) (d : not r ≡ false) where
+    ended : formOf l ≡ named (tokenForm (tokens l))
+    unfolding formOf typedForm
+    ended = ap (λ b. named (cond b (tokenForm (tokens l)) broken)) (sym e ∙ not-false _ d)
+
+    pub of-blank : {q : Bool} → q ≡ empty? (tokens l) → q ≡ true → formOf l ≡ blank
+    unfolding tokenForm
+    of-blank f g = ended ∙ go (tokens l) (sym f ∙ g)
+      where
+        go : (ts : List Token) → empty? ts ≡ true → named (tokenForm ts) ≡ blank
+        go [] n = refl
+        go (t ∷ ts) n = absurd (let z : _≡_ {A = ℕ} 0 1 = cc in omega arith)
+
+    pub of-filled : {q : Bool} → q ≡ empty? (tokens l) → q ≡ false → formOf l ≡ named (openedForm line)
+    unfolding tokenForm
+    of-filled f g = ended ∙ go (tokens l) (sym f ∙ g)
+      where
+        go : (ts : List Token) → empty? ts ≡ false → named (tokenForm ts) ≡ named (openedForm (openedOf ts))
+        go [] n = absurd (let z : _≡_ {A = ℕ} 0 1 = cc in omega arith)
+        go (t ∷ ts) n = refl

@@ -1,31 +1,34 @@
 -- The names of a list, one after another: a turn of the walk over them.
-use Prim.Native.Nat.{ℕ, suc, _+_, _≤_, zero-le}
-use native.Mathlib.Nat.{add-zero, zero-add}
+use Prim.Native.Nat.{ℕ, _+_, _≤_, zero-le}
+use native.Mathlib.Nat.{add-zero}
 use native.Mathlib.Omega.{arith}
 use mathlib.Core.Path.{_≡_, refl, sym, ap, ap₂, _∙_, subst}
 use mathlib.Core.List.{List, [], _∷_}
-use mathlib.Core.Bool.{Bool, true, false, cond, not, _||_}
-use lib.ListN.{length, drop, length-drop}
-use lib.Seq.{drop-drop}
+use mathlib.Core.Bool.{Bool, true, false, not, cond, _&&_, _||_}
+use lib.Dec.{T}
+use lib.ListN.{length, drop}
 use Rattle.kinds.specs.declared.limits.Kind.{Kind}
 use Rattle.kinds.specs.declared.limits.Kind.the-variants.{Plain, Preference}
-use Rattle.rules.specs.Lists.{every, some}
-use Rattle.rules.proofs.Booleans.{or-assoc, or-true, or-false}
 use Rattle.names.specs.declared.forms.NameClass.{NameClass}
 use Rattle.names.specs.declared.forms.NameClass.the-variants.{House, Generated, TooLong, Wrong}
 use Rattle.names.specs.Names.{nameClass, takes, allowed}
+use Rattle.name_store.specs.NameStore.{sameBytes}
+use Rattle.name_store.proofs.NameStores.{same-self}
+use Rattle.rules.specs.Lists.{some}
+use Rattle.rules.proofs.Booleans.{or-assoc, or-true, or-false, is-true}
 use Rattle.lines.specs.declared.scan.Item.{Item}
 use Rattle.lines.specs.declared.scan.Item.the-variants.{At, Stop}
+use Rattle.lines.specs.declared.scan.Place.{Place}
+use Rattle.lines.specs.declared.scan.Place.the-variants as Place
 use Rattle.lines.specs.declared.forms.NameFit.{NameFit}
 use Rattle.lines.specs.declared.forms.NameFit.the-variants as Fit
 use Rattle.lines.specs.declared.forms.Names.{Names}
 use Rattle.lines.specs.declared.forms.Names.the-variants as Found
-use Rattle.lines.specs.Items.{items, span}
-use Rattle.lines.specs.Forms.{isName, begins, split, none, splitNames, splitList}
+use Rattle.lines.specs.Tokens.{Token, opening, closing, word, tokens, leading, behind, items}
+use Rattle.lines.specs.Forms.{Opened, opened, unopened, openedOf, Split, split, none, closedBy, splitNames, onOpened, splitList, isName, names?}
 use Rattle.lines.specs.Faults.{refusedName}
-use Rattle.lines.specs.Shapes.{itemOf, classFit, nameFit, namesShape, listShape}
-use Rattle.lines.proofs.Tags.{tag-inside}
-use Rattle.lines.proofs.Scanning.{items-end, item-fits, item, later, item-is, item-length, span-le}
+use Rattle.lines.specs.Shapes.{itemOf, closes?, opensWith, Onward, ClosedSays, ClosedIs, OpenedSays, OpenedIs, classFit, nameFit, Listed, NamesSay, NamesAre, ListedBehind, ListSays, ListIs}
+use Rattle.lines.proofs.TokenPlaces.{items-end, behind-end, item-fits, item-long, item, later, item-is, behind-is, item-length}
 
 -- what a name is to a kind
 
@@ -52,33 +55,65 @@ fit-says : (kind : Kind) (x : List ℕ) {q d : NameFit} → q ≡ nameFit kind x
 unfolding nameFit
 fit-says kind x e d = subst (Says kind (nameClass x)) (sym e ∙ d) (says kind (nameClass x))
 
--- the names that are left, after those passed
-unfoldable pub namesLeft : Kind → ℕ → ℕ → ℕ → Bool → List (List ℕ) → Names
-namesLeft kind from end count refused ns =
-    cond (every (λ x. isName (nameClass x)) ns)
-    (Found.List from (end + span ns) (count + length ns) (refused || some (refusedName kind) ns))
-    Found.Broken
+-- the names of a list are those at its front
+split-is : (ts : List Token) {xs : List (List ℕ)} {rest : List Token} → splitNames ts ≡ split xs rest → xs ≡ leading ts
+unfolding splitNames
+split-is ts {xs} {rest} e = go (behind ts) e
+  where
+    go : (us : List Token) → closedBy (leading ts) us ≡ split xs rest → xs ≡ leading ts
+    go [] e = absurd (let z : _≡_ {A = ℕ} 0 1 = cc in omega arith)
+    go (opening ∷ us) e = absurd (let z : _≡_ {A = ℕ} 0 1 = cc in omega arith)
+    go (closing ∷ us) e = let q : leading ts ≡ xs = cc in sym q
+    go (word x ∷ us) e = absurd (let z : _≡_ {A = ℕ} 0 1 = cc in omega arith)
 
+-- the names up to `end` are passed
 pub record Naming (kind : Kind) (s : List ℕ) (from end count : ℕ) (refused : Bool) : Type 0 where
   pub inside : end ≤ length s
   pub few : count ≤ end
-  pub left : namesLeft kind from end count refused (items (drop end s)) ≡ namesShape kind from (drop from s)
+  pub same-behind : behind (tokens (drop end s)) ≡ behind (tokens (drop from s))
+  pub counted : count + length (items (drop end s)) ≡ length (items (drop from s))
+  pub refusing : (refused || some (refusedName kind) (items (drop end s))) ≡ some (refusedName kind) (items (drop from s))
+  pub naming : names? (items (drop end s)) ≡ names? (items (drop from s))
 
-module _ (kind : Kind) (s : List ℕ) (from : ℕ) where
-  pub begins-naming : from ≤ length s → Naming kind s from from 0 false
-  unfolding namesLeft namesShape
-  begins-naming h = record { inside = h; few = zero-le; left = simp zero-add }
+pub begins-naming : (kind : Kind) (s : List ℕ) (from : ℕ) → from ≤ length s → Naming kind s from from 0 false
+begins-naming kind s from h = record { inside = h; few = zero-le; same-behind = refl; counted = omega arith; refusing = refl; naming = refl }
 
 module _ {kind : Kind} {s : List ℕ} {from end count : ℕ} {refused : Bool} (h : Naming kind s from end count refused) {r : Item} (e : r ≡ itemOf (drop end s)) where
-  pub names-end : r ≡ Stop → Found.List from end count refused ≡ namesShape kind from (drop from s)
-  unfolding namesLeft span
-  names-end d =
-      let none : namesLeft kind from end count refused [] ≡ Found.List from end count refused = simp (add-zero, or-false) in
-      sym none ∙ ap (namesLeft kind from end count refused) (sym (items-end s end e d)) ∙ h .left
+  -- behind the last name
+  module _ (d : r ≡ Stop) {q : Place} (c : ClosedIs s end q) where
+    cut : splitNames (tokens (drop from s)) ≡ closedBy (items (drop from s)) (tokens (drop end s))
+    unfolding splitNames items
+    cut = ap (closedBy (items (drop from s))) (sym (h .same-behind) ∙ behind-end s end e d)
 
-  module _ {n : ℕ} (d : r ≡ At n) where
-    pub name-inside : end + 1 + n ≤ length s
+    pub names-closed : {p : ℕ} → q ≡ Place.At p → NamesAre kind s from (Found.List p count refused)
+    names-closed {p} g =
+        let k : ClosedSays s end (Place.At p) = subst (ClosedSays s end) g (c .says) in
+        let out = items-end s end e d in
+        record {
+          says = record {
+            cuts = cut ∙ ap (closedBy (items (drop from s))) (k .1);
+            inside = k .0 .inside;
+            are-names = sym (h .naming) ∙ ap names? out;
+            is-count = sym (add-zero count) ∙ ap (λ l. count + length l) (sym out) ∙ h .counted;
+            is-refused = sym (or-false refused) ∙ ap (λ l. refused || some (refusedName kind) l) (sym out) ∙ h .refusing;
+          };
+        }
+
+    pub names-unclosed : q ≡ Place.Absent → NamesAre kind s from Found.Broken
+    names-unclosed g = record { says = λ xs rest i. absurd (go (tokens (drop end s)) (subst (ClosedSays s end) g (c .says)) (sym cut ∙ i)) }
+      where
+        go : (ts : List Token) → closes? ts ≡ false → {xs : List (List ℕ)} {rest : List Token} → closedBy (items (drop from s)) ts ≡ split xs rest → ⊥
+        go [] n i = let z : _≡_ {A = ℕ} 0 1 = cc in omega arith
+        go (opening ∷ ts) n i = let z : _≡_ {A = ℕ} 0 1 = cc in omega arith
+        go (closing ∷ ts) n i = let z : _≡_ {A = ℕ} 0 1 = cc in omega arith
+        go (word x ∷ ts) n i = let z : _≡_ {A = ℕ} 0 1 = cc in omega arith
+
+  module _ {g n : ℕ} (d : r ≡ At g n) where
+    pub name-inside : end + g + n ≤ length s
     name-inside = item-fits s end e d
+
+    pub name-long : 1 ≤ n
+    name-long = item-long s end e d
 
     abbrev x : List ℕ
     x = item s end e d
@@ -86,96 +121,78 @@ module _ {kind : Kind} {s : List ℕ} {from end count : ℕ} {refused : Bool} (h
     abbrev ns : List (List ℕ)
     ns = later s end e d
 
-    whole : namesLeft kind from end count refused (x ∷ ns) ≡ namesShape kind from (drop from s)
-    whole = ap (namesLeft kind from end count refused) (sym (item-is s end e d)) ∙ h .left
-
     module _ {q : NameFit} (f : q ≡ nameFit kind x) where
-      pub name-wrong : q ≡ Fit.Wrong → Found.Broken ≡ namesShape kind from (drop from s)
-      unfolding namesLeft
-      name-wrong g = rw (fit-says kind x f g) at whole
+      pub name-wrong : q ≡ Fit.Wrong → NamesAre kind s from Found.Broken
+      unfolding items
+      name-wrong k =
+          let wrong : names? (items (drop from s)) ≡ false = sym (h .naming) ∙ ap names? (item-is s end e d) ∙ ap (λ (b : Bool). b && names? ns) (fit-says kind x f k) in
+          record { says = λ xs rest i. ap names? (split-is (tokens (drop from s)) i) ∙ wrong }
 
-      on : isName (nameClass x) ≡ true → {b : Bool} → b ≡ (refused || refusedName kind x) → Naming kind s from (end + 1 + n) (count + 1) b
-      unfolding namesLeft span
+      on : isName (nameClass x) ≡ true → {b : Bool} → b ≡ (refused || refusedName kind x) → Naming kind s from (end + g + n) (count + 1) b
       on p {b} q =
-          let long : end + (suc (length x) + span ns) ≡ end + 1 + n + span ns = omega (arith, item-length s end e d) in
-          let more : count + suc (length ns) ≡ count + 1 + length ns = omega arith in
           record {
             inside = name-inside;
-            few = omega (arith, h .few);
-            left = rw (p, long, more, or-assoc, sym q) at whole;
+            few = omega (arith, h .few, name-long);
+            same-behind = sym (behind-is s end e d) ∙ h .same-behind;
+            counted = omega (arith, h .counted, ap length (item-is s end e d));
+            refusing =
+                ap (λ (y : Bool). y || some (refusedName kind) ns) q
+                ∙ sym (or-assoc refused (refusedName kind x) (some (refusedName kind) ns))
+                ∙ ap (λ l. refused || some (refusedName kind) l) (sym (item-is s end e d))
+                ∙ h .refusing;
+            naming = ap (λ (y : Bool). y && names? ns) (sym p) ∙ ap names? (sym (item-is s end e d)) ∙ h .naming;
           }
 
-      pub name-taken : q ≡ Fit.Taken → {b : Bool} → b ≡ refused → Naming kind s from (end + 1 + n) (count + 1) b
+      pub name-taken : q ≡ Fit.Taken → {b : Bool} → b ≡ refused → Naming kind s from (end + g + n) (count + 1) b
       unfolding allowed
-      name-taken g p = let t = fit-says kind x f g in on (t .0) (p ∙ sym (ap (λ (y : Bool). refused || y) (t .1) ∙ or-false refused))
+      name-taken k p = let t = fit-says kind x f k in on (t .0) (p ∙ sym (ap (λ (y : Bool). refused || y) (t .1) ∙ or-false refused))
 
-      pub name-refused : q ≡ Fit.Refused → {b : Bool} → b ≡ true → Naming kind s from (end + 1 + n) (count + 1) b
+      pub name-refused : q ≡ Fit.Refused → {b : Bool} → b ≡ true → Naming kind s from (end + g + n) (count + 1) b
       unfolding allowed
-      name-refused g p = let t = fit-says kind x f g in on (t .0) (p ∙ sym (ap (λ (y : Bool). refused || y) (t .1) ∙ or-true refused))
+      name-refused k p = let t = fit-says kind x f k in on (t .0) (p ∙ sym (ap (λ (y : Bool). refused || y) (t .1) ∙ or-true refused))
 
--- a tag and the names after it
+-- a bracket with its word
 
-pub record Listed (kind : Kind) (tag l : List ℕ) (at from end count : ℕ) (refused : Bool) : Type 0 where
-  pub cuts : splitList tag (drop at l) ≡ split (items (drop from l)) (drop end l)
-  pub in-from : from ≤ length l
-  pub in-end : end ≤ length l
-  pub is-count : count ≡ length (items (drop from l))
-  pub is-refused : refused ≡ some (refusedName kind) (items (drop from l))
+module _ (w s : List ℕ) (at : ℕ) {q : Place} (o : OpenedIs s at w q) where
+  pub opened-list : {p : ℕ} → q ≡ Place.At p → splitList w (tokens (drop at s)) ≡ splitNames (tokens (drop p s))
+  unfolding splitList
+  opened-list {p} e =
+      let k : OpenedSays s at w (Place.At p) = subst (OpenedSays s at w) e (o .says) in
+      ap (λ t. onOpened t w) (k .1) ∙ ap (λ (b : Bool). cond b (splitNames (tokens (drop p s))) none) (is-true (sameBytes w w) (same-self w))
 
-module _ (kind : Kind) (tag l : List ℕ) (at : ℕ) where
-  pub list-there : {t : Bool} → t ≡ begins tag (drop at l) → t ≡ true → {r : Names} → r ≡ namesShape kind (at + length tag) (drop (at + length tag) l) → r ≡ listShape kind tag at (drop at l)
-  unfolding listShape
-  list-there e d f = rw (sym e ∙ d, drop-drop (length tag) at l) f
+  pub opened-inside : {p : ℕ} → q ≡ Place.At p → p ≤ length s
+  opened-inside {p} e = let k : OpenedSays s at w (Place.At p) = subst (OpenedSays s at w) e (o .says) in k .0 .inside
 
-  pub list-absent : {t : Bool} → t ≡ begins tag (drop at l) → t ≡ false → Found.Broken ≡ listShape kind tag at (drop at l)
-  unfolding listShape
-  list-absent e d = rw (sym e ∙ d)
+  pub unopened-list : q ≡ Place.Absent → splitList w (tokens (drop at s)) ≡ none
+  unfolding splitList
+  unopened-list e = go (openedOf (tokens (drop at s))) (subst (OpenedSays s at w) e (o .says))
+    where
+      go : (t : Opened) → opensWith w t ≡ false → onOpened t w ≡ none
+      go (opened x ts) n = ap (λ (b : Bool). cond b (splitNames ts) none) n
+      go unopened n = refl
 
-  abbrev names-from : ℕ
-  names-from = at + length tag
+  pub list-there : (kind : Kind) {p : ℕ} → q ≡ Place.At p → {r : Names} → NamesAre kind s p r → ListIs kind w s at r
+  list-there kind {p} e {r} l = record { says = go r (l .says) }
+    where
+      go : (r : Names) → NamesSay kind s p r → ListSays kind w s at r
+      go (Found.List end count refused) k =
+          record { names = items (drop p s); cuts = opened-list e ∙ k .cuts; inside = k .inside; are-names = k .are-names; is-refused = k .is-refused }
+      go Found.Broken k = λ xs rest i. k xs rest (sym (opened-list e) ∙ i)
 
-  abbrev names : List (List ℕ)
-  names = items (drop names-from l)
+  pub list-absent : (kind : Kind) → q ≡ Place.Absent → ListIs kind w s at Found.Broken
+  list-absent kind e = record { says = λ xs rest i. absurd (let j : none ≡ split xs rest = sym (unopened-list e) ∙ i in let z : _≡_ {A = ℕ} 0 1 = cc in omega arith) }
 
-  abbrev all-names : Bool
-  all-names = every (λ x. isName (nameClass x)) names
+-- what the answer for a list says
+module _ {kind : Kind} {s : List ℕ} {from : ℕ} {r : Names} (l : NamesAre kind s from r) where
+  pub listed : {end count : ℕ} {refused : Bool} → r ≡ Found.List end count refused → Listed kind s from end count refused
+  listed e = subst (NamesSay kind s from) e (l .says)
 
-  shape : listShape kind tag at (drop at l) ≡ cond (begins tag (drop at l)) (cond all-names (Found.List names-from (names-from + span names) (length names) (some (refusedName kind) names)) Found.Broken) Found.Broken
-  unfolding listShape namesShape
-  shape = ap (λ (s : List ℕ). cond (begins tag (drop at l)) (namesShape kind names-from s) Found.Broken) (drop-drop (length tag) at l)
+  pub not-listed : r ≡ Found.Broken → (xs : List (List ℕ)) (rest : List Token) → splitNames (tokens (drop from s)) ≡ split xs rest → names? xs ≡ false
+  not-listed e = subst (NamesSay kind s from) e (l .says)
 
-  cut-is : splitList tag (drop at l) ≡ cond (begins tag (drop at l)) (cond all-names (split names (drop (names-from + span names) l)) none) none
-  unfolding splitList splitNames
-  cut-is =
-      ap (λ (s : List ℕ). cond (begins tag (drop at l)) (splitNames s) none) (drop-drop (length tag) at l)
-      ∙ ap (λ (s : List ℕ). cond (begins tag (drop at l)) (cond all-names (split names s) none) none) (drop-drop (span names) names-from l)
+module _ {kind : Kind} {w s : List ℕ} {at : ℕ} {r : Names} (l : ListIs kind w s at r) where
+  pub list-is : {end count : ℕ} {refused : Bool} → r ≡ Found.List end count refused → ListedBehind kind w s at end refused
+  list-is e = subst (ListSays kind w s at) e (l .says)
 
-  module _ {r : Names} (e : r ≡ listShape kind tag at (drop at l)) where
-    pub not-listed : r ≡ Found.Broken → splitList tag (drop at l) ≡ none
-    not-listed d = cut-is ∙ go (begins tag (drop at l)) all-names (sym shape ∙ sym e ∙ d)
-      where
-        go : (a b : Bool) → cond a (cond b (Found.List names-from (names-from + span names) (length names) (some (refusedName kind) names)) Found.Broken) Found.Broken ≡ Found.Broken → cond a (cond b (split names (drop (names-from + span names) l)) none) none ≡ none
-        go true true p = absurd (let z : _≡_ {A = ℕ} 0 1 = cc in omega arith)
-        go true false p = refl
-        go false b p = refl
-
-    pub listed : at ≤ length l → {from end count : ℕ} {refused : Bool} → r ≡ Found.List from end count refused → Listed kind tag l at from end count refused
-    listed h {from} {end} {count} {refused} d = go (begins tag (drop at l)) refl all-names (sym shape ∙ sym e ∙ d) cut-is
-      where
-        go : (a : Bool) → begins tag (drop at l) ≡ a → (b : Bool) → cond a (cond b (Found.List names-from (names-from + span names) (length names) (some (refusedName kind) names)) Found.Broken) Found.Broken ≡ Found.List from end count refused → splitList tag (drop at l) ≡ cond a (cond b (split names (drop (names-from + span names) l)) none) none → Listed kind tag l at from end count refused
-        go true q true p w =
-            let u : names-from ≡ from = cc in
-            let v : names-from + span names ≡ end = cc in
-            let i : names-from ≤ length l = tag-inside l at tag h refl q in
-            let ls : names ≡ items (drop from l) = ap (λ (k : ℕ). items (drop k l)) u in
-            let n : length names ≡ count = cc in
-            let o : some (refusedName kind) names ≡ refused = cc in
-            record {
-              cuts = w ∙ ap₂ (λ (x : List (List ℕ)) (k : ℕ). split x (drop k l)) ls v;
-              in-from = omega arith;
-              in-end = omega (arith, span-le (drop names-from l), length-drop names-from l);
-              is-count = sym n ∙ ap length ls;
-              is-refused = sym o ∙ ap (some (refusedName kind)) ls;
-            }
-        go true q false p w = absurd (let z : _≡_ {A = ℕ} 0 1 = cc in omega arith)
-        go false q b p w = absurd (let z : _≡_ {A = ℕ} 0 1 = cc in omega arith)
+  pub no-list : r ≡ Found.Broken → (xs : List (List ℕ)) (rest : List Token) → splitList w (tokens (drop at s)) ≡ split xs rest → names? xs ≡ false
+  no-list e = subst (ListSays kind w s at) e (l .says)

@@ -9,11 +9,11 @@ use mathlib.Core.List.{List}
 use mathlib.Core.Bool.{Bool, true, false, _&&_}
 use lib.Dec.{eqb}
 use lib.ListN.{length, getD, take, drop, length-drop, length-take, drop-of-length-le}
-use lib.Seq.{drop-cons, take-all}
+use lib.Seq.{drop-cons}
 use borrow.Author.Tests.{eq-eqb, ne-eqb}
 use Rattle.name_store.specs.NameStore.{sameBytes}
 use Rattle.name_store.proofs.ByteLoops.{other-length}
-use Rattle.lines.specs.Forms.{begins}
+use Rattle.lines.specs.Shapes.{begins}
 
 -- i bytes of the tag are passed
 pub record Matching (s : List ℕ) (at : ℕ) (tag : List ℕ) (i : ℕ) : Type 0 where
@@ -63,11 +63,3 @@ tag-inside s at tag h {r} e d = go (decLe (at + length tag) (length s))
         (let f = tag-short s at tag h (omega arith) in
         let z : true ≡ false = sym d ∙ e ∙ sym f in
         let t : _≡_ {A = ℕ} 0 1 = cc in omega arith)
-
--- an ending
-module _ (s : List ℕ) (at : ℕ) (ending : List ℕ) where
-  pub other-ending : (length s - at ≡ length ending → ⊥) → false ≡ sameBytes (drop at s) ending
-  other-ending n = other-length (drop at s) ending (λ e. n (sym (length-drop at s) ∙ e))
-
-  pub same-ending : length s - at ≡ length ending → {r : Bool} → r ≡ begins ending (drop at s) → r ≡ sameBytes (drop at s) ending
-  same-ending n e = e ∙ ap (λ (l : List ℕ). sameBytes l ending) (take-all (length ending) (drop at s) (omega (arith, length-drop at s)))

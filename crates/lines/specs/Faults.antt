@@ -16,7 +16,7 @@ use Rattle.names.specs.Names.{allowed}
 use Rattle.name_store.specs.NameStore.{sameBytes, among}
 use Rattle.lines.specs.declared.stage.Stage.{Stage}
 use Rattle.lines.specs.declared.stage.Stage.the-variants.{Declaring, Fixing, Ruling}
-use Rattle.lines.specs.Forms.{Word, atoms, min, vary, fix, LineForm, declares, rules, broken}
+use Rattle.lines.specs.Forms.{Word, atoms, min, vary, fix, LineForm, declares, rules, blank, broken}
 
 -- what the lines so far say
 pub record SoFar : Type 0 where
@@ -150,4 +150,5 @@ addRule st hs bs ns =
 abbrev pub stepForm : SoFar → LineForm → Step
 stepForm st (declares w xs) = declare st w xs
 stepForm st (rules hs bs ns) = addRule st hs bs ns
+stepForm st blank = next st
 stepForm st broken = fault BrokenForm

@@ -1,25 +1,114 @@
--- The forms of a line (document 01, "The two kinds of file"). A name that is no name of any kind breaks its line's form (refusal 2).
+-- The forms of a line by its brackets and words (document 01, "The two kinds of file"; document 02, W-205). A name that is no name of any kind breaks its line's form (refusal 2).
 use Prim.Native.Nat.{ℕ}
 use mathlib.Core.Bool.{Bool, true, false, cond}
-use mathlib.Core.List.{List, [], _∷_, _++_}
-use lib.ListN.{length, take, drop}
+use mathlib.Core.List.{List, [], _∷_}
 use Rattle.rules.specs.Lists.{every}
 use Rattle.names.specs.declared.forms.NameClass.{NameClass}
 use Rattle.names.specs.declared.forms.NameClass.the-variants.{House, Generated, TooLong, Wrong}
 use Rattle.names.specs.Names.{nameClass}
 use Rattle.name_store.specs.NameStore.{sameBytes}
-use Rattle.kinds.specs.Words.{space, open-bracket, close-bracket, line-end, atomsWord, minWord, varyWord, fixWord, ruleWord, headWord, bodyWord, notWord}
-use Rattle.lines.specs.Items.{items, span}
+use Rattle.kinds.specs.Words.{atomsWord, minWord, varyWord, fixWord, ruleWord, headWord, bodyWord, notWord}
+use Rattle.lines.specs.Lines.{ended?}
+use Rattle.lines.specs.Tokens.{Token, opening, closing, word, tokens, leading, behind}
 
 -- the word of a line that declares atoms
 pub data Word : Type 0 where
   atoms min vary fix : Word
 
+abbrev pub wordBytes : Word → List ℕ
+wordBytes atoms = atomsWord
+wordBytes min = minWord
+wordBytes vary = varyWord
+wordBytes fix = fixWord
+
 pub data LineForm : Type 0 where
   declares : Word → List (List ℕ) → LineForm
   -- a rule's head, body and not list
   rules : List (List ℕ) → List (List ℕ) → List (List ℕ) → LineForm
+  -- neither bracket nor word
+  blank : LineForm
   broken : LineForm
+
+-- an opening bracket with the word behind it, and what follows
+pub data Opened : Type 0 where
+  opened : List ℕ → List Token → Opened
+  unopened : Opened
+
+abbrev pub openedBy : List Token → Opened
+openedBy [] = unopened
+openedBy (opening ∷ ts) = unopened
+openedBy (closing ∷ ts) = unopened
+openedBy (word x ∷ ts) = opened x ts
+
+unfoldable pub openedOf : List Token → Opened
+openedOf [] = unopened
+openedOf (opening ∷ ts) = openedBy ts
+openedOf (closing ∷ ts) = unopened
+openedOf (word x ∷ ts) = unopened
+
+-- names up to a closing bracket, and what stands behind it
+pub data Split : Type 0 where
+  split : List (List ℕ) → List Token → Split
+  none : Split
+
+abbrev pub closedBy : List (List ℕ) → List Token → Split
+closedBy xs [] = none
+closedBy xs (opening ∷ ts) = none
+closedBy xs (closing ∷ ts) = split xs ts
+closedBy xs (word x ∷ ts) = none
+
+unfoldable pub splitNames : List Token → Split
+splitNames ts = closedBy (leading ts) (behind ts)
+
+abbrev pub onOpened : Opened → List ℕ → Split
+onOpened (opened x ts) w = cond (sameBytes x w) (splitNames ts) none
+onOpened unopened w = none
+
+-- `(w a b)` at the front
+unfoldable pub splitList : List ℕ → List Token → Split
+splitList w ts = onOpened (openedOf ts) w
+
+abbrev pub onSplit : Split → (List (List ℕ) → List Token → LineForm) → LineForm
+onSplit (split xs rest) f = f xs rest
+onSplit none f = broken
+
+-- nothing follows
+abbrev pub lastly : List Token → LineForm → LineForm
+lastly [] f = f
+lastly (t ∷ ts) f = broken
+
+-- a closing bracket, and nothing follows
+abbrev pub closedLastly : List Token → LineForm → LineForm
+closedLastly [] f = broken
+closedLastly (opening ∷ ts) f = broken
+closedLastly (closing ∷ ts) f = lastly ts f
+closedLastly (word x ∷ ts) f = broken
+
+-- behind `(min` and the like
+unfoldable pub declaredForm : Word → List Token → LineForm
+declaredForm w ts = onSplit (splitNames ts) (λ xs rest. lastly rest (declares w xs))
+
+-- behind `(rule`
+unfoldable pub ruleForm : List Token → LineForm
+ruleForm ts =
+    onSplit (splitList headWord ts) (λ hs r. onSplit (splitList bodyWord r) (λ bs s. onSplit (splitList notWord s) (λ ns rest. closedLastly rest (rules hs bs ns))))
+
+abbrev pub openedForm : Opened → LineForm
+openedForm (opened x ts) =
+    cond (sameBytes x atomsWord) (declaredForm atoms ts)
+    (cond (sameBytes x minWord) (declaredForm min ts)
+    (cond (sameBytes x varyWord) (declaredForm vary ts)
+    (cond (sameBytes x fixWord) (declaredForm fix ts)
+    (cond (sameBytes x ruleWord) (ruleForm ts) broken))))
+openedForm unopened = broken
+
+unfoldable pub tokenForm : List Token → LineForm
+tokenForm [] = blank
+tokenForm (t ∷ ts) = openedForm (openedOf (t ∷ ts))
+
+-- whatever the words are: "each line ended by byte 10"
+unfoldable pub typedForm : List ℕ → LineForm
+typedForm l = cond (ended? l) (tokenForm (tokens l)) broken
 
 abbrev pub isName : NameClass → Bool
 isName House = true
@@ -27,60 +116,14 @@ isName Generated = true
 isName TooLong = true
 isName Wrong = false
 
--- the list begins with the tag
-abbrev pub begins : List ℕ → List ℕ → Bool
-begins tag s = sameBytes (take (length tag) s) tag
+abbrev pub names? : List (List ℕ) → Bool
+names? xs = every (λ x. isName (nameClass x)) xs
 
--- what a tag and the names after it leave of a line
-pub data Split : Type 0 where
-  split : List (List ℕ) → List ℕ → Split
-  none : Split
-
-unfoldable pub splitNames : List ℕ → Split
-splitNames s = cond (every (λ x. isName (nameClass x)) (items s)) (split (items s) (drop (span (items s)) s)) none
-
-unfoldable pub splitList : List ℕ → List ℕ → Split
-splitList tag s = let rest = splitNames (drop (length tag) s) in cond (begins tag s) rest none
-
-abbrev pub onSplit : Split → (List (List ℕ) → List ℕ → LineForm) → LineForm
-onSplit (split ns rest) f = f ns rest
-onSplit none f = broken
-
--- the tags
-abbrev pub tagOf : Word → List ℕ
-tagOf atoms = open-bracket ∷ atomsWord
-tagOf min = open-bracket ∷ minWord
-tagOf vary = open-bracket ∷ varyWord
-tagOf fix = open-bracket ∷ fixWord
-
-abbrev pub headTag : List ℕ
-headTag = (open-bracket ∷ ruleWord) ++ (space ∷ open-bracket ∷ headWord)
-
-abbrev pub bodyTag : List ℕ
-bodyTag = close-bracket ∷ space ∷ open-bracket ∷ bodyWord
-
-abbrev pub notTag : List ℕ
-notTag = close-bracket ∷ space ∷ open-bracket ∷ notWord
-
-abbrev pub listEnd : List ℕ
-listEnd = close-bracket ∷ line-end ∷ []
-
-abbrev pub ruleEnd : List ℕ
-ruleEnd = close-bracket ∷ close-bracket ∷ line-end ∷ []
-
-abbrev pub closed : List ℕ → List ℕ → LineForm → LineForm
-closed rest ending f = cond (sameBytes rest ending) f broken
-
-unfoldable pub declaredForm : Word → List ℕ → LineForm
-declaredForm w l = onSplit (splitList (tagOf w) l) (λ ns rest. closed rest listEnd (declares w ns))
-
-unfoldable pub ruleForm : List ℕ → LineForm
-ruleForm l =
-    onSplit (splitList headTag l) (λ hs r. onSplit (splitList bodyTag r) (λ bs s. onSplit (splitList notTag s) (λ ns rest. closed rest ruleEnd (rules hs bs ns))))
+abbrev pub named : LineForm → LineForm
+named (declares w xs) = cond (names? xs) (declares w xs) broken
+named (rules hs bs ns) = cond (names? hs) (cond (names? bs) (cond (names? ns) (rules hs bs ns) broken) broken) broken
+named blank = blank
+named broken = broken
 
 unfoldable pub formOf : List ℕ → LineForm
-formOf l =
-    cond (begins (tagOf atoms) l) (declaredForm atoms l)
-    (cond (begins (tagOf min) l) (declaredForm min l)
-    (cond (begins (tagOf vary) l) (declaredForm vary l)
-    (cond (begins (tagOf fix) l) (declaredForm fix l) (ruleForm l))))
+formOf l = named (typedForm l)

@@ -1,7 +1,8 @@
--- The lines of a text: items, forms, faults, and what they say; then what the code finds at its places.
+-- The lines of a text: brackets and words, forms, faults, what they say, and which are strict; then what the code finds at its places.
 pub mod Lines
-pub mod Items
+pub mod Tokens
 pub mod Forms
 pub mod Faults
 pub mod Said
+pub mod Strict
 pub mod Shapes

@@ -5,24 +5,41 @@ use mathlib.Core.List.{List, [], _∷_}
 use lib.Dec.{leb}
 use lib.ListN.{length}
 use Rattle.kinds.specs.Limits.{textLimit}
+use Rattle.kinds.specs.declared.limits.Kind.{Kind}
 use Rattle.kinds.specs.declared.limits.Kind.the-variants.{Plain, Preference}
 use Rattle.kinds.specs.declared.refusals.Refusal.{Refusal}
 use Rattle.kinds.specs.declared.refusals.Refusal.the-variants.{TextTooLong, BrokenForm}
+use Rattle.kinds.specs.Words.{atomsWord}
+use Rattle.name_store.specs.NameStore.{sameBytes}
 use Rattle.stores.specs.Program.{Program}
 use Rattle.restriction.specs.Remaining.{remaining, remainingNames}
 use Rattle.lines.specs.declared.stage.Stage.the-variants.{Declaring}
 use Rattle.lines.specs.Lines.{lines}
-use Rattle.lines.specs.Forms.{atoms, begins, tagOf, formOf}
+use Rattle.lines.specs.Tokens.{Token, tokens}
+use Rattle.lines.specs.Forms.{Opened, opened, unopened, openedOf, formOf}
 use Rattle.lines.specs.Faults.{SoFar, Step, next, fault, ruling?, stepForm}
 
 pub data Said : Type 0 where
   accepted : Program → List (List ℕ) → Said
   refused : Refusal → ℕ → Said
 
--- the kind is plain exactly when the text starts with `(atoms`
+-- "the first bracket form tells the kind": plain exactly when its first word is `atoms` (document 02, W-205)
+abbrev pub kindOpened : Opened → Kind
+kindOpened (opened x ts) = cond (sameBytes x atomsWord) Plain Preference
+kindOpened unopened = Preference
+
+-- of a line that is not blank, or else of those after it
+abbrev pub kindBy : List Token → Kind → Kind
+kindBy [] later = later
+kindBy (t ∷ ts) later = kindOpened (openedOf (t ∷ ts))
+
+unfoldable pub kindOf : List (List ℕ) → Kind
+kindOf [] = Preference
+kindOf (l ∷ ls) = kindBy (tokens l) (kindOf ls)
+
 unfoldable pub start : List ℕ → SoFar
 start text = record {
-  kind = cond (begins (tagOf atoms) text) Plain Preference;
+  kind = kindOf (lines text);
   stage = Declaring;
   classes = 0;
   words = [];

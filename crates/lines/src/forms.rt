@@ -1,14 +1,16 @@
-// The form of a line and the places of its lists (document 01, "The two kinds of file").
+// The form of a line and the places of its lists (document 01, "The two kinds of file"; document 02, W-205).
 use crate::scan;
 use crate::scan::Item;
+use crate::scan::Place;
 use kinds::limits::Kind;
 use names::forms::NameClass;
 ghost use mathlib.Core.Path.{_≡_};
-ghost use Prim.Native.Nat.{_≤_};
 ghost use mathlib.Core.Bool.{_||_};
+ghost use Prim.Native.Nat.{_≤_};
 ghost use lib.ListN.{length, drop};
-ghost use Rattle.lines.specs.Forms.{tagOf, declaredForm, ruleForm, formOf};
-ghost use Rattle.lines.specs.Shapes.{nameFit, namesShape, listShape, wordOf, ShapeIs};
+ghost use Rattle.lines.specs.Tokens.{run, tokens};
+ghost use Rattle.lines.specs.Forms.{openedOf, declaredForm, ruleForm, openedForm, named, formOf};
+ghost use Rattle.lines.specs.Shapes.{closesLast?, nameFit, NamesAre, ListIs, wordOf, ShapeIs};
 
 // What a name is to a kind of program: taken, refused by its length or as a generated one (refusal 3), or no name.
 pub enum NameFit {
@@ -17,10 +19,9 @@ pub enum NameFit {
     Wrong,
 }
 
-// Names one after another, with their places and their number, and whether one of them is refused.
+// Names up to a closing bracket: where it ends, their number, and whether one of them is refused; or no such list.
 pub enum Names {
     List {
-        from: usize,
         end: usize,
         count: usize,
         refused: bool,
@@ -36,33 +37,20 @@ pub enum Keyword {
     Fix,
 }
 
-// The form of a line: where its lists start, how many names they have, and whether one of these is refused.
+// The form of a line, and of a rule whether one of its names is refused.
 pub enum Shape {
+    Blank,
     Declares(DeclaredShape),
-    Rule(RuleShape),
+    Rule { refused: bool },
     Broken,
 }
 
+// Where the names start, how many there are, and whether one of them is refused.
 pub struct DeclaredShape {
     pub word: Keyword,
     pub from: usize,
     pub count: usize,
     pub refused: bool,
-}
-
-pub struct RuleShape {
-    pub lists: RuleLists,
-    pub heads: usize,
-    pub bodies: usize,
-    pub nots: usize,
-    pub refused: bool,
-}
-
-// Where the three lists of a rule start.
-pub struct RuleLists {
-    pub head: usize,
-    pub body: usize,
-    pub not: usize,
 }
 
 pub fn name_fit(name: &[u8], kind: Kind) -> NameFit
@@ -80,24 +68,26 @@ pub fn name_fit(name: &[u8], kind: Kind) -> NameFit
 }
 
 // The names from `from` on.
-pub fn names_at(s: &[u8], from: usize, kind: Kind) -> Names
+fn names_at(s: &[u8], from: usize, kind: Kind) -> Names
     requires { ⌜ from ≤ length (now s) ⌝ }
-    ensures { λ r. ⌜ r ≡ namesShape kind from (drop from (now (s .entry))) ⌝ }
+    ensures { λ r. ⌜ NamesAre kind (now (s .entry)) from r ⌝ }
 {
     let mut end = from;
     let mut count: usize = 0;
     let mut refused = false;
     loop {
-        let Item::At(n) = scan::item_at(s, end) else {
+        let Item::At { gap, size } = scan::item_at(s, end) else {
+            let Place::At(end) = scan::closed_at(s, end) else {
+                return Names::Broken;
+            };
             return Names::List {
-                from,
                 end,
                 count,
                 refused,
             };
         };
-        let start = end + 1;
-        let to = start + n;
+        let start = end + gap;
+        let to = start + size;
         match name_fit(&s[start..to], kind) {
             NameFit::Taken => {}
             NameFit::Refused => {
@@ -110,32 +100,31 @@ pub fn names_at(s: &[u8], from: usize, kind: Kind) -> Names
     }
 }
 
-// A tag and the names after it.
-pub fn list_at(s: &[u8], at: usize, tag: &[u8], kind: Kind) -> Names
-    requires { ⌜ at ≤ length (now s) ⌝ }
-    ensures { λ r. ⌜ r ≡ listShape kind (now (tag .entry)) at (drop at (now (s .entry))) ⌝ }
+// A bracket with its word, and the names after it.
+fn list_at(s: &[u8], at: usize, word: &[u8], kind: Kind) -> Names
+    requires { ⌜ (at ≤ length (now s)) × (run (now word) ≡ length (now word)) × (1 ≤ length (now word)) ⌝ }
+    ensures { λ r. ⌜ ListIs kind (now (word .entry)) (now (s .entry)) at r ⌝ }
 {
-    if scan::begins_at(s, at, tag) {
-        return names_at(s, at + tag.len(), kind);
-    }
-    Names::Broken
+    let Place::At(from) = scan::opened_at(s, at, word) else {
+        return Names::Broken;
+    };
+    names_at(s, from, kind)
 }
 
-// A line that declares atoms.
-fn declared_shape(line: &[u8], kind: Kind, word: Keyword, tag: &[u8]) -> Shape
-    requires { ⌜ now tag ≡ tagOf (wordOf word) ⌝ }
-    ensures { λ r. ⌜ ShapeIs kind (now (line .entry)) (declaredForm (wordOf word) (now (line .entry))) r ⌝ }
+// A line that declares atoms, behind its word.
+fn declared_shape(line: &[u8], from: usize, kind: Kind, word: Keyword) -> Shape
+    requires { ⌜ from ≤ length (now line) ⌝ }
+    ensures { λ r. ⌜ ShapeIs kind (now (line .entry)) (named (declaredForm (wordOf word) (tokens (drop from (now (line .entry)))))) r ⌝ }
 {
     let Names::List {
-        from,
         end,
         count,
         refused,
-    } = list_at(line, 0, tag, kind)
+    } = names_at(line, from, kind)
     else {
         return Shape::Broken;
     };
-    if scan::ends_at(line, end, b")\n") {
+    if scan::nothing_at(line, end) {
         return Shape::Declares(DeclaredShape {
             word,
             from,
@@ -155,46 +144,71 @@ pub fn any(a: bool, b: bool, c: bool) -> bool
     b || c
 }
 
-fn rule_shape(line: &[u8], kind: Kind) -> Shape
-    ensures { λ r. ⌜ ShapeIs kind (now (line .entry)) (ruleForm (now (line .entry))) r ⌝ }
+// A closing bracket, and nothing behind it.
+pub fn closes_line(line: &[u8], at: usize) -> bool
+    requires { ⌜ at ≤ length (now line) ⌝ }
+    ensures { λ r. ⌜ r ≡ closesLast? (tokens (drop at (now (line .entry)))) ⌝ }
+{
+    let Place::At(end) = scan::closed_at(line, at) else {
+        return false;
+    };
+    scan::nothing_at(line, end)
+}
+
+// A rule, behind its word.
+fn rule_shape(line: &[u8], from: usize, kind: Kind) -> Shape
+    requires { ⌜ from ≤ length (now line) ⌝ }
+    ensures { λ r. ⌜ ShapeIs kind (now (line .entry)) (named (ruleForm (tokens (drop from (now (line .entry)))))) r ⌝ }
 {
     let Names::List {
-        from: head,
         end: head_end,
-        count: heads,
+        count: _,
         refused: in_head,
-    } = list_at(line, 0, b"(rule (head", kind)
+    } = list_at(line, from, b"head", kind)
     else {
         return Shape::Broken;
     };
     let Names::List {
-        from: body,
         end: body_end,
-        count: bodies,
+        count: _,
         refused: in_body,
-    } = list_at(line, head_end, b") (body", kind)
+    } = list_at(line, head_end, b"body", kind)
     else {
         return Shape::Broken;
     };
     let Names::List {
-        from: not,
         end: not_end,
-        count: nots,
+        count: _,
         refused: in_not,
-    } = list_at(line, body_end, b") (not", kind)
+    } = list_at(line, body_end, b"not", kind)
     else {
         return Shape::Broken;
     };
-    if scan::ends_at(line, not_end, b"))\n") {
+    if closes_line(line, not_end) {
         let refused = any(in_head, in_body, in_not);
-        let lists = RuleLists { head, body, not };
-        return Shape::Rule(RuleShape {
-            lists,
-            heads,
-            bodies,
-            nots,
-            refused,
-        });
+        return Shape::Rule { refused };
+    }
+    Shape::Broken
+}
+
+// A line that is ended and not blank.
+fn opened_shape(line: &[u8], kind: Kind) -> Shape
+    ensures { λ r. ⌜ ShapeIs kind (now (line .entry)) (named (openedForm (openedOf (tokens (now (line .entry)))))) r ⌝ }
+{
+    if let Place::At(from) = scan::opened_at(line, 0, b"rule") {
+        return rule_shape(line, from, kind);
+    }
+    if let Place::At(from) = scan::opened_at(line, 0, b"min") {
+        return declared_shape(line, from, kind, Keyword::Min);
+    }
+    if let Place::At(from) = scan::opened_at(line, 0, b"vary") {
+        return declared_shape(line, from, kind, Keyword::Vary);
+    }
+    if let Place::At(from) = scan::opened_at(line, 0, b"fix") {
+        return declared_shape(line, from, kind, Keyword::Fix);
+    }
+    if let Place::At(from) = scan::opened_at(line, 0, b"atoms") {
+        return declared_shape(line, from, kind, Keyword::Atoms);
     }
     Shape::Broken
 }
@@ -202,17 +216,12 @@ fn rule_shape(line: &[u8], kind: Kind) -> Shape
 pub fn shape_of(line: &[u8], kind: Kind) -> Shape
     ensures { λ r. ⌜ ShapeIs kind (now (line .entry)) (formOf (now (line .entry))) r ⌝ }
 {
-    if scan::begins_at(line, 0, b"(atoms") {
-        return declared_shape(line, kind, Keyword::Atoms, b"(atoms");
+    let ended = scan::is_ended(line);
+    if !ended {
+        return Shape::Broken;
     }
-    if scan::begins_at(line, 0, b"(min") {
-        return declared_shape(line, kind, Keyword::Min, b"(min");
+    if scan::nothing_at(line, 0) {
+        return Shape::Blank;
     }
-    if scan::begins_at(line, 0, b"(vary") {
-        return declared_shape(line, kind, Keyword::Vary, b"(vary");
-    }
-    if scan::begins_at(line, 0, b"(fix") {
-        return declared_shape(line, kind, Keyword::Fix, b"(fix");
-    }
-    rule_shape(line, kind)
+    opened_shape(line, kind)
 }

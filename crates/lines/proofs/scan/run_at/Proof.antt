@@ -1,7 +1,7 @@
 use Prim.Native.Nat.{_≤_, _-_, _+_}
 use mathlib.Core.Path.{_≡_, sym, _∙_}
 use lib.ListN.{length, drop}
-use Rattle.lines.specs.Items.{run}
+use Rattle.lines.specs.Tokens.{run}
 use Rattle.lines.proofs.Scanning.{run-goes-on, run-ends, run-out}
 use borrow.Author.Needs.{needs}
 use native.Mathlib.Omega.{arith}
