@@ -15,11 +15,11 @@ use Rattle.name_store.specs.NameStore.{sameBytes}
 use Rattle.name_store.proofs.ByteLoops.{other-length}
 use Rattle.name_store.proofs.NameStores.{same-law}
 use Rattle.rules.proofs.Booleans.{is-true}
-use Rattle.lines.specs.declared.scan.Place.{Place}
+use Rattle.lines.specs.declared.scan.Item.the-variants.{At, Stop}
 use Rattle.lines.specs.declared.scan.Place.the-variants as Place
 use Rattle.lines.specs.Tokens.{Token, opening, closing, word, ends?, delimiter?, run, tokens, tokensFrom}
 use Rattle.lines.specs.Forms.{Opened, opened, unopened, openedBy, openedOf}
-use Rattle.lines.specs.Shapes.{begins, gap, closes?, opensWith, Onward, ClosedIs, OpenedIs}
+use Rattle.lines.specs.Shapes.{begins, gap, wordBehind, itemOf, closes?, opensWith, Onward, ClosedIs, OpenedIs}
 use Rattle.lines.proofs.Scanning.{run-goes-on, run-ends, run-out, run-le, gap-le}
 use Rattle.lines.proofs.TokenPlaces.{tokens-gap, past-gap, First, is-end, is-space, is-open, is-close, is-other, first-of, end-tokens, open-tokens, close-tokens, word-tokens}
 
@@ -35,12 +35,26 @@ module _ (s : List ℕ) (at : ℕ) {g : ℕ} (e : g ≡ gap (drop at s)) where
   pub gap-inside : at ≤ length s → at + g ≤ length s
   gap-inside h = omega (arith, gap-le (drop at s), length-drop at s)
 
+  left : drop (gap (drop at s)) (drop at s) ≡ drop (at + g) s
+  left = drop-drop (gap (drop at s)) at s ∙ ap (λ (k : ℕ). drop (at + k) s) (sym e)
+
   pub tokens-at : tokens (drop at s) ≡ tokens (drop (at + g) s)
-  tokens-at = tokens-gap (drop at s) ∙ ap tokens (drop-drop (gap (drop at s)) at s ∙ ap (λ (k : ℕ). drop (at + k) s) (sym e))
+  tokens-at = tokens-gap (drop at s) ∙ ap tokens left
 
   pub nothing-out : length s ≤ at + g → tokens (drop at s) ≡ []
   unfolding tokens tokensFrom
   nothing-out l = tokens-at ∙ ap tokens (drop-of-length-le s l)
+
+  pub closing-out : length s ≤ at + g → ClosedIs s at Place.Absent
+  closing-out l = record { says = ap closes? (nothing-out l) }
+
+  pub opening-out : length s ≤ at + g → (w : List ℕ) → OpenedIs s at w Place.Absent
+  unfolding openedOf
+  opening-out l w = record { says = ap (λ ts. opensWith w (openedOf ts)) (nothing-out l) }
+
+  pub item-out : length s ≤ at + g → Stop ≡ itemOf (drop at s)
+  unfolding itemOf wordBehind
+  item-out l = sym (ap (wordBehind (gap (drop at s))) (left ∙ drop-of-length-le s l))
 
   module _ (l : at + g < length s) where
     abbrev b : ℕ
@@ -53,7 +67,7 @@ module _ (s : List ℕ) (at : ℕ) {g : ℕ} (e : g ≡ gap (drop at s)) where
     front = drop-cons s (at + g) 0 l ∙ ap (λ (k : ℕ). b ∷ drop k s) (sym (add-one (at + g)))
 
     no-space : b ≡ space → ⊥
-    no-space = past-gap (drop at s) b rest (drop-drop (gap (drop at s)) at s ∙ ap (λ (k : ℕ). drop (at + k) s) (sym e) ∙ front)
+    no-space = past-gap (drop at s) b rest (left ∙ front)
 
     all : tokens (drop at s) ≡ tokens (b ∷ rest)
     all = tokens-at ∙ ap tokens front
@@ -70,6 +84,15 @@ module _ (s : List ℕ) (at : ℕ) {g : ℕ} (e : g ≡ gap (drop at s)) where
         go (is-open f) = ap empty? (open-tokens b rest f) ∙ sym (ap ends? f)
         go (is-close f) = ap empty? (close-tokens b rest f) ∙ sym (ap ends? f)
         go (is-other f) = ap empty? (word-tokens b rest f) ∙ sym (no-end (eqb b space) (eqb b open-bracket) (eqb b close-bracket) (ends? b) f)
+
+    pub item-stops : delimiter? b ≡ true → Stop ≡ itemOf (drop at s)
+    unfolding itemOf wordBehind
+    item-stops f = sym (ap (wordBehind (gap (drop at s))) (left ∙ front) ∙ ap (λ (x : Bool). cond x Stop (At (gap (drop at s)) (run (b ∷ rest)))) f)
+
+    pub item-found : delimiter? b ≡ false → {n : ℕ} → n ≡ run (drop (at + g) s) → At g n ≡ itemOf (drop at s)
+    unfolding itemOf wordBehind
+    item-found f p =
+        sym (ap (wordBehind (gap (drop at s))) (left ∙ front) ∙ ap (λ (x : Bool). cond x Stop (At (gap (drop at s)) (run (b ∷ rest)))) f ∙ ap₂ At (sym e) (ap run (sym front) ∙ sym p))
 
     pub closing-here : b ≡ close-bracket → ClosedIs s at (Place.At (at + g + 1))
     closing-here f = record { says = (onward, all ∙ close-tokens b rest f) }
@@ -88,9 +111,9 @@ module _ (s : List ℕ) (at : ℕ) {g : ℕ} (e : g ≡ gap (drop at s)) where
         go (is-close f) = absurd (n f)
         go (is-other f) = ap closes? (word-tokens b rest f)
 
-    pub no-opening : (b ≡ open-bracket → ⊥) → openedOf (tokens (drop at s)) ≡ unopened
+    pub no-opening : (b ≡ open-bracket → ⊥) → (w : List ℕ) → OpenedIs s at w Place.Absent
     unfolding openedOf
-    no-opening n = ap openedOf all ∙ go (first-of b)
+    no-opening n w = record { says = ap (opensWith w) (ap openedOf all ∙ go (first-of b)) }
       where
         go : First b → openedOf (tokens (b ∷ rest)) ≡ unopened
         go (is-end f) = ap openedOf (end-tokens b rest f)
@@ -98,10 +121,6 @@ module _ (s : List ℕ) (at : ℕ) {g : ℕ} (e : g ≡ gap (drop at s)) where
         go (is-open f) = absurd (n f)
         go (is-close f) = ap openedOf (close-tokens b rest f)
         go (is-other f) = ap openedOf (word-tokens b rest f)
-
-    -- the word behind the bracket
-    pub word-here : delimiter? b ≡ false → tokens (drop at s) ≡ word (take (run (drop (at + g) s)) (drop (at + g) s)) ∷ tokens (drop (run (drop (at + g) s)) (drop (at + g) s))
-    word-here f = all ∙ word-tokens b rest f ∙ ap (λ t. word (take (run t) t) ∷ tokens (drop (run t) t)) (sym front)
 
 -- a word without delimiters, at the front of the bytes
 module _ (w u : List ℕ) (whole : run w ≡ length w) where

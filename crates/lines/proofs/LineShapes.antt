@@ -18,10 +18,34 @@ use Rattle.lines.specs.declared.forms.Keyword.the-variants as Key
 use Rattle.lines.specs.declared.forms.Shape.{Shape}
 use Rattle.lines.specs.declared.forms.Shape.the-variants as Line
 use Rattle.lines.specs.Lines.{ended?}
-use Rattle.lines.specs.Tokens.{Token, opening, closing, word, tokens, items}
+use Rattle.lines.specs.Tokens.{Token, opening, closing, word, run, tokens, items}
 use Rattle.lines.specs.Forms.{Word, wordBytes, atoms, min, vary, fix, LineForm, declares, rules, blank, broken, Opened, opened, unopened, openedOf, Split, split, none, splitNames, splitList, onSplit, lastly, closedLastly, declaredForm, ruleForm, openedForm, tokenForm, typedForm, names?, named, formOf}
 use Rattle.lines.specs.Faults.{refusedName, anyOf}
-use Rattle.lines.specs.Shapes.{closes?, closesLast?, opensWith, ClosedSays, ClosedIs, OpenedSays, OpenedIs, Listed, ListedBehind, wordOf, Declared, Ruled, ShapeIs}
+use Rattle.lines.specs.Shapes.{WholeWord, closes?, closesLast?, opensWith, ClosedSays, ClosedIs, OpenedSays, OpenedIs, Listed, ListedBehind, wordOf, Declared, Ruled, ShapeIs}
+
+-- no keyword has a delimiter
+pub whole-rule : WholeWord ruleWord
+unfolding run
+whole-rule = record { whole = refl; filled = omega arith }
+
+pub whole-head : WholeWord headWord
+unfolding run
+whole-head = record { whole = refl; filled = omega arith }
+
+pub whole-body : WholeWord bodyWord
+unfolding run
+whole-body = record { whole = refl; filled = omega arith }
+
+pub whole-not : WholeWord notWord
+unfolding run
+whole-not = record { whole = refl; filled = omega arith }
+
+pub whole-word : (w : Word) → WholeWord (wordBytes w)
+unfolding run
+whole-word atoms = record { whole = refl; filled = omega arith }
+whole-word min = record { whole = refl; filled = omega arith }
+whole-word vary = record { whole = refl; filled = omega arith }
+whole-word fix = record { whole = refl; filled = omega arith }
 
 -- a closing bracket, and nothing behind it
 module _ (s : List ℕ) (at : ℕ) {q : Place} (c : ClosedIs s at q) where
@@ -191,6 +215,9 @@ module _ (kind : Kind) (l : List ℕ) (from : ℕ) where
             }
 
 -- the word of a line
+
+pub same-shape : (kind : Kind) (l : List ℕ) {f g : LineForm} → g ≡ f → (r : Shape) → ShapeIs kind l f r → ShapeIs kind l g r
+same-shape kind l e r h = subst (λ f. ShapeIs kind l f r) (sym e) h
 
 module _ (l : List ℕ) where
   abbrev line : Opened

@@ -47,6 +47,11 @@ wordBehind g (b ∷ s) = cond (delimiter? b) Stop (At g (run (b ∷ s)))
 unfoldable pub itemOf : List ℕ → Item
 itemOf s = wordBehind (gap s) (drop (gap s) s)
 
+-- a word that no delimiter cuts
+pub record WholeWord (w : List ℕ) : Type 0 where
+  pub whole : run w ≡ length w
+  pub filled : 1 ≤ length w
+
 -- the place behind a bracket, or behind one and its word
 
 abbrev pub closes? : List Token → Bool

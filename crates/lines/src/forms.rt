@@ -8,9 +8,9 @@ ghost use mathlib.Core.Path.{_≡_};
 ghost use mathlib.Core.Bool.{_||_};
 ghost use Prim.Native.Nat.{_≤_};
 ghost use lib.ListN.{length, drop};
-ghost use Rattle.lines.specs.Tokens.{run, tokens};
+ghost use Rattle.lines.specs.Tokens.{tokens};
 ghost use Rattle.lines.specs.Forms.{openedOf, declaredForm, ruleForm, openedForm, named, formOf};
-ghost use Rattle.lines.specs.Shapes.{closesLast?, nameFit, NamesAre, ListIs, wordOf, ShapeIs};
+ghost use Rattle.lines.specs.Shapes.{WholeWord, closesLast?, nameFit, NamesAre, ListIs, wordOf, ShapeIs};
 
 // What a name is to a kind of program: taken, refused by its length or as a generated one (refusal 3), or no name.
 pub enum NameFit {
@@ -102,7 +102,7 @@ fn names_at(s: &[u8], from: usize, kind: Kind) -> Names
 
 // A bracket with its word, and the names after it.
 fn list_at(s: &[u8], at: usize, word: &[u8], kind: Kind) -> Names
-    requires { ⌜ (at ≤ length (now s)) × (run (now word) ≡ length (now word)) × (1 ≤ length (now word)) ⌝ }
+    requires { ⌜ (at ≤ length (now s)) × WholeWord (now word) ⌝ }
     ensures { λ r. ⌜ ListIs kind (now (word .entry)) (now (s .entry)) at r ⌝ }
 {
     let Place::At(from) = scan::opened_at(s, at, word) else {

@@ -8,7 +8,7 @@ ghost use Rattle.name_store.specs.NameStore.{sameBytes};
 ghost use Rattle.kinds.specs.Words.{line-end};
 ghost use Rattle.lines.specs.Lines.{lineLength, ended?};
 ghost use Rattle.lines.specs.Tokens.{ends?, delimiter?, run, tokens};
-ghost use Rattle.lines.specs.Shapes.{begins, gap, itemOf, ClosedIs, OpenedIs};
+ghost use Rattle.lines.specs.Shapes.{begins, gap, itemOf, WholeWord, ClosedIs, OpenedIs};
 
 // A word behind so many spaces, or anything else.
 pub enum Item {
@@ -84,11 +84,10 @@ pub fn line_at(s: &[u8], at: usize) -> usize
 pub fn is_ended(line: &[u8]) -> bool
     ensures { λ r. ⌜ r ≡ ended? (now (line .entry)) ⌝ }
 {
-    let count = line.len();
-    if count == 0 {
+    if line.len() == 0 {
         return false;
     }
-    line[count - 1] == b'\n'
+    line[line.len() - 1] == b'\n'
 }
 
 // How many bytes stand from `at` on before a delimiter.
@@ -188,7 +187,7 @@ pub fn begins_at(s: &[u8], at: usize, tag: &[u8]) -> bool
 
 // Whether `word` stands at `at`, with no byte more.
 fn word_at(s: &[u8], at: usize, word: &[u8]) -> bool
-    requires { ⌜ (at ≤ length (now s)) × (run (now word) ≡ length (now word)) ⌝ }
+    requires { ⌜ (at ≤ length (now s)) × WholeWord (now word) ⌝ }
     ensures { λ r. ⌜ r ≡ sameBytes (take (run (drop at (now (s .entry)))) (drop at (now (s .entry)))) (now (word .entry)) ⌝ }
 {
     if !begins_at(s, at, word) {
@@ -203,7 +202,7 @@ fn word_at(s: &[u8], at: usize, word: &[u8]) -> bool
 
 // The place behind the opening bracket at `at` and its word.
 pub fn opened_at(s: &[u8], at: usize, word: &[u8]) -> Place
-    requires { ⌜ (at ≤ length (now s)) × (run (now word) ≡ length (now word)) × (1 ≤ length (now word)) ⌝ }
+    requires { ⌜ (at ≤ length (now s)) × WholeWord (now word) ⌝ }
     ensures { λ r. ⌜ OpenedIs (now (s .entry)) at (now (word .entry)) r ⌝ }
 {
     let i = at + gap_at(s, at);

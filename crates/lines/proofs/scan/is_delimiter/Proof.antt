@@ -1,27 +1,21 @@
+use borrow.Author.Tests.{eq-eqb, ne-eqb}
 use Rattle.lines.proofs.scan.is_delimiter.Statement.{statement}
 use Rattle.lines.proofs.scan.is_delimiter.Tie as tie
-use Rattle.lines.proofs.scan.is_delimiter.Reads as reads
-use Rattle.lines.proofs.scan.is_delimiter.Lts as lts
 
--- src/scan.rt:32:1
 returns : tie.Need-returns
-returns c = ?
+returns c = simp (eq-eqb _ _ (c .if1 .taken))
 
--- src/scan.rt:32:1
 returns-2 : tie.Need-returns-2
-returns-2 c = ?
+returns-2 c = simp (ne-eqb _ _ (c .before .if1 .left), eq-eqb _ _ (c .if2 .taken))
 
--- src/scan.rt:32:1
 returns-3 : tie.Need-returns-3
-returns-3 c = ?
+returns-3 c = simp (ne-eqb _ _ (c .before .before .if1 .left), ne-eqb _ _ (c .before .if2 .left), eq-eqb _ _ (c .if3 .taken))
 
--- src/scan.rt:32:1
 returns-4 : tie.Need-returns-4
-returns-4 c = ?
+returns-4 c = simp (ne-eqb _ _ (c .before .before .before .if1 .left), ne-eqb _ _ (c .before .before .if2 .left), ne-eqb _ _ (c .before .if3 .left), eq-eqb _ _ (c .if4 .taken))
 
--- src/scan.rt:32:1
 returns-5 : tie.Need-returns-5
-returns-5 c = ?
+returns-5 c = simp (ne-eqb _ _ (c .before .before .before .if1 .left), ne-eqb _ _ (c .before .before .if2 .left), ne-eqb _ _ (c .before .if3 .left), ne-eqb _ _ (c .if4 .left))
 
 pub is-delimiter-spec : {M : Type 1} → statement M
 is-delimiter-spec = tie.close (tie.spec returns returns-2 returns-3 returns-4 returns-5)
