@@ -68,7 +68,7 @@ last-form : (ts : List Token) (f : LineForm) {r : Bool} → r ≡ empty? ts → 
 last-form [] f e = ap (λ (b : Bool). cond b f broken) (sym e)
 last-form (t ∷ ts) f e = ap (λ (b : Bool). cond b f broken) (sym e)
 
-closed-form : (ts : List Token) (f : LineForm) {r : Bool} → r ≡ closesLast? ts → closedLastly ts f ≡ cond r f broken
+pub closed-form : (ts : List Token) (f : LineForm) {r : Bool} → r ≡ closesLast? ts → closedLastly ts f ≡ cond r f broken
 closed-form [] f e = ap (λ (b : Bool). cond b f broken) (sym e)
 closed-form (opening ∷ ts) f e = ap (λ (b : Bool). cond b f broken) (sym e)
 closed-form (closing ∷ ts) f e = last-form ts f e
