@@ -164,6 +164,7 @@ module _ (names : List (List ℕ)) (s : List ℕ) (from stamp : ℕ) (before : L
                             ∙ ap (λ p. onSplit p (λ bs t. onSplit (splitList notWord t) (λ ns rest. closedLastly rest (rules hs bs ns)))) (cut bodyWord b₀ b₁ b)
                             ∙ ap (λ p. onSplit p (λ ns rest. closedLastly rest (rules hs bs ns))) (cut notWord n₀ n₁ n);
                         inside = n .inside;
+                        few = omega (arith, list-end h, list-end b, list-end n);
                         numbered = record {
                           declared = rw (h .numbered .declared, b .numbered .declared, n .numbered .declared);
                           is-twice = e ∙ (λ i. h .numbered .is-twice i || (b .numbered .is-twice i || n .numbered .is-twice i));
@@ -262,6 +263,7 @@ module _ (names : List (List ℕ)) (l : List ℕ) (stamp : ℕ) (before : List �
                   bodies = listed .bodies;
                   nots = listed .nots;
                   form = form-is ∙ ap (λ b. cond b (ruleForm (tokens (drop p l))) broken) (sym u ∙ v) ∙ closed ∙ ap (λ b. cond b (rules (listed .heads) (listed .bodies) (listed .nots)) broken) (not-false k g);
+                  few = listed .few;
                   numbered = listed .numbered;
                 };
               }

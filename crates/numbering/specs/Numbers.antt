@@ -1,5 +1,5 @@
 -- The names of a rule's lists as atom numbers.
-use Prim.Native.Nat.{ℕ, _+_, _≤_}
+use Prim.Native.Nat.{ℕ, _+_, _*_, _≤_}
 use mathlib.Core.Path.{_≡_}
 use mathlib.Core.Bool.{Bool, true, false, not}
 use mathlib.Core.List.{List, [], _++_, map}
@@ -64,6 +64,7 @@ pub record ListsNumbered (names : List (List ℕ)) (s : List ℕ) (from stamp : 
   pub nots : List (List ℕ)
   pub form : ruleForm (tokens (drop from s)) ≡ closedLastly (tokens (drop (c .place) s)) (rules heads bodies nots)
   pub inside : c .place ≤ length s
+  pub few : c .heads + c .bodies + c .nots ≤ 3 * length s
   pub numbered : RuleNumbered names heads bodies nots stamp before at marks after c
 
 -- no rule, or one with a name that is not declared
@@ -83,6 +84,7 @@ pub record LineNumbered (names : List (List ℕ)) (l : List ℕ) (stamp : ℕ) (
   pub bodies : List (List ℕ)
   pub nots : List (List ℕ)
   pub form : typedForm l ≡ rules heads bodies nots
+  pub few : c .heads + c .bodies + c .nots ≤ 3 * length l
   pub numbered : RuleNumbered names heads bodies nots stamp before at marks after c
 
 abbrev pub RuleSays : List (List ℕ) → List ℕ → ℕ → List ℕ → ℕ → List ℕ → List ℕ → RuleNumbers → Type 0
