@@ -14,8 +14,8 @@ use Rattle.kinds.specs.declared.limits.Kind.{Kind}
 use Rattle.kinds.specs.declared.limits.Kind.the-variants.{Plain, Preference}
 use Rattle.kinds.specs.declared.refusals.Refusal.{Refusal}
 use Rattle.kinds.specs.declared.refusals.Refusal.the-variants.{BrokenForm, Name, DeclaredTwice, Limit}
-use Rattle.rules.specs.Lists.{some, flat}
-use Rattle.rules.proofs.Lists.{all-app-r}
+use Rattle.rules.specs.Lists.{All, some, flat}
+use Rattle.rules.proofs.Lists.{all-imp, all-app, all-app-r}
 use Rattle.rules.proofs.Booleans.{both-true}
 use Rattle.names.specs.Names.{allowed}
 use Rattle.name_store.specs.NameStore.{decodeNames, among}
@@ -25,28 +25,34 @@ use Rattle.name_store.proofs.NameStores.{allowed-short}
 use Rattle.lines.specs.declared.stage.Stage.{Stage}
 use Rattle.lines.specs.declared.stage.Stage.the-variants.{Declaring, Fixing, Ruling}
 use Rattle.lines.specs.declared.forms.DeclaredShape.{DeclaredShape}
+use Rattle.lines.specs.declared.forms.Shape.{Shape}
+use Rattle.lines.specs.declared.forms.Shape.the-variants as Shape
 use Rattle.gathering.specs.declared.gathered.Gathered.{Gathered}
 use Rattle.gathering.specs.declared.gathered.Line.{Line}
-use Rattle.gathering.specs.declared.gathered.Line.the-variants.{Next}
-use Rattle.lines.specs.Items.{items}
-use Rattle.lines.specs.Forms.{LineForm, Word, atoms, min, vary, fix}
-use Rattle.lines.specs.Faults.{SoFar, countsOf, next, fault, expects, ruling?, classesAfter, classWords, twice, refusedName, first, declared, declare, stepForm}
-use Rattle.lines.specs.Shapes.{wordOf, Declared}
+use Rattle.gathering.specs.declared.gathered.Line.the-variants.{Next, Fault}
+use Rattle.lines.specs.Tokens.{items}
+use Rattle.lines.specs.Forms.{Word, atoms, min, vary, fix, LineForm, blank, broken, formOf}
+use Rattle.lines.specs.Faults.{SoFar, countsOf, next, fault, expects, ruling?, classesAfter, classWords, twice, refusedName, first, declared, declare, addRule, stepForm}
+use Rattle.lines.specs.Shapes.{wordOf, Declared, Ruled, ShapeIs}
 use Rattle.numbering.specs.Entries.{Room, Stored, Short, AllEntered, SomeEntered}
-use Rattle.gathering.specs.Gathered.{storedWords, Filled, Held, HeldIndex, LineSays, LineIs, firstLine, countsIf, atomCounts, withNames, keptNames, KeptNames, pastRefusal}
+use Rattle.gathering.specs.Gathered.{stateOf, storedWords, Filled, Held, HeldIndex, LineSays, LineIs, firstLine, countsIf, atomCounts, withNames, keptNames, KeptNames, pastRefusal}
 use Rattle.gathering.proofs.HeldState.{fill-more, atoms-is, rules-is, occurrences-is, held-is, names-are, held-small, atoms-small, within-limits}
 use Rattle.gathering.proofs.RuleSteps.{store-fits}
 use Rattle.numbering.proofs.NewNames.{decoded}
 use Rattle.numbering.proofs.Entering.{twice-split, twice-apart}
 
--- names that are taken are short
-pub taken-short : (kind : Kind) (xs : List (List ℕ)) → some (refusedName kind) xs ≡ false → Short xs
-taken-short kind [] e = tt
-taken-short kind (x ∷ xs) e = go (allowed kind x) refl e (taken-short kind xs)
+-- names that are taken are allowed, and short
+
+taken-allowed : (kind : Kind) (xs : List (List ℕ)) → some (refusedName kind) xs ≡ false → All (λ x. T (allowed kind x)) xs
+taken-allowed kind [] e = tt
+taken-allowed kind (x ∷ xs) e = go (allowed kind x) refl e (taken-allowed kind xs)
   where
-    go : (b : Bool) → allowed kind x ≡ b → (not b || some (refusedName kind) xs) ≡ false → (some (refusedName kind) xs ≡ false → Short xs) → (length x ≤ longestName) × Short xs
-    go true p q r = (allowed-short kind x (subst T (sym p) tt), r q)
+    go : (b : Bool) → allowed kind x ≡ b → (not b || some (refusedName kind) xs) ≡ false → (some (refusedName kind) xs ≡ false → All (λ x. T (allowed kind x)) xs) → T (allowed kind x) × All (λ x. T (allowed kind x)) xs
+    go true p q r = (subst T (sym p) tt, r q)
     go false p q r = absurd (let z : _≡_ {A = ℕ} 0 1 = cc in omega arith)
+
+pub taken-short : (kind : Kind) (xs : List (List ℕ)) → some (refusedName kind) xs ≡ false → Short xs
+taken-short kind xs e = all-imp (λ x. T (allowed kind x)) (λ x. length x ≤ longestName) (allowed-short kind) xs (taken-allowed kind xs e)
 
 -- a declared line comes before the rules, and has a class word for each atom of a preference file
 expected : (kind : Kind) (stage : Stage) (w : Word) → expects kind stage w ≡ true → (ruling? stage ≡ false) × ((k c n : ℕ) → wordCount kind n + length (classWords w k c) ≡ wordCount kind (n + c))
@@ -239,6 +245,7 @@ module _ {kind : Kind} {st : SoFar} {g : Gathered} {words bytes starts firsts li
                     subst (λ x. Filled words₂ 4 end x) stored-after
                     (subst (λ x. Filled words₂ 4 (g .words + length x) (storedWords st ++ class-list)) (sym class-list-is)
                     (subst (λ x. Filled x 4 (g .words + length class-list) (storedWords st ++ class-list)) (sym (written q)) (fill-more (h .stored) class-list (fits-words l))));
+                names-allowed = all-app (λ x. T (allowed kind x)) (st .names) xs (h .names-allowed) (taken-allowed kind xs (sym (p .is-refused) ∙ t));
                 names-stored = a .stored .index .placed .stored;
                 bytes-is = a .stored .ends;
                 short = a .stored .short;
@@ -269,3 +276,17 @@ module _ {kind : Kind} {st : SoFar} {g : Gathered} {words bytes starts firsts li
                   let is = held-is held in
                   subst (LineSays kind st f words₂ bytes′ starts′ firsts′ links′) (sym y)
                   (z ∙ ap next is, subst (λ j. Held kind j (withNames g w n used end) words₂ bytes′) is held, declared-index)
+
+-- a line before the rules, by its shape
+module _ {kind : Kind} {g : Gathered} {words bytes starts firsts links : List ℕ} (h : Held kind (stateOf kind g words bytes) g words bytes) (x : HeldIndex g bytes starts firsts links) (l : List ℕ) {r : Shape} (z : ShapeIs kind l (formOf l) r) where
+  pub blank-passed : r ≡ Shape.Blank → LineIs kind (stateOf kind g words bytes) (formOf l) words bytes starts firsts links (Next g)
+  blank-passed e = let w : formOf l ≡ blank = subst (ShapeIs kind l (formOf l)) e z in record { says = (ap (stepForm (stateOf kind g words bytes)) w, h, x) }
+
+  pub rule-early : ruling? (g .stage) ≡ false → {b : Bool} → r ≡ Shape.Rule b → LineIs kind (stateOf kind g words bytes) (formOf l) words bytes starts firsts links (Fault BrokenForm)
+  unfolding addRule
+  rule-early n {b} e =
+      let w : Ruled kind (formOf l) b = subst (ShapeIs kind l (formOf l)) e z in
+      record { says = ap (stepForm (stateOf kind g words bytes)) (w .form) ∙ rw (sym (ap ruling? (h .stage-is)) ∙ n) }
+
+  pub form-broken : r ≡ Shape.Broken → LineIs kind (stateOf kind g words bytes) (formOf l) words bytes starts firsts links (Fault BrokenForm)
+  form-broken e = let w : formOf l ≡ broken = subst (ShapeIs kind l (formOf l)) e z in record { says = ap (stepForm (stateOf kind g words bytes)) w }

@@ -4,23 +4,25 @@ use gathering::gathered::Line;
 use kept_atoms::kept_atoms::keep_names;
 use kinds::limits::Kind;
 use kinds::refusals::Refusal;
+use lines::forms;
 use lines::forms::DeclaredShape;
 use lines::forms::Keyword;
+use lines::forms::Shape;
 use lines::stage::Stage;
 use numbering::entries;
 use numbering::entries::Entered;
 ghost use mathlib.Core.Path.{_≡_};
 ghost use Prim.Native.Nat.{_≤_};
-ghost use mathlib.Core.Bool.{_||_};
+ghost use mathlib.Core.Bool.{false, _||_};
 ghost use mathlib.Core.List.{[]};
 ghost use lib.ListN.{length, drop};
 ghost use Rattle.kinds.specs.Limits.{textLimit};
 ghost use Rattle.rules.specs.Lists.{some};
 ghost use Rattle.name_store.specs.NameStore.{decodeNames, among};
 ghost use Rattle.name_store.specs.NameIndex.{Indexed, buckets};
-ghost use Rattle.lines.specs.Items.{items};
+ghost use Rattle.lines.specs.Tokens.{items};
 ghost use Rattle.lines.specs.Forms.{formOf};
-ghost use Rattle.lines.specs.Faults.{expects, twice};
+ghost use Rattle.lines.specs.Faults.{expects, ruling?, twice};
 ghost use Rattle.lines.specs.Shapes.{wordOf, Declared};
 ghost use Rattle.numbering.specs.Entries.{Room, Short};
 ghost use Rattle.gathering.specs.Gathered.{stateOf, Held, HeldIndex, LineIs, pastRefusal};
@@ -81,7 +83,7 @@ fn past_limit(
 }
 
 // A line of the form that declares atoms, its names at the place that the form gives.
-pub fn declare_atoms(
+fn declare_atoms(
     line: &[u8],
     kind: Kind,
     gathered: Gathered,
@@ -131,5 +133,39 @@ pub fn declare_atoms(
         ),
         Entered::Full { at } => Line::Fault(past_limit(line, at, bytes, starts, firsts, links)),
         Entered::Twice => Line::Fault(Refusal::DeclaredTwice),
+    }
+}
+
+// A line before the rules.
+pub fn read_declared(
+    line: &[u8],
+    kind: Kind,
+    gathered: Gathered,
+    words: &mut [u16],
+    bytes: &mut [u8],
+    starts: &mut [u16],
+    firsts: &mut [u16],
+    links: &mut [u16],
+) -> Line
+    requires { ⌜ (length (now line) ≤ textLimit) × (ruling? (gathered .stage) ≡ false) ⌝ }
+    requires { ⌜ Held kind (stateOf kind gathered (now words) (now bytes)) gathered (now words) (now bytes) ⌝ }
+    requires { ⌜ HeldIndex gathered (now bytes) (now starts) (now firsts) (now links) ⌝ }
+    ensures { λ r. ⌜ LineIs kind (stateOf kind gathered (now (words .entry)) (now (bytes .entry))) (formOf (now (line .entry))) (now (words .exit)) (now (bytes .exit)) (now (starts .exit)) (now (firsts .exit)) (now (links .exit)) r ⌝ }
+{
+    match forms::shape_of(line, kind) {
+        Shape::Blank => Line::Next(gathered),
+        Shape::Declares(shape) => declare_atoms(
+            line,
+            kind,
+            gathered,
+            shape,
+            words,
+            bytes,
+            starts,
+            firsts,
+            links,
+        ),
+        Shape::Rule { refused: _ } => Line::Fault(Refusal::BrokenForm),
+        Shape::Broken => Line::Fault(Refusal::BrokenForm),
     }
 }

@@ -1,6 +1,6 @@
 use mathlib.Core.Path.{_∙_}
 use Rattle.gathering.specs.Gathered.{stateOf}
-use Rattle.lines.proofs.Scanning.{items-few}
+use Rattle.lines.proofs.TokenPlaces.{items-few}
 use Rattle.gathering.proofs.HeldState.{held-small}
 use Rattle.numbering.proofs.NameBlocks.{entered-all, entered-some, not-once}
 use Rattle.declaring.proofs.DeclaredSteps.{held-room, room-kept, held-stored, not-expected, name-refused, all-short, declared-twice, rest-short, full-index, past-room, declared-line}

@@ -2,7 +2,7 @@ use mathlib.Core.Path.{_≡_, refl, sym, _∙_}
 use mathlib.Core.Bool.{Bool, true, false, _||_}
 use mathlib.Core.List.{[]}
 use lib.ListN.{drop}
-use Rattle.lines.specs.Items.{items}
+use Rattle.lines.specs.Tokens.{items}
 use Rattle.lines.specs.Faults.{twice}
 use Rattle.kinds.specs.declared.refusals.Refusal.the-variants.{DeclaredTwice, Limit}
 use Rattle.gathering.specs.Gathered.{pastRefusal}
