@@ -2,43 +2,60 @@
 use Prim.Native.Nat.{ℕ, suc, _+_, _*_, _-_, _≤_, _<_, zero-le}
 use native.Mathlib.Numerals.{add-one}
 use native.Mathlib.Omega.{arith}
-use mathlib.Core.Path.{_≡_, sym, ap, _∙_, subst}
-use mathlib.Core.Bool.{Bool, true, false, cond}
-use mathlib.Core.List.{List}
+use mathlib.Core.Path.{_≡_, refl, sym, ap, _∙_, subst}
+use mathlib.Core.Bool.{Bool, true, false, not, cond}
+use mathlib.Core.List.{List, [], _∷_}
 use lib.ListN.{length, drop, drop-of-length-le}
+use borrow.Author.Tests.{not-true, not-false}
+use Rattle.kinds.specs.Words.{atomsWord}
 use Rattle.kinds.specs.declared.limits.Kind.{Kind}
+use Rattle.kinds.specs.declared.limits.Kind.the-variants.{Plain, Preference}
+use Rattle.rules.specs.Lists.{empty?}
+use Rattle.name_store.specs.NameStore.{sameBytes}
 use Rattle.kinds.specs.declared.refusals.Refusal.{Refusal}
 use Rattle.kinds.specs.declared.refusals.Refusal.the-variants.{BrokenForm}
 use Rattle.gathering.specs.declared.gathered.Gathered.{Gathered}
 use Rattle.gathering.specs.declared.gathered.Line.{Line}
 use Rattle.gathering.specs.declared.gathered.Line.the-variants.{Next, Fault}
 use Rattle.stores.specs.Checking.{Below}
-use Rattle.lines.specs.declared.forms.DeclaredShape.{DeclaredShape}
-use Rattle.lines.specs.Items.{items}
-use Rattle.lines.specs.Shapes.{wordOf, Declared}
 use Rattle.reader.specs.declared.reading.Gather.{Gather}
 use Rattle.reader.specs.declared.reading.Gather.the-variants.{Whole, Refused}
 use Rattle.lines.specs.Lines.{lineLength, linesFrom, lines}
-use Rattle.lines.specs.Forms.{LineForm, formOf}
-use Rattle.lines.specs.Faults.{SoFar, ruling?, stepForm}
-use Rattle.lines.specs.Said.{Said, accepted, refused, onStep, readLines, start, programOf}
+use Rattle.lines.specs.declared.scan.Place.{Place}
+use Rattle.lines.specs.declared.scan.Place.the-variants as Place
+use Rattle.lines.specs.Tokens.{Token, tokens}
+use Rattle.lines.specs.Shapes.{opensWith, OpenedSays, OpenedIs}
+use Rattle.lines.specs.Forms.{Opened, opened, unopened, openedOf, LineForm, declares, rules, blank, broken, formOf}
+use Rattle.lines.specs.Faults.{SoFar, next, fault, ruling?, addRule, stepForm}
+use Rattle.lines.specs.Said.{Said, accepted, refused, kindOpened, kindBy, kindOf, onStep, readLines, start, programOf}
 use Rattle.gathering.specs.Gathered.{stateOf, Held, HeldIndex, HeldMarks, LineSays, LineIs, MarksSay, MarksAre}
 use Rattle.reader.specs.Gathering.{startCounts, passedOn, atEnd, GatherSays, GatherIs}
 use Rattle.lines.proofs.LinePlaces.{line, line-inside, lines-at}
 use Rattle.gathering.proofs.HeldState.{rules-is, held-is}
 use Rattle.reader.proofs.LineSteps.{declare-said}
 
--- a declaring line adds no rule
-module _ {kind : Kind} {st : SoFar} {g : Gathered} {words bytes : List ℕ} (h : Held kind st g words bytes) {l : List ℕ} {f : LineForm} {s : DeclaredShape} (p : Declared kind l f s) where
-  pub declared-marks : {words′ bytes′ starts′ firsts′ links′ : List ℕ} {a : Line} → LineIs kind st f words′ bytes′ starts′ firsts′ links′ a → {marks : List ℕ} → HeldMarks g marks → MarksAre marks a
-  declared-marks {words′} {bytes′} {starts′} {firsts′} {links′} {a} w {marks} m = record { says = go a (w .says) }
+-- a line before the rules adds none
+
+early : (st : SoFar) (hs bs ns : List (List ℕ)) → ruling? (st .stage) ≡ false → addRule st hs bs ns ≡ fault BrokenForm
+unfolding addRule
+early st hs bs ns n = rw n
+
+early-rules : (st after : SoFar) (f : LineForm) → ruling? (st .stage) ≡ false → stepForm st f ≡ next after → after .program-rules ≡ st .program-rules
+early-rules st after (declares w xs) n e = ap (λ z. z .program-rules) (sym (declare-said st w xs after e .1))
+early-rules st after (rules hs bs ns) n e = absurd (let i : fault BrokenForm ≡ next after = sym (early st hs bs ns n) ∙ e in let z : _≡_ {A = ℕ} 0 1 = cc in omega arith)
+early-rules st after blank n e = let same : st ≡ after = cc in ap (λ z. z .program-rules) (sym same)
+early-rules st after broken n e = absurd (let z : _≡_ {A = ℕ} 0 1 = cc in omega arith)
+
+module _ {kind : Kind} {g : Gathered} {words bytes : List ℕ} (h : Held kind (stateOf kind g words bytes) g words bytes) (n : ruling? (g .stage) ≡ false) {f : LineForm} where
+  pub early-marks : {words′ bytes′ starts′ firsts′ links′ : List ℕ} {a : Line} → LineIs kind (stateOf kind g words bytes) f words′ bytes′ starts′ firsts′ links′ a → {marks : List ℕ} → HeldMarks g marks → MarksAre marks a
+  early-marks {words′} {bytes′} {starts′} {firsts′} {links′} {a} w {marks} m = record { says = go a (w .says) }
     where
-      go : (b : Line) → LineSays kind st f words′ bytes′ starts′ firsts′ links′ b → MarksSay marks b
+      go : (b : Line) → LineSays kind (stateOf kind g words bytes) f words′ bytes′ starts′ firsts′ links′ b → MarksSay marks b
       go (Fault r) k = tt
       go (Next g′) k =
-          let same = declare-said st (wordOf (s .word)) (items (drop (s .from) l)) (stateOf kind g′ words′ bytes′) (sym (ap (stepForm st) (p .form)) ∙ k .0) .1 in
-          let rules : g′ .counts .rules ≡ g .counts .rules = rules-is (k .1) ∙ ap (λ z. length (z .program-rules)) (sym same) ∙ sym (rules-is h) in
-          record { below = subst (λ n. Below (3 * n + 1) marks) (sym rules) (m .below); room = m .room }
+          let same = early-rules (stateOf kind g words bytes) (stateOf kind g′ words′ bytes′) f (sym (ap ruling? (h .stage-is)) ∙ n) (k .0) in
+          let count : g′ .counts .rules ≡ g .counts .rules = rules-is (k .1) ∙ ap length same ∙ sym (rules-is h) in
+          record { below = subst (λ c. Below (3 * c + 1) marks) (sym count) (m .below); room = m .room }
 
 -- the lines before `at` are read
 pub record Reading (kind : Kind) (s : List ℕ) (g : Gathered) (words bytes starts firsts links marks : List ℕ) (at number : ℕ) : Type 0 where
@@ -108,3 +125,49 @@ module _ {kind : Kind} {s : List ℕ} {g : Gathered} {words bytes starts firsts 
 
       pub line-passed : {f : Refusal} → a ≡ Fault f → {q : Gather} → q ≡ passedOn a number → GatherIs kind whole words′ bytes′ q
       line-passed d k = record { says = subst (GatherSays kind whole words′ bytes′) (sym (k ∙ ap (λ x. passedOn x number) d)) (line-refused d) }
+
+-- the kind, by the first line that is not blank
+
+no-tokens : (ts : List Token) → empty? ts ≡ true → ts ≡ []
+no-tokens [] e = refl
+no-tokens (t ∷ ts) e = absurd (let z : _≡_ {A = ℕ} 0 1 = cc in omega arith)
+
+pub record Telling (s : List ℕ) (at : ℕ) : Type 0 where
+  pub inside : at ≤ length s
+  pub left : kindOf (lines (drop at s)) ≡ kindOf (lines s)
+
+pub telling : (s : List ℕ) → Telling s 0
+telling s = record { inside = zero-le; left = refl }
+
+module _ {s : List ℕ} {at : ℕ} (h : Telling s at) where
+  pub none-tells : length s ≤ at → Preference ≡ kindOf (lines s)
+  unfolding kindOf lines linesFrom
+  none-tells o = ap (λ l. kindOf (linesFrom 0 l)) (sym (drop-of-length-le s o)) ∙ h .left
+
+  module _ (l : at < length s) {n : ℕ} (e : n ≡ lineLength (drop at s)) {q : Bool} (f : q ≡ empty? (tokens (line s at l e))) where
+    first : kindBy (tokens (line s at l e)) (kindOf (lines (drop (at + n) s))) ≡ kindOf (lines s)
+    unfolding kindOf
+    first = ap kindOf (sym (lines-at s at l e)) ∙ h .left
+
+    pub blank-tells : not q ≡ false → Telling s (at + n)
+    blank-tells d = record { inside = line-inside s at l e .0; left = ap (λ ts. kindBy ts (kindOf (lines (drop (at + n) s)))) (sym (no-tokens (tokens (line s at l e)) (sym f ∙ not-false q d))) ∙ first }
+
+    pub line-tells : not q ≡ true → {k : Kind} → k ≡ kindOpened (openedOf (tokens (line s at l e))) → k ≡ kindOf (lines s)
+    line-tells d i = i ∙ go (tokens (line s at l e)) (sym f ∙ not-true q d) ∙ first
+      where
+        go : (ts : List Token) → empty? ts ≡ false → kindOpened (openedOf ts) ≡ kindBy ts (kindOf (lines (drop (at + n) s)))
+        go [] m = absurd (let z : _≡_ {A = ℕ} 0 1 = cc in omega arith)
+        go (t ∷ ts) m = refl
+
+-- the kind of one line
+module _ (l : List ℕ) {q : Place} (o : OpenedIs l 0 atomsWord q) where
+  pub tells-plain : {p : ℕ} → q ≡ Place.At p → Plain ≡ kindOpened (openedOf (tokens l))
+  unfolding sameBytes
+  tells-plain {p} e = let k : OpenedSays l 0 atomsWord (Place.At p) = subst (OpenedSays l 0 atomsWord) e (o .says) in sym (ap kindOpened (k .1))
+
+  pub tells-preference : q ≡ Place.Absent → Preference ≡ kindOpened (openedOf (tokens l))
+  tells-preference e = go (openedOf (tokens l)) (subst (OpenedSays l 0 atomsWord) e (o .says))
+    where
+      go : (t : Opened) → opensWith atomsWord t ≡ false → Preference ≡ kindOpened t
+      go (opened x ts) n = ap (λ b. cond b Plain Preference) (sym n)
+      go unopened n = refl

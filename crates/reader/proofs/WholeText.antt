@@ -2,7 +2,6 @@
 use Prim.Native.Nat.{ℕ, _≤_, _<_, zero-le}
 use native.Mathlib.Omega.{arith}
 use mathlib.Core.Path.{_≡_, refl, sym, ap, _∙_, subst}
-use mathlib.Core.Bool.{cond}
 use mathlib.Core.List.{List, [], _++_, append-nil}
 use lib.ListN.{length, take, drop, replicate, take-append-drop}
 use lib.Seq.{length-take-le}
@@ -23,10 +22,9 @@ use Rattle.reader.specs.declared.reading.Gather.{Gather}
 use Rattle.reader.specs.declared.reading.Gather.the-variants as Gather
 use Rattle.gathering.specs.declared.gathered.Gathered.{Gathered}
 use Rattle.lines.specs.Lines.{lines}
-use Rattle.lines.specs.Forms.{atoms, begins, tagOf}
 use Rattle.stores.specs.Program.{Program, ProgramForm}
 use Rattle.restriction.specs.Remaining.{remaining, remainingNames}
-use Rattle.lines.specs.Said.{accepted, refused, start, readLines, typed, whatRemains, said, programOf}
+use Rattle.lines.specs.Said.{accepted, refused, kindOf, start, readLines, typed, whatRemains, said, programOf}
 use Rattle.answers.specs.Reading.{readAnswer, readRules, readNames}
 use Rattle.gathering.specs.Gathered.{stateOf, Held, HeldIndex, HeldMarks}
 use Rattle.delivery.specs.Delivered.{Delivered}
@@ -41,7 +39,7 @@ no-words Plain = refl
 no-words Preference = refl
 
 -- empty scratch stores hold the state before the first line
-pub start-held : (text : List ℕ) {kind : Kind} → kind ≡ cond (begins (tagOf atoms) text) Plain Preference
+pub start-held : (text : List ℕ) {kind : Kind} → kind ≡ kindOf (lines text)
     → (words bytes : List ℕ) → length words ≡ storeWords → length bytes ≡ storeBytes → Held kind (start text) startCounts words bytes
 unfolding start encodeNames
 start-held text {kind} e words bytes a b =
@@ -52,6 +50,7 @@ start-held text {kind} e words bytes a b =
       counts-are = refl;
       class-words = no-words kind;
       stored = record { front = take 4 words; rest = drop 4 words; is = sym (first words); before = length-take-le 4 words (omega arith); ends = refl };
+      names-allowed = tt;
       names-stored = refl;
       bytes-is = refl;
       short = omega arith;

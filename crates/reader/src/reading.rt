@@ -6,18 +6,17 @@ use gathering::rule_line;
 use kinds::limits::Counts;
 use kinds::limits::Kind;
 use kinds::refusals::Refusal;
-use lines::forms;
-use lines::forms::Shape;
 use lines::scan;
+use lines::scan::Place;
 use lines::stage::Stage;
 ghost use mathlib.Core.Path.{_≡_};
-ghost use mathlib.Core.Bool.{cond};
 ghost use Prim.Native.Nat.{_≤_};
 ghost use lib.ListN.{length};
 ghost use Rattle.kinds.specs.Limits.{textLimit};
 ghost use Rattle.lines.specs.Lines.{lines};
-ghost use Rattle.lines.specs.Forms.{atoms, begins, tagOf, formOf};
-ghost use Rattle.lines.specs.Said.{start, readLines};
+ghost use Rattle.lines.specs.Tokens.{tokens};
+ghost use Rattle.lines.specs.Forms.{openedOf, formOf};
+ghost use Rattle.lines.specs.Said.{kindOpened, kindOf, start, readLines};
 ghost use Rattle.gathering.specs.Gathered.{stateOf, Held, HeldIndex, HeldMarks, LineIs, MarksAre};
 ghost use Rattle.reader.specs.Gathering.{startCounts, passedOn, atEnd, GatherIs};
 
@@ -27,11 +26,28 @@ pub enum Gather {
     Refused { refusal: Refusal, line: usize },
 }
 
-pub fn kind_of(text: &[u8]) -> Kind
-    ensures { λ r. ⌜ r ≡ cond (begins (tagOf atoms) (now (text .entry))) Kind.Plain Kind.Preference ⌝ }
+// The kind that a line tells by its first word.
+fn line_kind(line: &[u8]) -> Kind
+    ensures { λ r. ⌜ r ≡ kindOpened (openedOf (tokens (now (line .entry)))) ⌝ }
 {
-    if scan::begins_at(text, 0, b"(atoms") {
+    if let Place::At(_) = scan::opened_at(line, 0, b"atoms") {
         return Kind::Plain;
+    }
+    Kind::Preference
+}
+
+// The kind that the first line tells that is not blank.
+pub fn kind_of(text: &[u8]) -> Kind
+    ensures { λ r. ⌜ r ≡ kindOf (lines (now (text .entry))) ⌝ }
+{
+    let mut at: usize = 0;
+    while at < text.len() {
+        let to = at + scan::line_at(text, at);
+        let blank = scan::nothing_at(&text[at..to], 0);
+        if !blank {
+            return line_kind(&text[at..to]);
+        }
+        at = to;
     }
     Kind::Preference
 }
@@ -69,32 +85,15 @@ fn read_line(
     ensures { λ r. ⌜ LineIs kind (stateOf kind gathered (now (words .entry)) (now (bytes .entry))) (formOf (now (line .entry))) (now (words .exit)) (now (bytes .exit)) (now (starts .exit)) (now (firsts .exit)) (now (links .exit)) r ⌝ }
     ensures { λ r. ⌜ MarksAre (now (marks .exit)) r ⌝ }
 {
-    match forms::shape_of(line, kind) {
-        Shape::Declares(shape) => declared_line::declare_atoms(
-            line,
-            kind,
-            gathered,
-            shape,
-            words,
-            bytes,
-            starts,
-            firsts,
-            links,
-        ),
-        Shape::Rule(shape) => rule_line::add_rule(
-            line,
-            kind,
-            gathered,
-            shape,
-            words,
-            bytes,
-            starts,
-            firsts,
-            links,
-            marks,
-        ),
-        Shape::Broken => Line::Fault(Refusal::BrokenForm),
+    let stage = gathered.stage;
+    if rule_line::is_ruling(stage) {
+        return rule_line::read_rule(
+            line, kind, gathered, words, bytes, starts, firsts, links, marks,
+        );
     }
+    declared_line::read_declared(
+        line, kind, gathered, words, bytes, starts, firsts, links,
+    )
 }
 
 // A line's refusal, passed on with the line.
