@@ -299,7 +299,7 @@ module _ (l : List ℕ) where
   unfolding formOf typedForm
   found-line = on-cond (λ f. Found (named f)) (ended? l) (tokenForm (tokens l)) broken (λ t. named-found (ended-law l .0 t) (tokenForm (tokens l)) (reads-tokens (tokens l))) (λ n. tt)
 
-  form-of : Ended l → {ts : List Token} → tokens l ≡ ts → {f : LineForm} → tokenForm ts ≡ f → formOf l ≡ named f
+  pub form-of : Ended l → {ts : List Token} → tokens l ≡ ts → {f : LineForm} → tokenForm ts ≡ f → formOf l ≡ named f
   unfolding formOf typedForm
   form-of h e q = ap (λ b. named (cond b (tokenForm (tokens l)) broken)) (is-true (ended? l) (ended-law l .1 h)) ∙ ap (λ ts. named (tokenForm ts)) e ∙ ap named q
 

@@ -59,7 +59,7 @@ unfolding run
 run-word [] s h e = e
 run-word (b ∷ x) s h e = ap (λ d. cond d 0 (suc (run (x ++ s)))) (word-byte b (h .0)) ∙ ap suc (run-word x s (h .1) e)
 
-run-bytes : (s : List ℕ) → All WordByte (take (run s) s) × (run (drop (run s) s) ≡ 0)
+pub run-bytes : (s : List ℕ) → All WordByte (take (run s) s) × (run (drop (run s) s) ≡ 0)
 unfolding run
 run-bytes [] = (tt, refl)
 run-bytes (b ∷ s) = go (delimiter? b) refl (run-bytes s)
@@ -79,7 +79,7 @@ no-tokens : tokens [] ≡ []
 unfolding tokens tokensFrom
 no-tokens = refl
 
-space-before : (s : List ℕ) (ts : List Token) → AreTokens s ts → AreTokens (space ∷ s) ts
+pub space-before : (s : List ℕ) (ts : List Token) → AreTokens s ts → AreTokens (space ∷ s) ts
 space-before s [] (k, r, e, h) = (suc k, r, ap (λ l. space ∷ l) e, h)
 space-before s (opening ∷ ts) (k, r, e, h) = (suc k, r, ap (λ l. space ∷ l) e, h)
 space-before s (closing ∷ ts) (k, r, e, h) = (suc k, r, ap (λ l. space ∷ l) e, h)
