@@ -74,23 +74,23 @@ refusals :
     ∷ (bytes "(min a)\n", BrokenForm, 2)
     ∷ ([], BrokenForm, 1)
     ∷ (bytes "\n ; none\n", BrokenForm, 3)
-    -- byte 10 at the end of the last line, comment or not
+    -- byte 10 at the end of the last line, comment or not; a comment cuts the line
     ∷ (bytes "(vary)\n(fix)", BrokenForm, 2)
     ∷ (bytes "(vary)\n(fix)\n; end", BrokenForm, 3)
-    -- "lines are counted as typed"
+    ∷ (bytes "(vary a)\n(fix)\n(rule (head a) ;(body) (not))\n", BrokenForm, 3)
+    -- "Lines are counted as typed"
     ∷ (bytes "; one\n\n(min a)\n  ; four\n(vary a)\n", DeclaredTwice, 5)
     ∷ [])
 unfolding said typed start kindOf readLines lines linesFrom lineLength tokens tokensFrom run openedOf splitNames splitList declaredForm ruleForm tokenForm typedForm formOf twice nameNumber declare addRule nameClass house? classNumber? allowed sameBytes
-refusals = (refl, (refl, (refl, (refl, (refl, (refl, (refl, (refl, (refl, (refl, (refl, tt)))))))))))
+refusals = (refl, (refl, (refl, (refl, (refl, (refl, (refl, (refl, (refl, (refl, (refl, (refl, tt))))))))))))
 
 -- form broken on the first line
 broken-forms :
     All (λ t. IsRefused (t, BrokenForm, 1))
     (
-    -- a comment cuts the line, behind a word and within a rule
+    -- a comment cuts the line
     bytes "(vary a;)\n(fix)\n"
     ∷ bytes "(vary a ;b)\n(fix)\n"
-    ∷ bytes "(rule (head a) ; (body) (not))\n"
     -- a tab is no space
     ∷ bytes "(vary\ta)\n"
     ∷ bytes "\t\n(vary)\n(fix)\n"
@@ -104,4 +104,4 @@ broken-forms :
     ∷ bytes "(vary))\n(fix)\n"
     ∷ [])
 unfolding said typed start kindOf readLines lines linesFrom lineLength tokens tokensFrom run openedOf splitNames splitList declaredForm ruleForm tokenForm typedForm formOf twice nameNumber declare addRule nameClass house? classNumber? allowed sameBytes
-broken-forms = (refl, (refl, (refl, (refl, (refl, (refl, (refl, (refl, (refl, (refl, (refl, tt)))))))))))
+broken-forms = (refl, (refl, (refl, (refl, (refl, (refl, (refl, (refl, (refl, (refl, tt))))))))))
