@@ -1,9 +1,9 @@
 -- What the scratch stores and the counts say of the lines so far.
 use Prim.Native.Nat.{ℕ, _+_, _*_, _≤_}
 use mathlib.Core.Path.{_≡_}
-use mathlib.Core.Bool.{Bool, true, false, not, _&&_}
+use mathlib.Core.Bool.{Bool, true, false, not, cond, _&&_}
 use mathlib.Core.List.{List, [], _∷_, _++_}
-use lib.Dec.{leb, ltb}
+use lib.Dec.{T, leb, ltb}
 use lib.ListN.{length, take, drop}
 use lib.Seq.{sets}
 use Rattle.kinds.specs.Sizes.{longestEntry, storeWords, storeBytes}
@@ -12,8 +12,9 @@ use Rattle.kinds.specs.declared.limits.Counts.{Counts}
 use Rattle.kinds.specs.declared.limits.Kind.{Kind}
 use Rattle.kinds.specs.declared.limits.Kind.the-variants.{Plain, Preference}
 use Rattle.kinds.specs.declared.refusals.Refusal.{Refusal}
-use Rattle.kinds.specs.declared.refusals.Refusal.the-variants.{DeclaredTwice, Limit, FilledNot}
-use Rattle.rules.specs.Lists.{flat}
+use Rattle.kinds.specs.declared.refusals.Refusal.the-variants.{BrokenForm, Name, DeclaredTwice, Undeclared, Limit, FilledNot}
+use Rattle.rules.specs.Lists.{All, some, flat}
+use Rattle.names.specs.Names.{allowed}
 use Rattle.name_store.specs.NameStore.{encodeNames, decodeNames}
 use Rattle.name_store.specs.NameIndex.{Indexed}
 use Rattle.stores.specs.Checking.{Below}
@@ -21,8 +22,8 @@ use Rattle.stores.specs.RuleStore.{ruleWords, wordCount, rulesFrom}
 use Rattle.gathering.specs.declared.gathered.Gathered.{Gathered}
 use Rattle.gathering.specs.declared.gathered.Line.{Line}
 use Rattle.gathering.specs.declared.gathered.Line.the-variants as Line
-use Rattle.lines.specs.Forms.{LineForm, Word}
-use Rattle.lines.specs.Faults.{SoFar, countsOf, next, fault, ruling?, stageAfter, classesAfter, classWords, stepForm}
+use Rattle.lines.specs.Forms.{Word, LineForm, declares, rules, blank, broken}
+use Rattle.lines.specs.Faults.{SoFar, countsOf, next, fault, ruling?, stageAfter, classesAfter, classWords, refusedName, anyOf, stepForm}
 
 unfoldable pub stateOf : Kind → Gathered → List ℕ → List ℕ → SoFar
 stateOf kind g words bytes = record {
@@ -54,6 +55,7 @@ pub record Held (kind : Kind) (st : SoFar) (g : Gathered) (words bytes : List �
   pub counts-are : g .counts ≡ countsOf st
   pub class-words : length (st .words) ≡ wordCount kind (g .counts .atoms)
   pub stored : Filled words 4 (g .words) (storedWords st)
+  pub names-allowed : All (λ x. T (allowed kind x)) (st .names)
   pub names-stored : encodeNames (st .names) ++ drop (length (encodeNames (st .names))) bytes ≡ bytes
   pub bytes-is : g .bytes ≡ length (encodeNames (st .names))
   pub short : g .bytes ≤ longestEntry * g .counts .atoms
@@ -90,6 +92,17 @@ MarksSay marks (Line.Fault r) = Unit {0}
 
 pub record MarksAre (marks : List ℕ) (r : Line) : Type 0 where
   pub says : MarksSay marks r
+
+-- why a line behind the declarations is no rule with declared names
+abbrev pub refusalOf : Kind → LineForm → Refusal
+refusalOf kind (declares w xs) = BrokenForm
+refusalOf kind (rules hs bs ns) = cond (anyOf (some (refusedName kind)) hs bs ns) Name Undeclared
+refusalOf kind blank = BrokenForm
+refusalOf kind broken = BrokenForm
+
+-- a line with nothing that counts, ended or not
+abbrev pub blankLine : Gathered → Bool → Line
+blankLine g ended = cond ended (Line.Next g) (Line.Fault BrokenForm)
 
 -- a rule
 

@@ -4,21 +4,27 @@ use crate::gathered::Line;
 use kinds::limits::Counts;
 use kinds::limits::Kind;
 use kinds::refusals::Refusal;
-use lines::forms::RuleShape;
+use lines::forms;
+use lines::forms::Shape;
+use lines::scan;
 use lines::stage::Stage;
 use numbering::numbers;
-use numbering::numbers::Numbers;
+use numbering::numbers::RuleCounts;
+use numbering::numbers::RuleNumbers;
 use output::words::push;
 ghost use mathlib.Core.Path.{_≡_};
 ghost use Prim.Native.Nat.{_+_, _^_, _≤_, _<_};
+ghost use mathlib.Core.Bool.{true, false};
 ghost use mathlib.Core.List.{[], _∷_};
 ghost use lib.ListN.{length};
+ghost use Rattle.rules.specs.Lists.{empty?};
 ghost use Rattle.kinds.specs.Limits.{textLimit};
 ghost use Rattle.output.specs.Emitted.{Emitted};
+ghost use Rattle.lines.specs.Lines.{ended?};
+ghost use Rattle.lines.specs.Tokens.{tokens};
 ghost use Rattle.lines.specs.Forms.{formOf};
 ghost use Rattle.lines.specs.Faults.{ruling?};
-ghost use Rattle.lines.specs.Shapes.{Ruled};
-ghost use Rattle.gathering.specs.Gathered.{stateOf, Held, HeldIndex, HeldMarks, LineIs, MarksAre, filledCount, Kept};
+ghost use Rattle.gathering.specs.Gathered.{stateOf, Held, HeldIndex, HeldMarks, LineIs, MarksAre, filledCount, Kept, refusalOf, blankLine};
 
 pub fn is_ruling(stage: Stage) -> bool
     ensures { λ r. ⌜ r ≡ ruling? stage ⌝ }
@@ -49,20 +55,14 @@ pub fn put_counts(heads: usize, bodies: usize, nots: usize, words: &mut [u16], a
     push(nots as u16, words, third)
 }
 
-// A rule whose numbers stand written up to `end`, behind its three counts.
-fn keep_rule(
-    kind: Kind,
-    gathered: Gathered,
-    shape: RuleShape,
-    end: usize,
-    words: &mut [u16],
-) -> Line
-    requires { ⌜ (shape .heads + shape .bodies + shape .nots < 2 ^ 62) × (gathered .counts .rules < 2 ^ 62) × (gathered .counts .occurrences < 2 ^ 62) × (gathered .words < 2 ^ 62) ⌝ }
-    ensures { λ r. ⌜ Kept kind gathered (shape .heads) (shape .bodies) (shape .nots) end (now (words .entry)) (now (words .exit)) r ⌝ }
+// A rule whose numbers stand written, behind its three counts.
+fn keep_rule(kind: Kind, gathered: Gathered, rule: RuleCounts, words: &mut [u16]) -> Line
+    requires { ⌜ (rule .heads + rule .bodies + rule .nots < 2 ^ 62) × (gathered .counts .rules < 2 ^ 62) × (gathered .counts .occurrences < 2 ^ 62) × (gathered .words < 2 ^ 62) ⌝ }
+    ensures { λ r. ⌜ Kept kind gathered (rule .heads) (rule .bodies) (rule .nots) (rule .end) (now (words .entry)) (now (words .exit)) r ⌝ }
 {
-    let heads = shape.heads;
-    let bodies = shape.bodies;
-    let nots = shape.nots;
+    let heads = rule.heads;
+    let bodies = rule.bodies;
+    let nots = rule.nots;
     let before = gathered.counts;
     let atoms = before.atoms;
     let rules = before.rules + 1;
@@ -88,17 +88,33 @@ fn keep_rule(
         stage,
         classes,
         counts,
-        words: end,
+        words: rule.end,
         bytes,
     })
 }
 
-// A line of a rule's form, its lists at the places that the form gives.
-pub fn add_rule(
+// Why a line is no rule with declared names: only then are its names looked at one by one.
+fn rule_refusal(line: &[u8], kind: Kind) -> Refusal
+    ensures { λ r. ⌜ r ≡ refusalOf kind (formOf (now (line .entry))) ⌝ }
+{
+    match forms::shape_of(line, kind) {
+        Shape::Rule { refused } => {
+            if refused {
+                return Refusal::Name;
+            }
+            Refusal::Undeclared
+        }
+        Shape::Blank => Refusal::BrokenForm,
+        Shape::Declares(_) => Refusal::BrokenForm,
+        Shape::Broken => Refusal::BrokenForm,
+    }
+}
+
+// A line behind the declarations that is not blank.
+fn add_rule(
     line: &[u8],
     kind: Kind,
     gathered: Gathered,
-    shape: RuleShape,
     words: &mut [u16],
     bytes: &[u8],
     starts: &[u16],
@@ -106,31 +122,20 @@ pub fn add_rule(
     links: &[u16],
     marks: &mut [u16],
 ) -> Line
-    requires { ⌜ Ruled kind (now line) (formOf (now line)) shape ⌝ }
-    requires { ⌜ length (now line) ≤ textLimit ⌝ }
+    requires { ⌜ (length (now line) ≤ textLimit) × (ruling? (gathered .stage) ≡ true) × (empty? (tokens (now line)) ≡ false) ⌝ }
     requires { ⌜ Held kind (stateOf kind gathered (now words) (now bytes)) gathered (now words) (now bytes) ⌝ }
     requires { ⌜ HeldIndex gathered (now bytes) (now starts) (now firsts) (now links) ⌝ }
     requires { ⌜ HeldMarks gathered (now marks) ⌝ }
     ensures { λ r. ⌜ LineIs kind (stateOf kind gathered (now (words .entry)) (now (bytes .entry))) (formOf (now (line .entry))) (now (words .exit)) (now (bytes .entry)) (now (starts .entry)) (now (firsts .entry)) (now (links .entry)) r ⌝ }
     ensures { λ r. ⌜ MarksAre (now (marks .exit)) r ⌝ }
 {
-    let stage = gathered.stage;
-    let ruling = is_ruling(stage);
-    if !ruling {
-        return Line::Fault(Refusal::BrokenForm);
-    }
-    if shape.refused {
-        return Line::Fault(Refusal::Name);
-    }
     let counts = gathered.counts;
     let atoms = counts.atoms;
     let rules = counts.rules;
     let at = gathered.words + 3;
     let stamp = (3 * rules + 1) as u16;
-    let lists = shape.lists;
-    let Numbers::List { end, twice } = numbers::rule_numbers(
+    let RuleNumbers::Rule(rule) = numbers::rule_numbers(
         line,
-        lists,
         bytes,
         &starts[..atoms],
         firsts,
@@ -140,10 +145,55 @@ pub fn add_rule(
         words,
         at,
     ) else {
-        return Line::Fault(Refusal::Undeclared);
+        return Line::Fault(rule_refusal(line, kind));
     };
-    if twice {
+    if rule.twice {
         return Line::Fault(Refusal::TwiceInList);
     }
-    keep_rule(kind, gathered, shape, end, words)
+    keep_rule(kind, gathered, rule, words)
+}
+
+// A blank line changes nothing.
+fn pass_blank(line: &[u8], gathered: Gathered) -> Line
+    ensures { λ r. ⌜ r ≡ blankLine gathered (ended? (now (line .entry))) ⌝ }
+{
+    if scan::is_ended(line) {
+        return Line::Next(gathered);
+    }
+    Line::Fault(Refusal::BrokenForm)
+}
+
+// A line behind the declarations.
+pub fn read_rule(
+    line: &[u8],
+    kind: Kind,
+    gathered: Gathered,
+    words: &mut [u16],
+    bytes: &[u8],
+    starts: &[u16],
+    firsts: &[u16],
+    links: &[u16],
+    marks: &mut [u16],
+) -> Line
+    requires { ⌜ (length (now line) ≤ textLimit) × (ruling? (gathered .stage) ≡ true) ⌝ }
+    requires { ⌜ Held kind (stateOf kind gathered (now words) (now bytes)) gathered (now words) (now bytes) ⌝ }
+    requires { ⌜ HeldIndex gathered (now bytes) (now starts) (now firsts) (now links) ⌝ }
+    requires { ⌜ HeldMarks gathered (now marks) ⌝ }
+    ensures { λ r. ⌜ LineIs kind (stateOf kind gathered (now (words .entry)) (now (bytes .entry))) (formOf (now (line .entry))) (now (words .exit)) (now (bytes .entry)) (now (starts .entry)) (now (firsts .entry)) (now (links .entry)) r ⌝ }
+    ensures { λ r. ⌜ MarksAre (now (marks .exit)) r ⌝ }
+{
+    if scan::nothing_at(line, 0) {
+        return pass_blank(line, gathered);
+    }
+    add_rule(
+        line,
+        kind,
+        gathered,
+        words,
+        bytes,
+        starts,
+        firsts,
+        links,
+        marks,
+    )
 }

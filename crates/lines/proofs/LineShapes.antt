@@ -68,7 +68,7 @@ last-form : (ts : List Token) (f : LineForm) {r : Bool} → r ≡ empty? ts → 
 last-form [] f e = ap (λ (b : Bool). cond b f broken) (sym e)
 last-form (t ∷ ts) f e = ap (λ (b : Bool). cond b f broken) (sym e)
 
-closed-form : (ts : List Token) (f : LineForm) {r : Bool} → r ≡ closesLast? ts → closedLastly ts f ≡ cond r f broken
+pub closed-form : (ts : List Token) (f : LineForm) {r : Bool} → r ≡ closesLast? ts → closedLastly ts f ≡ cond r f broken
 closed-form [] f e = ap (λ (b : Bool). cond b f broken) (sym e)
 closed-form (opening ∷ ts) f e = ap (λ (b : Bool). cond b f broken) (sym e)
 closed-form (closing ∷ ts) f e = last-form ts f e
@@ -272,3 +272,70 @@ module _ (l : List ℕ) where
         go : (ts : List Token) → empty? ts ≡ false → named (tokenForm ts) ≡ named (openedForm (openedOf ts))
         go [] n = absurd (let z : _≡_ {A = ℕ} 0 1 = cc in omega arith)
         go (t ∷ ts) n = refl
+
+-- a line with a bracket or a word is not blank
+
+no-blank : (p : Split) (f : List (List ℕ) → List Token → LineForm) → ((xs : List (List ℕ)) (rest : List Token) → f xs rest ≡ blank → ⊥) → onSplit p f ≡ blank → ⊥
+no-blank (split xs rest) f n e = n xs rest e
+no-blank none f n e = let z : _≡_ {A = ℕ} 0 1 = cc in omega arith
+
+closed-blank : (r : Bool) (f : LineForm) → (f ≡ blank → ⊥) → cond r f broken ≡ blank → ⊥
+closed-blank true f n e = n e
+closed-blank false f n e = let z : _≡_ {A = ℕ} 0 1 = cc in omega arith
+
+declared-blank : (w : Word) (ts : List Token) → declaredForm w ts ≡ blank → ⊥
+unfolding declaredForm
+declared-blank w ts = no-blank (splitNames ts) (λ xs rest. lastly rest (declares w xs)) (λ xs rest e. closed-blank (empty? rest) (declares w xs) (λ i. (let z : _≡_ {A = ℕ} 0 1 = cc in omega arith)) (sym (last-form rest (declares w xs) refl) ∙ e))
+
+rule-blank : (ts : List Token) → ruleForm ts ≡ blank → ⊥
+unfolding ruleForm
+rule-blank ts =
+    no-blank (splitList headWord ts) behindHead
+    (λ hs r. no-blank (splitList bodyWord r) (behindBody hs)
+    (λ bs s. no-blank (splitList notWord s) (λ ns rest. closedLastly rest (rules hs bs ns))
+    (λ ns rest e. closed-blank (closesLast? rest) (rules hs bs ns) (λ i. (let z : _≡_ {A = ℕ} 0 1 = cc in omega arith)) (sym (closed-form rest (rules hs bs ns) refl) ∙ e))))
+
+opened-blank : (t : Opened) → openedForm t ≡ blank → ⊥
+opened-blank (opened x ts) e = go (sameBytes x atomsWord) (sameBytes x minWord) (sameBytes x varyWord) (sameBytes x fixWord) (sameBytes x ruleWord) e
+  where
+    go : (a b c d f : Bool) → cond a (declaredForm atoms ts) (cond b (declaredForm min ts) (cond c (declaredForm vary ts) (cond d (declaredForm fix ts) (cond f (ruleForm ts) broken)))) ≡ blank → ⊥
+    go true b c d f e = declared-blank atoms ts e
+    go false true c d f e = declared-blank min ts e
+    go false false true d f e = declared-blank vary ts e
+    go false false false true f e = declared-blank fix ts e
+    go false false false false true e = rule-blank ts e
+    go false false false false false e = let z : _≡_ {A = ℕ} 0 1 = cc in omega arith
+opened-blank unopened e = let z : _≡_ {A = ℕ} 0 1 = cc in omega arith
+
+named-blank : (f : LineForm) → named f ≡ blank → f ≡ blank
+named-blank (declares w xs) e = absurd (closed-blank (names? xs) (declares w xs) (λ i. (let z : _≡_ {A = ℕ} 0 1 = cc in omega arith)) e)
+named-blank (rules hs bs ns) e = absurd (go (names? hs) (names? bs) (names? ns) e)
+  where
+    go : (a b c : Bool) → cond a (cond b (cond c (rules hs bs ns) broken) broken) broken ≡ blank → ⊥
+    go true true true e = let z : _≡_ {A = ℕ} 0 1 = cc in omega arith
+    go true true false e = let z : _≡_ {A = ℕ} 0 1 = cc in omega arith
+    go true false c e = let z : _≡_ {A = ℕ} 0 1 = cc in omega arith
+    go false b c e = let z : _≡_ {A = ℕ} 0 1 = cc in omega arith
+named-blank blank e = refl
+named-blank broken e = e
+
+pub filled-line : (l : List ℕ) → empty? (tokens l) ≡ false → formOf l ≡ blank → ⊥
+unfolding formOf typedForm tokenForm
+filled-line l n e = go (ended? l) (tokens l) n (named-blank (typedForm l) e)
+  where
+    go : (b : Bool) (ts : List Token) → empty? ts ≡ false → cond b (tokenForm ts) broken ≡ blank → ⊥
+    go false ts n e = let z : _≡_ {A = ℕ} 0 1 = cc in omega arith
+    go true [] n e = let z : _≡_ {A = ℕ} 0 1 = cc in omega arith
+    go true (t ∷ ts) n e = opened-blank (openedOf (t ∷ ts)) e
+
+pub blank-line : (l : List ℕ) {q : Bool} → q ≡ empty? (tokens l) → q ≡ true → formOf l ≡ cond (ended? l) blank broken
+unfolding formOf typedForm tokenForm
+blank-line l f g = ap (λ ts. named (cond (ended? l) (tokenForm ts) broken)) (none (tokens l) (sym f ∙ g)) ∙ go (ended? l)
+  where
+    none : (ts : List Token) → empty? ts ≡ true → ts ≡ []
+    none [] n = refl
+    none (t ∷ ts) n = absurd (let z : _≡_ {A = ℕ} 0 1 = cc in omega arith)
+
+    go : (b : Bool) → named (cond b blank broken) ≡ cond b blank broken
+    go true = refl
+    go false = refl

@@ -56,7 +56,7 @@ unfolding nameFit
 fit-says kind x e d = subst (Says kind (nameClass x)) (sym e ∙ d) (says kind (nameClass x))
 
 -- the names of a list are those at its front
-split-is : (ts : List Token) {xs : List (List ℕ)} {rest : List Token} → splitNames ts ≡ split xs rest → xs ≡ leading ts
+pub split-is : (ts : List Token) {xs : List (List ℕ)} {rest : List Token} → splitNames ts ≡ split xs rest → xs ≡ leading ts
 unfolding splitNames
 split-is ts {xs} {rest} e = go (behind ts) e
   where
@@ -65,6 +65,26 @@ split-is ts {xs} {rest} e = go (behind ts) e
     go (opening ∷ us) e = absurd (let z : _≡_ {A = ℕ} 0 1 = cc in omega arith)
     go (closing ∷ us) e = let q : leading ts ≡ xs = cc in sym q
     go (word x ∷ us) e = absurd (let z : _≡_ {A = ℕ} 0 1 = cc in omega arith)
+
+-- the names from a place on end where no word stands, and there the list is closed or not
+module _ (s : List ℕ) (from end : ℕ) (same : behind (tokens (drop end s)) ≡ behind (tokens (drop from s))) {r : Item} (e : r ≡ itemOf (drop end s)) (d : r ≡ Stop) {q : Place} (c : ClosedIs s end q) where
+  cut : splitNames (tokens (drop from s)) ≡ closedBy (items (drop from s)) (tokens (drop end s))
+  unfolding splitNames items
+  cut = ap (closedBy (items (drop from s))) (sym same ∙ behind-end s end e d)
+
+  pub list-closed : {p : ℕ} → q ≡ Place.At p → (splitNames (tokens (drop from s)) ≡ split (items (drop from s)) (tokens (drop p s))) × (p ≤ length s)
+  list-closed {p} g =
+      let k : ClosedSays s end (Place.At p) = subst (ClosedSays s end) g (c .says) in
+      (cut ∙ ap (closedBy (items (drop from s))) (k .1), k .0 .inside)
+
+  pub list-unclosed : q ≡ Place.Absent → {xs : List (List ℕ)} {rest : List Token} → splitNames (tokens (drop from s)) ≡ split xs rest → ⊥
+  list-unclosed g i = go (tokens (drop end s)) (subst (ClosedSays s end) g (c .says)) (sym cut ∙ i)
+    where
+      go : (ts : List Token) → closes? ts ≡ false → {xs : List (List ℕ)} {rest : List Token} → closedBy (items (drop from s)) ts ≡ split xs rest → ⊥
+      go [] n i = let z : _≡_ {A = ℕ} 0 1 = cc in omega arith
+      go (opening ∷ ts) n i = let z : _≡_ {A = ℕ} 0 1 = cc in omega arith
+      go (closing ∷ ts) n i = let z : _≡_ {A = ℕ} 0 1 = cc in omega arith
+      go (word x ∷ ts) n i = let z : _≡_ {A = ℕ} 0 1 = cc in omega arith
 
 -- the names up to `end` are passed
 pub record Naming (kind : Kind) (s : List ℕ) (from end count : ℕ) (refused : Bool) : Type 0 where
@@ -81,18 +101,14 @@ begins-naming kind s from h = record { inside = h; few = zero-le; same-behind = 
 module _ {kind : Kind} {s : List ℕ} {from end count : ℕ} {refused : Bool} (h : Naming kind s from end count refused) {r : Item} (e : r ≡ itemOf (drop end s)) where
   -- behind the last name
   module _ (d : r ≡ Stop) {q : Place} (c : ClosedIs s end q) where
-    cut : splitNames (tokens (drop from s)) ≡ closedBy (items (drop from s)) (tokens (drop end s))
-    unfolding splitNames items
-    cut = ap (closedBy (items (drop from s))) (sym (h .same-behind) ∙ behind-end s end e d)
-
     pub names-closed : {p : ℕ} → q ≡ Place.At p → NamesAre kind s from (Found.List p count refused)
-    names-closed {p} g =
-        let k : ClosedSays s end (Place.At p) = subst (ClosedSays s end) g (c .says) in
+    names-closed g =
+        let k = list-closed s from end (h .same-behind) e d c g in
         let out = items-end s end e d in
         record {
           says = record {
-            cuts = cut ∙ ap (closedBy (items (drop from s))) (k .1);
-            inside = k .0 .inside;
+            cuts = k .0;
+            inside = k .1;
             are-names = sym (h .naming) ∙ ap names? out;
             is-count = sym (add-zero count) ∙ ap (λ l. count + length l) (sym out) ∙ h .counted;
             is-refused = sym (or-false refused) ∙ ap (λ l. refused || some (refusedName kind) l) (sym out) ∙ h .refusing;
@@ -100,13 +116,7 @@ module _ {kind : Kind} {s : List ℕ} {from end count : ℕ} {refused : Bool} (h
         }
 
     pub names-unclosed : q ≡ Place.Absent → NamesAre kind s from Found.Broken
-    names-unclosed g = record { says = λ xs rest i. absurd (go (tokens (drop end s)) (subst (ClosedSays s end) g (c .says)) (sym cut ∙ i)) }
-      where
-        go : (ts : List Token) → closes? ts ≡ false → {xs : List (List ℕ)} {rest : List Token} → closedBy (items (drop from s)) ts ≡ split xs rest → ⊥
-        go [] n i = let z : _≡_ {A = ℕ} 0 1 = cc in omega arith
-        go (opening ∷ ts) n i = let z : _≡_ {A = ℕ} 0 1 = cc in omega arith
-        go (closing ∷ ts) n i = let z : _≡_ {A = ℕ} 0 1 = cc in omega arith
-        go (word x ∷ ts) n i = let z : _≡_ {A = ℕ} 0 1 = cc in omega arith
+    names-unclosed g = record { says = λ xs rest i. absurd (list-unclosed s from end (h .same-behind) e d c g i) }
 
   module _ {g n : ℕ} (d : r ≡ At g n) where
     pub name-inside : end + g + n ≤ length s

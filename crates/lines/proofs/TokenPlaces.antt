@@ -188,3 +188,22 @@ module _ (s : List ℕ) (i : ℕ) {r : Item} (e : r ≡ itemOf (drop i s)) where
     item-length =
         ap length (part-sized (i + g) n (drop (i + g) s))
         ∙ length-take-le n (drop (i + g) s) (omega (arith, item-fits, length-drop (i + g) s))
+
+-- there are no more words than bytes
+few-from : (k : ℕ) (s : List ℕ) → length (leading (tokensFrom k s)) ≤ length s
+unfolding tokensFrom
+few-from k [] = zero-le
+few-from zero (b ∷ s) = go (ends? b) (eqb b space) (eqb b open-bracket) (eqb b close-bracket) (few-from 0 s) (few-from (run s) s)
+  where
+    go : (a c d e : Bool) → length (leading (tokensFrom 0 s)) ≤ length s → length (leading (tokensFrom (run s) s)) ≤ length s
+        → length (leading (cond a [] (cond c (tokensFrom 0 s) (cond d (opening ∷ tokensFrom 0 s) (cond e (closing ∷ tokensFrom 0 s) (word (b ∷ take (run s) s) ∷ tokensFrom (run s) s)))))) ≤ suc (length s)
+    go true c d e h k = zero-le
+    go false true d e h k = omega arith
+    go false false true e h k = zero-le
+    go false false false true h k = zero-le
+    go false false false false h k = omega arith
+few-from (suc k) (b ∷ s) = let h = few-from k s in omega arith
+
+pub items-few : (s : List ℕ) (from : ℕ) → length (items (drop from s)) ≤ length s
+unfolding items tokens
+items-few s from = omega (arith, few-from 0 (drop from s), length-drop from s)

@@ -18,11 +18,11 @@ use Rattle.name_store.specs.declared.index.Found.the-variants as Found
 use Rattle.name_store.proofs.NameEntries.{encode-last}
 use Rattle.lines.specs.declared.scan.Item.{Item}
 use Rattle.lines.specs.declared.scan.Item.the-variants.{At, Stop}
-use Rattle.lines.specs.Items.{items}
+use Rattle.lines.specs.Tokens.{items}
 use Rattle.lines.specs.Faults.{twice}
 use Rattle.lines.specs.Shapes.{itemOf}
 use Rattle.numbering.specs.Entries.{EntryRoom, EntrySays, EntryIs, Room, Stored, Short, AllEntered, SomeEntered}
-use Rattle.lines.proofs.Scanning.{items-end, item-fits, item, later, item-is, item-length}
+use Rattle.lines.proofs.TokenPlaces.{items-end, item-fits, item-long, item, later, item-is, item-length}
 use Rattle.numbering.proofs.NameNumbers.{named, unnamed}
 use Rattle.numbering.proofs.NewNames.{decoded}
 
@@ -71,8 +71,8 @@ module _ {names : List (List ℕ)} {s : List ℕ} {from : ℕ} {bytes starts fir
       let whole : h .passed ≡ items (drop from s) = sym (append-nil (h .passed)) ∙ ap (λ l. h .passed ++ l) (sym (items-end s i e d)) ∙ h .all in
       record { once = ap (twice names) (sym whole) ∙ h .once; stored = subst (λ l. Stored (names ++ l) bytes starts firsts links atom at) whole (h .stored) }
 
-  module _ {n : ℕ} (d : r ≡ At n) where
-    pub entry-inside : i + 1 + n ≤ length s
+  module _ {g n : ℕ} (d : r ≡ At g n) where
+    pub entry-inside : i + g + n ≤ length s
     entry-inside = item-fits s i e d
 
     abbrev x : List ℕ
@@ -99,6 +99,9 @@ module _ {names : List (List ℕ)} {s : List ℕ} {from : ℕ} {bytes starts fir
 
     shorts : Short (x ∷ xs)
     shorts = subst Short (item-is s i e d) (h .short)
+
+    pub entry-long : 1 ≤ n
+    entry-long = item-long s i e d
 
     pub entry-short : n ≤ longestName
     entry-short = omega (arith, item-length s i e d, shorts .0)
@@ -131,7 +134,7 @@ module _ {names : List (List ℕ)} {s : List ℕ} {from : ℕ} {bytes starts fir
 
       module _ {bytes′ starts′ firsts′ links′ : List ℕ} {q : Bool} (w : EntryIs (decodeNames atom bytes) x bytes′ starts′ firsts′ links′ q) where
         said : {b : Bool} → q ≡ b → EntrySays held x bytes′ starts′ firsts′ links′ b
-        said {b} g = subst (λ l. EntrySays l x bytes′ starts′ firsts′ links′ b) same (subst (EntrySays (decodeNames atom bytes) x bytes′ starts′ firsts′ links′) g (w .says))
+        said {b} t = subst (λ l. EntrySays l x bytes′ starts′ firsts′ links′ b) same (subst (EntrySays (decodeNames atom bytes) x bytes′ starts′ firsts′ links′) t (w .says))
 
         last-twice : twice names (h .passed ++ (x ∷ [])) ≡ among held x
         unfolding twice
@@ -139,14 +142,14 @@ module _ {names : List (List ℕ)} {s : List ℕ} {from : ℕ} {bytes starts fir
 
         pub entered-twice : q ≡ false → twice names (items (drop from s)) ≡ true
         unfolding twice
-        entered-twice g =
+        entered-twice t =
             ap (twice names) (sym split) ∙ twice-split names (h .passed) (x ∷ xs)
             ∙ ap (λ b. b || (among held x || twice (held ++ (x ∷ [])) xs)) (h .once)
-            ∙ ap (λ b. b || twice (held ++ (x ∷ [])) xs) (said g)
+            ∙ ap (λ b. b || twice (held ++ (x ∷ [])) xs) (said t)
 
-        pub entered-again : q ≡ true → length bytes′ ≡ length bytes → length starts′ ≡ length starts → length links′ ≡ length links → Entering names s from bytes′ starts′ firsts′ links′ (i + 1 + n) (atom + 1) (at + (1 + n))
-        entered-again g b c l =
-            let k = said g in
+        pub entered-again : q ≡ true → length bytes′ ≡ length bytes → length starts′ ≡ length starts → length links′ ≡ length links → Entering names s from bytes′ starts′ firsts′ links′ (i + g + n) (atom + 1) (at + (1 + n))
+        entered-again t b c l =
+            let k = said t in
             let grown : held ++ (x ∷ []) ≡ names ++ (h .passed ++ (x ∷ [])) = append-assoc names (h .passed) (x ∷ []) in
             let size : length (encodeNames (held ++ (x ∷ []))) ≡ length (encodeNames held) + (1 + n) =
             ap length (encode-last held x) ∙ length-append (encodeNames held) (nameBytes x) ∙ ap (λ m. length (encodeNames held) + m) (plus-one (item-length s i e d)) in
@@ -164,7 +167,7 @@ module _ {names : List (List ℕ)} {s : List ℕ} {from : ℕ} {bytes starts fir
                 few = omega arith;
               });
               room = record { bytes-long = b ∙ h .room .bytes-long; starts-long = c ∙ h .room .starts-long; links-long = l ∙ h .room .links-long };
-              onward = omega (arith, h .onward, length-append (h .passed) (x ∷ []));
+              onward = omega (arith, h .onward, length-append (h .passed) (x ∷ []), item-long s i e d);
             }
           where
             plus-one : {m : ℕ} → m ≡ n → suc m ≡ 1 + n
@@ -182,16 +185,19 @@ module _ {names : List (List ℕ)} {s : List ℕ} {from i : ℕ} (h : Looking na
   pub none-known : r ≡ Stop → false ≡ some (among names) (items (drop from s))
   none-known d = ap (some (among names)) (sym (items-end s i e d)) ∙ h .left
 
-  module _ {n : ℕ} (d : r ≡ At n) where
-    pub look-inside : i + 1 + n ≤ length s
+  module _ {g n : ℕ} (d : r ≡ At g n) where
+    pub look-inside : i + g + n ≤ length s
     look-inside = item-fits s i e d
+
+    pub look-long : 1 ≤ n
+    look-long = item-long s i e d
 
     module _ {q : Found} (f : q ≡ found (item s i e d) names) where
       one : some (among names) (items (drop i s)) ≡ (among names (item s i e d) || some (among names) (later s i e d))
       one = ap (some (among names)) (item-is s i e d)
 
       pub one-known : {j : ℕ} → q ≡ Found.At j → true ≡ some (among names) (items (drop from s))
-      one-known g = sym (rw (named (item s i e d) names f g .declared) at one) ∙ h .left
+      one-known t = sym (rw (named (item s i e d) names f t .declared) at one) ∙ h .left
 
-      pub look-again : q ≡ Found.Missing → Looking names s from (i + 1 + n)
-      look-again g = record { inside = look-inside; left = sym (rw (unnamed (item s i e d) names f g) at one) ∙ h .left }
+      pub look-again : q ≡ Found.Missing → Looking names s from (i + g + n)
+      look-again t = record { inside = look-inside; left = sym (rw (unnamed (item s i e d) names f t) at one) ∙ h .left }

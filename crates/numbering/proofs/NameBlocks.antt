@@ -13,7 +13,7 @@ use Rattle.name_store.specs.NameStore.{encodeNames, decodeNames, among}
 use Rattle.name_store.specs.NameIndex.{buckets, lastWith, Indexed}
 use Rattle.numbering.specs.declared.entries.Entered.{Entered}
 use Rattle.numbering.specs.declared.entries.Entered.the-variants as Answer
-use Rattle.lines.specs.Items.{items}
+use Rattle.lines.specs.Tokens.{items}
 use Rattle.lines.specs.Faults.{twice}
 use Rattle.numbering.specs.Entries.{Room, Stored, Short, AllEntered, SomeEntered, EnteredSays, EnteredIs}
 use Rattle.numbering.proofs.Entering.{twice-split, twice-apart}

@@ -22,11 +22,15 @@ use Rattle.output.proofs.Emitting.{none, then, renamed}
 use Rattle.stores.proofs.Marks.{set-below, set-marks}
 use Rattle.lines.specs.declared.scan.Item.{Item}
 use Rattle.lines.specs.declared.scan.Item.the-variants.{At, Stop}
-use Rattle.lines.specs.Items.{items}
+use Rattle.lines.specs.declared.scan.Place.{Place}
+use Rattle.lines.specs.declared.scan.Place.the-variants as Place
+use Rattle.lines.specs.Tokens.{tokens, behind, items}
 use Rattle.lines.specs.Faults.{twice, nameNumber}
-use Rattle.lines.specs.Shapes.{itemOf}
-use Rattle.numbering.specs.Numbers.{Numbered}
-use Rattle.lines.proofs.Scanning.{items-end, item-fits, item, later, item-is}
+use Rattle.lines.specs.Shapes.{itemOf, ClosedIs}
+use Rattle.numbering.specs.declared.numbers.Numbers.the-variants as Answer
+use Rattle.numbering.specs.Numbers.{Numbered, NumbersAre}
+use Rattle.lines.proofs.NameLists.{split-is, list-closed, list-unclosed}
+use Rattle.lines.proofs.TokenPlaces.{items-end, item-fits, item-long, item, later, item-is, behind-is}
 
 same-sym : (x y : List ℕ) → sameBytes x y ≡ sameBytes y x
 same-sym x y = bool-ext (sameBytes x y) (sameBytes y x) (λ h. same-law y x .1 (sym (same-law x y .0 h))) (λ h. same-law x y .1 (sym (same-law y x .0 h)))
@@ -110,6 +114,7 @@ pub record Numbering (names : List (List ℕ)) (s : List ℕ) (from stamp : ℕ)
   pub few : length seen ≤ i
   pub known : Declared names seen
   pub all : seen ++ items (drop i s) ≡ items (drop from s)
+  pub same-behind : behind (tokens (drop i s)) ≡ behind (tokens (drop from s))
   pub is-twice : (flag || twice seen (items (drop i s))) ≡ twice [] (items (drop from s))
   pub marked : (a : ℕ) → eqb (getD marks a 0) stamp ≡ some (λ y. eqb a (nameNumber names y)) seen
   pub below : Below (stamp + 1) marks
@@ -125,6 +130,7 @@ numbering names s from stamp before at marks i r h b =
       few = zero-le;
       known = tt;
       all = refl;
+      same-behind = refl;
       is-twice = refl;
       marked = λ a. ne-eqb (getD marks a 0) stamp (λ e. omega (arith, b .mark a));
       below = record { mark = λ a. omega (arith, b .mark a) };
@@ -133,7 +139,7 @@ numbering names s from stamp before at marks i r h b =
     }
 
 module _ {names : List (List ℕ)} {s : List ℕ} {from stamp : ℕ} {before : List ℕ} {at i end : ℕ} {flag : Bool} {marks now : List ℕ} (h : Numbering names s from stamp before at i end flag marks now) {r : Item} (e : r ≡ itemOf (drop i s)) where
-  pub numbers-end : r ≡ Stop → Numbered names (items (drop from s)) stamp before at marks now end flag
+  numbers-end : r ≡ Stop → Numbered names (items (drop from s)) stamp before at marks now end flag
   unfolding twice
   numbers-end d =
       let out : items (drop i s) ≡ [] = items-end s i e d in
@@ -145,9 +151,20 @@ module _ {names : List (List ℕ)} {s : List ℕ} {from stamp : ℕ} {before : L
         below = h .below;
       }
 
-  module _ {n : ℕ} (d : r ≡ At n) where
-    pub number-inside : i + 1 + n ≤ length s
+  -- behind the last name
+  module _ (d : r ≡ Stop) {q : Place} (c : ClosedIs s i q) where
+    pub numbers-closed : {p : ℕ} → q ≡ Place.At p → NumbersAre names s from stamp before at marks now (Answer.List p end flag)
+    numbers-closed t = let k = list-closed s from i (h .same-behind) e d c t in record { says = record { cuts = k .0; inside = k .1; numbered = numbers-end d } }
+
+    pub numbers-unclosed : q ≡ Place.Absent → NumbersAre names s from stamp before at marks now Answer.Otherwise
+    numbers-unclosed t = record { says = λ xs rest j. absurd (list-unclosed s from i (h .same-behind) e d c t j) }
+
+  module _ {g n : ℕ} (d : r ≡ At g n) where
+    pub number-inside : i + g + n ≤ length s
     number-inside = item-fits s i e d
+
+    pub number-long : 1 ≤ n
+    number-long = item-long s i e d
 
     abbrev x : List ℕ
     x = item s i e d
@@ -159,18 +176,22 @@ module _ {names : List (List ℕ)} {s : List ℕ} {from stamp : ℕ} {before : L
     split = ap (λ l. h .seen ++ l) (sym (item-is s i e d)) ∙ h .all
 
     module _ {q : Found} (f : q ≡ found x names) where
-      pub not-declared : q ≡ Found.Missing → some (λ x. not (among names x)) (items (drop from s)) ≡ true
-      not-declared g = sym (ap (some (λ x. not (among names x))) split) ∙ one-undeclared names (h .seen) x xs (unnamed x names f g)
+      missing : q ≡ Found.Missing → some (λ x. not (among names x)) (items (drop from s)) ≡ true
+      missing t = sym (ap (some (λ x. not (among names x))) split) ∙ one-undeclared names (h .seen) x xs (unnamed x names f t)
 
-      module _ {j : ℕ} (g : q ≡ Found.At j) where
+      pub not-declared : q ≡ Found.Missing → NumbersAre names s from stamp before at marks now Answer.Otherwise
+      unfolding items
+      not-declared t = record { says = λ ys rest j. ap (some (λ x. not (among names x))) (split-is (tokens (drop from s)) j) ∙ missing t }
+
+      module _ {j : ℕ} (u : q ≡ Found.At j) where
         pub known-name : Named names x j
-        known-name = named x names f g
+        known-name = named x names f u
 
         pub atom-marked : j < length marks
         atom-marked = omega (arith, known-name .below, h .room)
 
         pub word-range : (w : ℕ) → InRange end (w ∷ [])
-        word-range w = record { below = omega (arith, h .range, h .written .place, length-map (h .seen) (nameNumber names), h .few, number-inside) }
+        word-range w = record { below = omega (arith, h .range, h .written .place, length-map (h .seen) (nameNumber names), h .few, number-inside, item-long s i e d) }
 
         module _ {had : Bool} {marks′ : List ℕ} (m : had ≡ eqb (getD marks j 0) stamp) (t : marks′ ≡ set marks j stamp) {now′ : List ℕ} {end′ : ℕ} (w : Emitted now end (j ∷ []) now′ end′) where
           before? : some (sameBytes x) (h .seen) ≡ had
@@ -180,16 +201,17 @@ module _ {names : List (List ℕ)} {s : List ℕ} {from stamp : ℕ} {before : L
               ∙ sym (h .marked j)
               ∙ sym m
 
-          step : {flag′ : Bool} → flag′ ≡ (flag || had) → Numbering names s from stamp before at (i + 1 + n) end′ flag′ marks′ now′
+          step : {flag′ : Bool} → flag′ ≡ (flag || had) → Numbering names s from stamp before at (i + g + n) end′ flag′ marks′ now′
           unfolding twice
           step {flag′} k =
               record {
                 seen = h .seen ++ (x ∷ []);
                 inside = number-inside;
                 range = h .range;
-                few = omega (arith, length-append (h .seen) (x ∷ []), h .few);
+                few = omega (arith, length-append (h .seen) (x ∷ []), h .few, item-long s i e d);
                 known = all-app (λ y. among names y ≡ true) (h .seen) (x ∷ []) (h .known) (known-name .declared, tt);
                 all = append-assoc (h .seen) (x ∷ []) xs ∙ split;
+                same-behind = sym (behind-is s i e d) ∙ h .same-behind;
                 is-twice =
                     ap (λ b. b || twice (h .seen ++ (x ∷ [])) xs) (k ∙ ap (λ b. flag || b) (sym before?))
                     ∙ sym (or-assoc flag (some (sameBytes x) (h .seen)) (twice (h .seen ++ (x ∷ [])) xs))
@@ -203,8 +225,8 @@ module _ {names : List (List ℕ)} {s : List ℕ} {from stamp : ℕ} {before : L
                 written = renamed (then (h .written) w) (ap (λ k. map (nameNumber names) (h .seen) ++ (k ∷ [])) (sym (known-name .number)) ∙ sym (map-last (nameNumber names) (h .seen) x));
               }
 
-          pub number-again : had ≡ true → {flag′ : Bool} → flag′ ≡ true → Numbering names s from stamp before at (i + 1 + n) end′ flag′ marks′ now′
+          pub number-again : had ≡ true → {flag′ : Bool} → flag′ ≡ true → Numbering names s from stamp before at (i + g + n) end′ flag′ marks′ now′
           number-again o p = step (p ∙ sym (ap (λ b. flag || b) o ∙ or-true flag))
 
-          pub number-new : had ≡ false → {flag′ : Bool} → flag′ ≡ flag → Numbering names s from stamp before at (i + 1 + n) end′ flag′ marks′ now′
+          pub number-new : had ≡ false → {flag′ : Bool} → flag′ ≡ flag → Numbering names s from stamp before at (i + g + n) end′ flag′ marks′ now′
           number-new o p = step (p ∙ sym (ap (λ b. flag || b) o ∙ or-false flag))

@@ -12,7 +12,7 @@ use Rattle.name_store.specs.NameStore.{encodeNames, among}
 use Rattle.name_store.specs.NameIndex.{Indexed}
 use Rattle.numbering.specs.declared.entries.Entered.{Entered}
 use Rattle.numbering.specs.declared.entries.Entered.the-variants as Answer
-use Rattle.lines.specs.Items.{items}
+use Rattle.lines.specs.Tokens.{items}
 use Rattle.lines.specs.Faults.{twice}
 
 -- there is room for one name more

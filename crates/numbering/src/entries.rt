@@ -14,7 +14,7 @@ ghost use Rattle.name_store.specs.NameStore.{nameBytes, decodeNames, among};
 ghost use Rattle.name_store.specs.NameIndex.{Indexed, buckets};
 ghost use Rattle.output.specs.Emitted.{Emitted, InRange};
 ghost use Rattle.rules.specs.Lists.{some};
-ghost use Rattle.lines.specs.Items.{items};
+ghost use Rattle.lines.specs.Tokens.{items};
 ghost use Rattle.lines.specs.Faults.{twice};
 ghost use Rattle.numbering.specs.Entries.{EntryRoom, EntryIs, Room, Stored, Short, EnteredIs};
 
@@ -71,7 +71,7 @@ pub fn enter_names(
     let mut atom = count;
     let mut at = used;
     loop {
-        let Item::At(n) = scan::item_at(line, i) else {
+        let Item::At { gap, size } = scan::item_at(line, i) else {
             return Entered::All {
                 atoms: atom,
                 bytes: at,
@@ -80,12 +80,12 @@ pub fn enter_names(
         if Plain::ATOMS <= atom {
             return Entered::Full { at: i };
         }
-        let start = i + 1;
-        let to = start + n;
+        let start = i + gap;
+        let to = start + size;
         if enter_name(&line[start..to], bytes, starts, firsts, links, atom, at) {
             i = to;
             atom += 1;
-            at += 1 + n;
+            at += 1 + size;
         } else {
             return Entered::Twice;
         }
@@ -107,11 +107,11 @@ pub fn any_known(
 {
     let mut i = from;
     loop {
-        let Item::At(n) = scan::item_at(line, i) else {
+        let Item::At { gap, size } = scan::item_at(line, i) else {
             return false;
         };
-        let start = i + 1;
-        let to = start + n;
+        let start = i + gap;
+        let to = start + size;
         let Found::Missing = index::find(bytes, starts, firsts, links, &line[start..to]) else {
             return true;
         };

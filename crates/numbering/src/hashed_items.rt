@@ -2,32 +2,44 @@
 use lines::scan;
 use name_store::index;
 ghost use mathlib.Core.Path.{_≡_};
-ghost use Prim.Native.Nat.{_+_, _≤_, _<_};
+ghost use Prim.Native.Nat.{_≤_};
 ghost use lib.ListN.{length, drop};
 ghost use Rattle.numbering.specs.HashedItems.{hashedRun, hashedItem};
 
-// A space and the name after it, by its length and its hash, or anything else.
+// A name behind so many spaces, by its length and its hash, or anything else.
 pub enum HashedItem {
-    At { size: usize, hash: usize },
+    At {
+        gap: usize,
+        size: usize,
+        hash: usize,
+    },
     Stop,
 }
 
 // The name at `at`, in one walk for its end and its hash.
-pub fn hashed_run_at(s: &[u8], at: usize) -> HashedItem
+fn hashed_run_at(s: &[u8], at: usize, gap: usize) -> HashedItem
     requires { ⌜ at ≤ length (now s) ⌝ }
-    ensures { λ r. ⌜ r ≡ hashedRun (drop at (now (s .entry))) ⌝ }
+    ensures { λ r. ⌜ r ≡ hashedRun gap (drop at (now (s .entry))) ⌝ }
 {
     let mut i = at;
     let mut hash: usize = 0;
     while i < s.len() {
         let b = s[i];
         if scan::is_delimiter(b) {
-            return HashedItem::At { size: i - at, hash };
+            return HashedItem::At {
+                gap,
+                size: i - at,
+                hash,
+            };
         }
         hash = index::hash_step(hash, b);
         i += 1;
     }
-    HashedItem::At { size: i - at, hash }
+    HashedItem::At {
+        gap,
+        size: i - at,
+        hash,
+    }
 }
 
 // The item at `at`, with its hash.
@@ -35,12 +47,13 @@ pub fn hashed_item_at(s: &[u8], at: usize) -> HashedItem
     requires { ⌜ at ≤ length (now s) ⌝ }
     ensures { λ r. ⌜ r ≡ hashedItem (drop at (now (s .entry))) ⌝ }
 {
-    if s.len() <= at {
+    let gap = scan::gap_at(s, at);
+    let start = at + gap;
+    if s.len() <= start {
         return HashedItem::Stop;
     }
-    if s[at] == b' ' {
-        hashed_run_at(s, at + 1)
-    } else {
-        HashedItem::Stop
+    if scan::is_delimiter(s[start]) {
+        return HashedItem::Stop;
     }
+    hashed_run_at(s, start, gap)
 }

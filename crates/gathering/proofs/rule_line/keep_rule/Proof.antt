@@ -28,7 +28,7 @@ returns-2 : tie.Need-returns-2
 returns-2 c = filled-not _ _ _ _ _ _ _ (c .before .before .before .within .ensures) (c .before .before .if1 .left) (c .before .is-filled .ensures) (c .if2 .taken)
 
 put-counts-requires : tie.Need-put-counts-requires
-put-counts-requires c κs = counts-small (c .before .before .before .before .before .before .before .before .before .args .kind) (c .before .before .before .before .before .before .before .before .before .args .gathered) (c .before .before .before .before .before .before .before .before .before .args .shape .heads) (c .before .before .before .before .before .before .before .before .before .args .shape .bodies) (c .before .before .before .before .before .before .before .before .before .args .shape .nots) (c .before .before .before .before .before .before .before .before .before .args .end) (c .before .before .before .before .before .before .before .before .before .args .words .now) (c .before .before .before .before .within .ensures) (c .before .before .before .if1 .left) (c .before .before .before .before .before .before .before .before .before .pre .3)
+put-counts-requires c κs = counts-small (c .before .before .before .before .before .before .before .before .before .args .kind) (c .before .before .before .before .before .before .before .before .before .args .gathered) (c .before .before .before .before .before .before .before .before .before .args .rule .heads) (c .before .before .before .before .before .before .before .before .before .args .rule .bodies) (c .before .before .before .before .before .before .before .before .before .args .rule .nots) (c .before .before .before .before .before .before .before .before .before .args .rule .end) (c .before .before .before .before .before .before .before .before .before .args .words .now) (c .before .before .before .before .within .ensures) (c .before .before .before .if1 .left) (c .before .before .before .before .before .before .before .before .before .pre .3)
 
 same-length : tie.Need-same-length
 same-length c = search needs

@@ -77,7 +77,7 @@ loop-less : tie.Need-loop-less Inv-loop μ-loop
 loop-less c = omega (arith, name-inside (c .before .before .before .before .before .before .before .loop .inv) (c .before .before .before .before .before .before .item-at .ensures) (c .before .before .before .before .gap .given .1), name-long (c .before .before .before .before .before .before .before .loop .inv) (c .before .before .before .before .before .before .item-at .ensures) (c .before .before .before .before .gap .given .1))
 
 loop-again : tie.Need-loop-again Inv-loop μ-loop
-loop-again c = 
+loop-again c =
     ⊎-elim
     (λ w. name-taken (c .before .before .before .before .before .before .before .loop .inv) (c .before .before .before .before .before .before .item-at .ensures) (c .before .before .before .before .gap .given .1) (c .before .name-fit .ensures) (w .1 .given .1) (w .2))
     (λ w. name-refused (c .before .before .before .before .before .before .before .loop .inv) (c .before .before .before .before .before .before .item-at .ensures) (c .before .before .before .before .gap .given .1) (c .before .name-fit .ensures) (w .1 .given .1) (w .2))

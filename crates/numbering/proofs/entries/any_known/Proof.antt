@@ -1,7 +1,7 @@
 use Prim.Native.Nat.{_-_}
 use lib.ListN.{length}
 use Rattle.name_store.specs.NameStore.{decodeNames}
-use Rattle.numbering.proofs.Entering.{Looking, looking, none-known, look-inside, one-known, look-again}
+use Rattle.numbering.proofs.Entering.{Looking, looking, none-known, look-inside, look-long, one-known, look-again}
 use borrow.Author.Needs.{needs}
 use native.Mathlib.Omega.{arith}
 use Rattle.numbering.proofs.entries.any_known.Statement.{statement}
@@ -19,8 +19,8 @@ loop-holds c = looking _ _ _ (c .before .before .before .before .before .pre .0)
 item-at-requires : tie.Need-item-at-requires Inv-loop μ-loop
 item-at-requires c κs = search needs
 
-enum-known-n : tie.Need-enum-known-n Inv-loop μ-loop
-enum-known-n c = search needs
+enum-known-gap : tie.Need-enum-known-gap Inv-loop μ-loop
+enum-known-gap c = search needs
 
 enum-told : tie.Need-enum-told Inv-loop μ-loop
 enum-told c = search needs
@@ -29,10 +29,10 @@ returns : tie.Need-returns Inv-loop μ-loop
 returns c = none-known (c .before .before .before .loop .inv) (c .before .before .item-at .ensures) (c .enum-told .given .1)
 
 add-start : tie.Need-add-start Inv-loop μ-loop
-add-start c = omega (arith, look-inside (c .before .before .before .before .loop .inv) (c .before .before .before .item-at .ensures) (c .before .n .given .1))
+add-start c = omega (arith, look-inside (c .before .before .before .before .loop .inv) (c .before .before .before .item-at .ensures) (c .before .gap .given .1))
 
 add-to : tie.Need-add-to Inv-loop μ-loop
-add-to c = omega (arith, look-inside (c .before .before .before .before .loop .inv) (c .before .before .before .item-at .ensures) (c .before .n .given .1))
+add-to c = omega (arith, look-inside (c .before .before .before .before .loop .inv) (c .before .before .before .item-at .ensures) (c .before .gap .given .1))
 
 sub-find : tie.Need-sub-find Inv-loop μ-loop
 sub-find c = search needs
@@ -41,7 +41,7 @@ part-find-start : tie.Need-part-find-start Inv-loop μ-loop
 part-find-start c = search needs
 
 part-find-end : tie.Need-part-find-end Inv-loop μ-loop
-part-find-end c = omega (arith, look-inside (c .before .before .before .before .loop .inv) (c .before .before .before .item-at .ensures) (c .before .n .given .1))
+part-find-end c = omega (arith, look-inside (c .before .before .before .before .loop .inv) (c .before .before .before .item-at .ensures) (c .before .gap .given .1))
 
 find-requires : tie.Need-find-requires Inv-loop μ-loop
 find-requires c κs = c .before .before .before .before .before .before .before .before .before .before .before .pre .1
@@ -53,13 +53,13 @@ enum-told-3 : tie.Need-enum-told-3 Inv-loop μ-loop
 enum-told-3 c = search needs
 
 returns-2 : tie.Need-returns-2 Inv-loop μ-loop
-returns-2 c = one-known (c .before .before .before .before .before .before .before .before .loop .inv) (c .before .before .before .before .before .before .before .item-at .ensures) (c .before .before .before .before .before .n .given .1) (c .before .before .find .ensures) (c .enum-told3 .given .1)
+returns-2 c = one-known (c .before .before .before .before .before .before .before .before .loop .inv) (c .before .before .before .before .before .before .before .item-at .ensures) (c .before .before .before .before .before .gap .given .1) (c .before .before .find .ensures) (c .enum-told3 .given .1)
 
 loop-less : tie.Need-loop-less Inv-loop μ-loop
-loop-less c = omega (arith, look-inside (c .before .before .before .before .before .before .before .before .loop .inv) (c .before .before .before .before .before .before .before .item-at .ensures) (c .before .before .before .before .before .n .given .1))
+loop-less c = omega (arith, look-inside (c .before .before .before .before .before .before .before .before .loop .inv) (c .before .before .before .before .before .before .before .item-at .ensures) (c .before .before .before .before .before .gap .given .1), look-long (c .before .before .before .before .before .before .before .before .loop .inv) (c .before .before .before .before .before .before .before .item-at .ensures) (c .before .before .before .before .before .gap .given .1))
 
 loop-again : tie.Need-loop-again Inv-loop μ-loop
-loop-again c = look-again (c .before .before .before .before .before .before .before .before .loop .inv) (c .before .before .before .before .before .before .before .item-at .ensures) (c .before .before .before .before .before .n .given .1) (c .before .before .find .ensures) (c .enum-told2 .given .1)
+loop-again c = look-again (c .before .before .before .before .before .before .before .before .loop .inv) (c .before .before .before .before .before .before .before .item-at .ensures) (c .before .before .before .before .before .gap .given .1) (c .before .before .find .ensures) (c .enum-told2 .given .1)
 
 pub any-known-spec : {M : Type 1} → statement M
 any-known-spec =
@@ -69,7 +69,7 @@ any-known-spec =
     μ-loop
     loop-holds
     item-at-requires
-    enum-known-n
+    enum-known-gap
     enum-told
     returns
     add-start
