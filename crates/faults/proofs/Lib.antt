@@ -1,7 +1,9 @@
 -- The laws of the faults.
-pub mod TextLines
 pub mod NameClasses
+pub mod Entries
+pub mod LineTokens
 pub mod LineForms
+pub mod TextLines
 pub mod Tests
 pub mod LimitTests
 pub mod LowestFault

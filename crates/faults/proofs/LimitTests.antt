@@ -15,7 +15,7 @@ use Rattle.rules.specs.Lists.{sum}
 use Rattle.rules.specs.Rules.{Rule, occurrences}
 use Rattle.rules.proofs.Lists.{sum-app}
 use Rattle.rules.proofs.Connectives.{not-law, not-and}
-use Rattle.lines.specs.Forms.{Word, atoms, min, vary, fix, LineForm, declares, rules}
+use Rattle.lines.specs.Forms.{Word, atoms, min, vary, fix, LineForm, declares, rules, blank}
 use Rattle.lines.specs.Faults.{SoFar, countsOf, classesAfter, nameNumber, declared, numbered, with-rule}
 use Rattle.faults.specs.Sentences.{atomsWith, rulesWith, occurrencesWith, classesWith, PassesLimit, atoms-pass, rules-pass, occurrences-pass, classes-pass}
 
@@ -72,6 +72,13 @@ module _ (st : SoFar) where
       let limit = limit-law st (declares w xs) in
       (λ t. limit .0 (law .0 t), λ h. law .1 (limit .1 h))
 
+  -- with the line added
+  pub declared-within : (w : Word) (xs : List (List ℕ)) → (PassesLimit st (declares w xs) → ⊥) → PassesLimit (declared st w xs) blank → ⊥
+  declared-within w xs n (atoms-pass h) = n (atoms-pass (omega (arith, length-append (st .names) xs)))
+  declared-within w xs n (rules-pass h) = n (rules-pass (omega arith))
+  declared-within w xs n (occurrences-pass h) = n (occurrences-pass (omega arith))
+  declared-within w xs n (classes-pass h) = n (classes-pass (omega (arith, classes-counted w xs)))
+
   module _ (hs bs ns : List (List ℕ)) where
     abbrev line-rule : Rule ℕ
     line-rule = numbered (st .names) hs bs ns
@@ -85,7 +92,7 @@ module _ (st : SoFar) where
         places : sum occurrences (st .program-rules ++ (line-rule ∷ [])) ≡ occurrencesWith st (rules hs bs ns)
         places = omega (arith, sum-app occurrences (st .program-rules) (line-rule ∷ []), length-map hs (nameNumber (st .names)), length-map bs (nameNumber (st .names)), length-map ns (nameNumber (st .names)))
 
-    pub rule-limit : st .classes ≤ classLimit → T (not (within (st .kind) (countsOf (with-rule st line-rule)))) ↔ PassesLimit st (rules hs bs ns)
+    pub rule-limit : (PassesLimit st blank → ⊥) → T (not (within (st .kind) (countsOf (with-rule st line-rule)))) ↔ PassesLimit st (rules hs bs ns)
     rule-limit fits =
         let law = subst (λ c. T (not (within (st .kind) c)) ↔ CountPasses (st .kind) (countsWith st (rules hs bs ns))) (sym rule-counts) (within-law (st .kind) (countsWith st (rules hs bs ns))) in
         let limit = limit-law st (rules hs bs ns) in
@@ -93,4 +100,10 @@ module _ (st : SoFar) where
       where
         no-class : CountPasses (st .kind) (countsWith st (rules hs bs ns)) ⊎ (classLimit < st .classes) → CountPasses (st .kind) (countsWith st (rules hs bs ns))
         no-class (inl h) = h
-        no-class (inr h) = absurd (omega arith)
+        no-class (inr h) = absurd (fits (classes-pass h))
+
+    pub rule-within : (PassesLimit st (rules hs bs ns) → ⊥) → PassesLimit (with-rule st line-rule) blank → ⊥
+    rule-within n (atoms-pass h) = n (atoms-pass (omega arith))
+    rule-within n (rules-pass h) = n (rules-pass (omega (arith, ap (λ c. c .rules) rule-counts)))
+    rule-within n (occurrences-pass h) = n (occurrences-pass (omega (arith, ap (λ c. c .occurrences) rule-counts)))
+    rule-within n (classes-pass h) = n (classes-pass (omega arith))

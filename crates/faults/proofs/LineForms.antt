@@ -1,85 +1,71 @@
--- The form of a line: it is what document 01's words say.
-use Prim.Native.Nat.{ℕ, zero, suc, _≤_}
+-- The form of a line: it is what the documents' words say.
+use Prim.Native.Nat.{ℕ, suc, _≤_}
 use native.Mathlib.Omega.{arith}
 use mathlib.Core.Path.{_≡_, refl, sym, ap, ap₂, _∙_, subst}
 use mathlib.Core.Logic.{_⊎_, inl, inr, _↔_, _≢_}
-use mathlib.Core.Bool.{Bool, true, false, cond, not, _||_}
-use mathlib.Core.List.{List, [], _∷_, _++_, append-assoc}
-use lib.Dec.{T, eqb, eqb→eq}
-use lib.ListN.{length, take, drop, length-append, take-append-drop}
-use lib.Seq.{drop-nil, take-append-seam, drop-append-seam}
-use Rattle.kinds.specs.Words.{space, open-bracket, close-bracket, line-end, bodyWord, notWord}
-use Rattle.rules.specs.Lists.{All, every}
-use Rattle.rules.proofs.Booleans.{T-not-in, is-true}
-use Rattle.rules.proofs.Connectives.{or-law, on-cond}
+use mathlib.Core.Bool.{true, cond}
+use mathlib.Core.List.{List, [], _∷_, _++_, map}
+use lib.Dec.{T, eqb→eq}
+use lib.ListN.{length, getD, drop}
+use Rattle.kinds.specs.Words.{line-end, ruleWord, headWord, bodyWord, notWord}
+use Rattle.rules.specs.Lists.{All}
+use Rattle.rules.proofs.Booleans.{eq→eqb, is-true}
+use Rattle.rules.proofs.Connectives.{on-cond}
 use Rattle.rules.proofs.Lists.{all-app, all-imp, every-all}
 use Rattle.names.specs.declared.forms.NameClass.{NameClass}
 use Rattle.names.specs.declared.forms.NameClass.the-variants.{House, Generated, TooLong, Wrong}
 use Rattle.names.specs.Names.{nameClass}
 use Rattle.name_store.specs.NameStore.{sameBytes}
 use Rattle.name_store.proofs.NameStores.{same-equal, same-self}
-use Rattle.lines.specs.Items.{delimiter?, run, itemsFrom, items, span}
-use Rattle.lines.specs.Forms.{Word, atoms, min, vary, fix, LineForm, declares, rules, broken, isName, begins, Split, split, none, splitNames, splitList, onSplit, tagOf, headTag, bodyTag, notTag, listEnd, ruleEnd, closed, declaredForm, ruleForm, formOf}
+use Rattle.lines.specs.Lines.{ended?}
+use Rattle.lines.specs.Tokens.{Token, opening, closing, word, tokens, leading, behind}
+use Rattle.lines.specs.Forms.{Word, wordBytes, atoms, min, vary, fix, LineForm, declares, rules, blank, broken, Opened, opened, unopened, openedBy, openedOf, Split, split, none, closedBy, splitNames, onOpened, splitList, onSplit, lastly, closedLastly, declaredForm, ruleForm, openedForm, tokenForm, typedForm, isName, names?, named, formOf}
 use Rattle.faults.specs.NameForms.{Letter, Digit, NameByte, HouseBytes, Marked, ClassNumber}
-use Rattle.faults.specs.LineForms.{IsName, spaced, DeclaringLine, RuleLine, HasForm}
+use Rattle.faults.specs.LineForms.{WordByte, IsWord, IsName, Ended, listThen, declaringTokens, ruleTokens, DeclaringLine, RuleLine, BlankLine, HasForm}
 use Rattle.faults.specs.Sentences.{namesOf}
-use Rattle.faults.proofs.NameClasses.{eq-law, house-iff, long-iff, generated-iff}
+use Rattle.faults.proofs.NameClasses.{house-iff, long-iff, generated-iff}
+use Rattle.faults.proofs.LineTokens.{tokens-iff}
 
--- a name has no byte that ends a name
+-- a name is a word
 
-abbrev pub High : List ℕ → Type 0
-High x = All (λ b. 46 ≤ b) x
+name-byte : (b : ℕ) → 46 ≤ b → b ≢ 59 → WordByte b
+name-byte b l n = (λ e. omega arith, λ e. omega arith, λ e. omega arith, n, λ e. omega arith)
 
-byte-high : (b : ℕ) → NameByte b → 46 ≤ b
-byte-high b (inl h) = let l = h .0 in omega arith
-byte-high b (inr (inl h)) = let l = h .0 in omega arith
-byte-high b (inr (inr e)) = omega arith
+one-byte : (b : ℕ) → NameByte b → WordByte b
+one-byte b (inl h) = let l = h .0 in name-byte b (omega arith) (λ e. omega arith)
+one-byte b (inr (inl h)) = let l = h .0 in let k = h .1 in name-byte b (omega arith) (λ e. omega arith)
+one-byte b (inr (inr e)) = name-byte b (omega arith) (λ q. omega arith)
 
-first-high : (b : ℕ) → Letter b ⊎ Digit b → 46 ≤ b
-first-high b (inl h) = byte-high b (inl h)
-first-high b (inr h) = byte-high b (inr (inl h))
+first-byte : (b : ℕ) → Letter b ⊎ Digit b → WordByte b
+first-byte b (inl h) = one-byte b (inl h)
+first-byte b (inr h) = one-byte b (inr (inl h))
 
-house-high : (x : List ℕ) → HouseBytes x → High x
-house-high [] h = absurd h
-house-high (b ∷ x) h = (first-high b (h .0), all-imp NameByte (λ c. 46 ≤ c) byte-high x (h .1))
+some-bytes : (b : ℕ) (x : List ℕ) → b ∷ x ≢ []
+some-bytes b x e = absurd (let z : suc (length x) ≡ 0 = ap length e in omega arith)
 
-marked-high : (x y : List ℕ) → Marked x y → HouseBytes y → High x
-marked-high x y m h = go m
-  where
-    go : Marked x y → High x
-    go (inl e) = subst High (sym e) (omega arith, (omega arith, house-high y h))
-    go (inr (inl e)) = subst High (sym e) (omega arith, (omega arith, house-high y h))
-    go (inr (inr e)) = subst High (sym e) (omega arith, (omega arith, house-high y h))
+house-word : (x : List ℕ) → HouseBytes x → IsWord x
+house-word [] h = absurd h
+house-word (b ∷ x) h = (some-bytes b x, (first-byte b (h .0), all-imp NameByte WordByte one-byte x (h .1)))
 
-number-high : (y : List ℕ) → ClassNumber y → High y
-number-high y (inl (d, l, e)) = subst High (sym e) (omega arith, tt)
-number-high y (inr (d, l, e)) = subst High (sym e) (omega arith, (omega arith, tt))
+marked-word : (a : ℕ) (y : List ℕ) → 60 ≤ a → All WordByte y → IsWord (a ∷ 46 ∷ y)
+marked-word a y l h = (some-bytes a (46 ∷ y), (name-byte a (omega arith) (λ e. omega arith), (name-byte 46 (omega arith) (λ e. omega arith), h)))
 
-pub name-high : (x : List ℕ) → IsName x → High x
-name-high x (inl h) = house-high x (h .0)
-name-high x (inr (inl (inl (y, m, h)))) = marked-high x y m (h .0)
-name-high x (inr (inl (inr (inl (y, e, h))))) = subst High (sym e) (omega arith, (omega arith, number-high y h))
-name-high x (inr (inl (inr (inr e)))) = subst High (sym e) (omega arith, tt)
-name-high x (inr (inr (inl h))) = house-high x (h .0)
-name-high x (inr (inr (inr (y, m, h)))) = marked-high x y m (h .0)
+marked-house : (x y : List ℕ) → Marked x y → HouseBytes y → IsWord x
+marked-house x y (inl e) h = subst IsWord (sym e) (marked-word 78 y (omega arith) (house-word y h .1))
+marked-house x y (inr (inl e)) h = subst IsWord (sym e) (marked-word 83 y (omega arith) (house-word y h .1))
+marked-house x y (inr (inr e)) h = subst IsWord (sym e) (marked-word 68 y (omega arith) (house-word y h .1))
 
-abbrev NoDelimiter : List ℕ → Type 0
-NoDelimiter x = All (λ b. T (not (delimiter? b))) x
+number-bytes : (y : List ℕ) → ClassNumber y → All WordByte y
+number-bytes y (inl (d, l, e)) = subst (All WordByte) (sym e) (name-byte _ (omega arith) (λ q. omega arith), tt)
+number-bytes y (inr (d, l, e)) = subst (All WordByte) (sym e) (name-byte 49 (omega arith) (λ q. omega arith), (name-byte _ (omega arith) (λ q. omega arith), tt))
 
-high-byte : (b : ℕ) → 46 ≤ b → T (not (delimiter? b))
-high-byte b l = T-not-in (delimiter? b) (λ t. low (law .0 t))
-  where
-    law : T (delimiter? b) ↔ ((b ≡ 32) ⊎ ((b ≡ 40) ⊎ ((b ≡ 41) ⊎ (b ≡ 10))))
-    law = or-law (eqb b 32) (eqb b 40 || (eqb b 41 || eqb b 10)) (eq-law b 32) (or-law (eqb b 40) (eqb b 41 || eqb b 10) (eq-law b 40) (or-law (eqb b 41) (eqb b 10) (eq-law b 41) (eq-law b 10)))
-
-    low : (b ≡ 32) ⊎ ((b ≡ 40) ⊎ ((b ≡ 41) ⊎ (b ≡ 10))) → ⊥
-    low (inl e) = omega arith
-    low (inr (inl e)) = omega arith
-    low (inr (inr (inl e))) = omega arith
-    low (inr (inr (inr e))) = omega arith
-
-name-bytes : (x : List ℕ) → IsName x → NoDelimiter x
-name-bytes x h = all-imp (λ b. 46 ≤ b) (λ b. T (not (delimiter? b))) high-byte x (name-high x h)
+pub name-word : (x : List ℕ) → IsName x → IsWord x
+name-word x (inl h) = house-word x (h .0)
+name-word x (inr (inl (inl (y, m, h)))) = marked-house x y m (h .0)
+name-word x (inr (inl (inr (inl (y, e, h))))) = subst IsWord (sym e) (marked-word 69 y (omega arith) (number-bytes y h))
+name-word x (inr (inl (inr (inr e)))) = subst IsWord (sym e) (some-bytes 85 [], (name-byte 85 (omega arith) (λ q. omega arith), tt))
+name-word x (inr (inr (inl h))) = house-word x (h .0)
+name-word x (inr (inr (inr (y, m, h)))) = marked-house x y m (h .0)
 
 pub name-law : (x : List ℕ) → T (isName (nameClass x)) ↔ IsName x
 name-law x = (λ t. there (nameClass x) refl t, back)
@@ -98,210 +84,261 @@ name-law x = (λ t. there (nameClass x) refl t, back)
 pub not-wrong : (x : List ℕ) → IsName x → nameClass x ≢ Wrong
 not-wrong x h e = subst (λ c. T (isName c)) e (name-law x .1 h)
 
-every-name : (xs : List (List ℕ)) → T (every (λ x. isName (nameClass x)) xs) ↔ All IsName xs
+every-name : (xs : List (List ℕ)) → T (names? xs) ↔ All IsName xs
 every-name xs = every-all (λ x. isName (nameClass x)) IsName name-law xs
 
--- the items at the front of a line
+-- a line's end
 
-items-from : (k : ℕ) (s : List ℕ) → itemsFrom k s ≡ itemsFrom 0 (drop k s)
-unfolding itemsFrom
-items-from zero s = refl
-items-from (suc k) [] = refl
-items-from (suc k) (b ∷ s) = items-from k s
-
-run-name : (x t : List ℕ) → NoDelimiter x → run t ≡ 0 → run (x ++ t) ≡ length x
-unfolding run
-run-name [] t h e = e
-run-name (b ∷ x) t h e = go (delimiter? b) (h .0) (run-name x t (h .1) e)
+ended-law : (l : List ℕ) → T (ended? l) ↔ Ended l
+ended-law [] = (λ t. absurd t, λ h. never (h .0) (h .1))
   where
-    go : (d : Bool) → T (not d) → run (x ++ t) ≡ length x → cond d 0 (suc (run (x ++ t))) ≡ suc (length x)
-    go true n k = absurd n
-    go false n k = ap suc k
-
-stops : (xs : List (List ℕ)) (r : List ℕ) → run (spaced xs ++ (close-bracket ∷ r)) ≡ 0
-unfolding run
-stops [] r = refl
-stops (x ∷ xs) r = refl
-
-items-of : (xs : List (List ℕ)) (r : List ℕ) → All IsName xs → items (spaced xs ++ (close-bracket ∷ r)) ≡ xs
-unfolding items itemsFrom
-items-of [] r h = refl
-items-of (x ∷ xs) r h =
-    let t = spaced xs ++ (close-bracket ∷ r) in
-    let s = x ++ spaced xs ++ (close-bracket ∷ r) in
-    let is : s ≡ x ++ t = append-assoc x (spaced xs) (close-bracket ∷ r) in
-    let n : run s ≡ length x = ap run is ∙ run-name x t (name-bytes x (h .0)) (stops xs r) in
-    ap₂ _∷_ (ap₂ take n is ∙ take-append-seam x t)
-    (ap₂ itemsFrom n is ∙ items-from (length x) (x ++ t) ∙ ap (itemsFrom 0) (drop-append-seam x t) ∙ items-of xs r (h .1))
-
-items-front : (k : ℕ) (s : List ℕ) → (rest : List ℕ) × (drop k s ≡ spaced (itemsFrom k s) ++ rest)
-unfolding itemsFrom
-items-front k [] = ([], drop-nil k)
-items-front zero (b ∷ s) = go (eqb b space) (eqb→eq b space) (items-front (run s) s)
+    never : (s : List ℕ) → [] ≡ s ++ (line-end ∷ []) → ⊥
+    never [] e = some-bytes line-end [] (sym e)
+    never (b ∷ s) e = some-bytes b (s ++ (line-end ∷ [])) (sym e)
+ended-law (b ∷ []) = (λ t. ([], ap (λ c. c ∷ []) (eqb→eq b line-end t)), λ h. eq→eqb b line-end (one (h .0) (h .1)))
   where
-    go : (c : Bool)
-        → (T c → b ≡ space)
-        → (rest : List ℕ) × (drop (run s) s ≡ spaced (itemsFrom (run s) s) ++ rest)
-        → (rest : List ℕ) × (b ∷ s ≡ spaced (cond c (take (run s) s ∷ itemsFrom (run s) s) []) ++ rest)
-    go true e r =
-        let x = take (run s) s in
-        (r .0, ap₂ _∷_ (e tt) (sym (take-append-drop (run s) s) ∙ ap (λ t. x ++ t) (r .1) ∙ sym (append-assoc x (spaced (itemsFrom (run s) s)) (r .0))))
-    go false e r = (b ∷ s, refl)
-items-front (suc k) (b ∷ s) = items-front k s
+    one : (s : List ℕ) → b ∷ [] ≡ s ++ (line-end ∷ []) → b ≡ line-end
+    one [] e = ap (λ l. getD l 0 0) e
+    one (c ∷ []) e = absurd (some-bytes line-end [] (sym (ap (drop 1) e)))
+    one (c ∷ d ∷ s) e = absurd (some-bytes d (s ++ (line-end ∷ [])) (sym (ap (drop 1) e)))
+ended-law (b ∷ c ∷ l) = let r = ended-law (c ∷ l) in (λ t. let h = r .0 t in (b ∷ h .0, ap (λ m. b ∷ m) (h .1)), λ h. r .1 (later (h .0) (h .1)))
+  where
+    later : (s : List ℕ) → b ∷ c ∷ l ≡ s ++ (line-end ∷ []) → Ended (c ∷ l)
+    later [] e = absurd (some-bytes c l (ap (drop 1) e))
+    later (d ∷ s) e = (s, ap (drop 1) e)
 
-span-length : (xs : List (List ℕ)) → span xs ≡ length (spaced xs)
-unfolding span
-span-length [] = refl
-span-length (x ∷ xs) = omega (arith, span-length xs, length-append x (spaced xs))
+-- a bracket with its word, and the names behind it
 
-after-items : (xs : List (List ℕ)) (rest : List ℕ) → drop (span xs) (spaced xs ++ rest) ≡ rest
-after-items xs rest = ap (λ k. drop k (spaced xs ++ rest)) (span-length xs) ∙ drop-append-seam (spaced xs) rest
+leads : (ts : List Token) → ts ≡ map word (leading ts) ++ behind ts
+leads [] = refl
+leads (opening ∷ ts) = refl
+leads (closing ∷ ts) = refl
+leads (word x ∷ ts) = ap (λ us. word x ∷ us) (leads ts)
 
-items-text : (s : List ℕ) → s ≡ spaced (items s) ++ drop (span (items s)) s
-unfolding items
-items-text s =
-    let f = items-front 0 s in
-    f .1 ∙ ap (λ r. spaced (items s) ++ r) (sym (ap (drop (span (items s))) (f .1) ∙ after-items (items s) (f .0)))
+-- what a cut says of the tokens that were cut
+abbrev CutOf : List Token → Split → Type 0
+CutOf ts (split xs rest) = ts ≡ map word xs ++ (closing ∷ rest)
+CutOf ts none = Unit {0}
 
--- a tag and the names after it
-
--- what a cut says of the bytes that were cut
-abbrev CutOf : List ℕ → List ℕ → Split → Type 0
-CutOf tag s (split xs rest) = (s ≡ tag ++ (spaced xs ++ rest)) × All IsName xs
-CutOf tag s none = Unit {0}
-
-cut-names : (s : List ℕ) → CutOf [] s (splitNames s)
+cut-names : (ts : List Token) → CutOf ts (splitNames ts)
 unfolding splitNames
-cut-names s =
-    on-cond (CutOf [] s) (every (λ x. isName (nameClass x)) (items s)) (split (items s) (drop (span (items s)) s)) none
-    (λ t. (items-text s, every-name (items s) .0 t))
-    (λ f. tt)
+cut-names ts = go (behind ts) (leads ts)
+  where
+    go : (us : List Token) → ts ≡ map word (leading ts) ++ us → CutOf ts (closedBy (leading ts) us)
+    go [] e = tt
+    go (opening ∷ us) e = tt
+    go (closing ∷ us) e = e
+    go (word x ∷ us) e = tt
 
-cut-list : (tag s : List ℕ) → CutOf tag s (splitList tag s)
+abbrev pub OpenedFrom : List Token → Opened → Type 0
+OpenedFrom ts (opened x us) = ts ≡ opening ∷ word x ∷ us
+OpenedFrom ts unopened = Unit {0}
+
+pub opened-from : (ts : List Token) → OpenedFrom ts (openedOf ts)
+unfolding openedOf
+opened-from [] = tt
+opened-from (opening ∷ ts) = go ts
+  where
+    go : (us : List Token) → OpenedFrom (opening ∷ us) (openedBy us)
+    go [] = tt
+    go (opening ∷ us) = tt
+    go (closing ∷ us) = tt
+    go (word x ∷ us) = refl
+opened-from (closing ∷ ts) = tt
+opened-from (word x ∷ ts) = tt
+
+abbrev ListCut : List ℕ → List Token → Split → Type 0
+ListCut w ts (split xs rest) = ts ≡ listThen w xs rest
+ListCut w ts none = Unit {0}
+
+cut-list : (w : List ℕ) (ts : List Token) → ListCut w ts (splitList w ts)
 unfolding splitList
-cut-list tag s =
-    on-cond (CutOf tag s) (begins tag s) (splitNames (drop (length tag) s)) none
-    (λ t. after-tag (same-equal (take (length tag) s) tag t) (splitNames (drop (length tag) s)) (cut-names (drop (length tag) s)))
-    (λ f. tt)
+cut-list w ts = go (openedOf ts) (opened-from ts)
   where
-    after-tag : take (length tag) s ≡ tag → (c : Split) → CutOf [] (drop (length tag) s) c → CutOf tag s c
-    after-tag e (split xs rest) h = (sym (take-append-drop (length tag) s) ∙ ap₂ _++_ e (h .0), h .1)
-    after-tag e none h = tt
+    behind-word : (x : List ℕ) (us : List Token) → ts ≡ opening ∷ word x ∷ us → x ≡ w → (c : Split) → CutOf us c → ListCut w ts c
+    behind-word x us e q (split xs rest) h = e ∙ ap₂ (λ y vs. opening ∷ word y ∷ vs) q h
+    behind-word x us e q none h = tt
 
-cut-of : (tag : List ℕ) (xs : List (List ℕ)) (r : List ℕ) → All IsName xs → splitList tag (tag ++ (spaced xs ++ (close-bracket ∷ r))) ≡ split xs (close-bracket ∷ r)
-unfolding splitList splitNames
-cut-of tag xs r h =
-    let rest = close-bracket ∷ r in
-    let s = spaced xs ++ rest in
-    let starts : begins tag (tag ++ s) ≡ true = ap (λ t. sameBytes t tag) (take-append-seam tag s) ∙ is-true (sameBytes tag tag) (same-self tag) in
-    let named : every (λ x. isName (nameClass x)) xs ≡ true = is-true (every (λ x. isName (nameClass x)) xs) (every-name xs .1 h) in
-    ap (λ b. cond b (splitNames (drop (length tag) (tag ++ s))) none) starts
-    ∙ ap splitNames (drop-append-seam tag s)
-    ∙ ap (λ ys. cond (every (λ x. isName (nameClass x)) ys) (split ys (drop (span ys) s)) none) (items-of xs r h)
-    ∙ ap (λ b. cond b (split xs (drop (span xs) s)) none) named
-    ∙ ap (split xs) (after-items xs rest)
+    go : (o : Opened) → OpenedFrom ts o → ListCut w ts (onOpened o w)
+    go (opened x us) e = on-cond (ListCut w ts) (sameBytes x w) (splitNames us) none (λ t. behind-word x us e (same-equal x w t) (splitNames us) (cut-names us)) (λ n. tt)
+    go unopened e = tt
 
--- the form found says what the line is
-
-abbrev Reads : List ℕ → LineForm → Type 0
-Reads l (declares w xs) = DeclaringLine l w xs
-Reads l (rules hs bs ns) = RuleLine l hs bs ns
-Reads l broken = Unit {0}
-
-reads-closed : (l rest ending : List ℕ) (f : LineForm) → (rest ≡ ending → Reads l f) → Reads l (closed rest ending f)
-reads-closed l rest ending f h = on-cond (Reads l) (sameBytes rest ending) f broken (λ t. h (same-equal rest ending t)) (λ n. tt)
-
-reads-cut : (l tag s : List ℕ) (f : List (List ℕ) → List ℕ → LineForm)
-    → ((xs : List (List ℕ)) (rest : List ℕ) → s ≡ tag ++ (spaced xs ++ rest) → All IsName xs → Reads l (f xs rest))
-    → Reads l (onSplit (splitList tag s) f)
-reads-cut l tag s f h = go (splitList tag s) (cut-list tag s)
+names-cut : (xs : List (List ℕ)) (rest : List Token) → splitNames (map word xs ++ (closing ∷ rest)) ≡ split xs rest
+unfolding splitNames
+names-cut xs rest = ap₂ closedBy (front xs) (after xs)
   where
-    go : (c : Split) → CutOf tag s c → Reads l (onSplit c f)
-    go (split xs rest) k = h xs rest (k .0) (k .1)
+    front : (ys : List (List ℕ)) → leading (map word ys ++ (closing ∷ rest)) ≡ ys
+    front [] = refl
+    front (y ∷ ys) = ap (λ zs. y ∷ zs) (front ys)
+
+    after : (ys : List (List ℕ)) → behind (map word ys ++ (closing ∷ rest)) ≡ closing ∷ rest
+    after [] = refl
+    after (y ∷ ys) = after ys
+
+list-cut : (w : List ℕ) (xs : List (List ℕ)) (rest : List Token) → splitList w (listThen w xs rest) ≡ split xs rest
+unfolding splitList openedOf
+list-cut w xs rest =
+    ap (λ b. cond b (splitNames (map word xs ++ (closing ∷ rest))) none) (is-true (sameBytes w w) (same-self w)) ∙ names-cut xs rest
+
+-- the form found says what the tokens are
+
+abbrev Reads : List Token → LineForm → Type 0
+Reads ts (declares w xs) = ts ≡ declaringTokens w xs
+Reads ts (rules hs bs ns) = ts ≡ ruleTokens hs bs ns
+Reads ts blank = ts ≡ []
+Reads ts broken = Unit {0}
+
+reads-last : (ts rest : List Token) (f : LineForm) → (rest ≡ [] → Reads ts f) → Reads ts (lastly rest f)
+reads-last ts [] f h = h refl
+reads-last ts (t ∷ rest) f h = tt
+
+reads-closed : (ts rest : List Token) (f : LineForm) → (rest ≡ closing ∷ [] → Reads ts f) → Reads ts (closedLastly rest f)
+reads-closed ts [] f h = tt
+reads-closed ts (opening ∷ rest) f h = tt
+reads-closed ts (closing ∷ rest) f h = reads-last ts rest f (λ e. h (ap (λ us. closing ∷ us) e))
+reads-closed ts (word x ∷ rest) f h = tt
+
+reads-cut : (ts : List Token) (w : List ℕ) (us : List Token) (f : List (List ℕ) → List Token → LineForm)
+    → ((xs : List (List ℕ)) (rest : List Token) → us ≡ listThen w xs rest → Reads ts (f xs rest))
+    → Reads ts (onSplit (splitList w us) f)
+reads-cut ts w us f h = go (splitList w us) (cut-list w us)
+  where
+    go : (c : Split) → ListCut w us c → Reads ts (onSplit c f)
+    go (split xs rest) k = h xs rest k
     go none k = tt
 
-reads-declared : (w : Word) (l : List ℕ) → Reads l (declaredForm w l)
+reads-declared : (w : Word) (x : List ℕ) (us : List Token) → x ≡ wordBytes w → Reads (opening ∷ word x ∷ us) (declaredForm w us)
 unfolding declaredForm
-reads-declared w l =
-    reads-cut l (tagOf w) l (λ xs rest. closed rest listEnd (declares w xs)) (λ xs rest e h.
-    reads-closed l rest listEnd (declares w xs) (λ k. (e ∙ ap (λ r. tagOf w ++ (spaced xs ++ r)) k, h)))
-
-reads-rule : (l : List ℕ) → Reads l (ruleForm l)
-unfolding ruleForm
-reads-rule l =
-    reads-cut l headTag l (λ hs r. onSplit (splitList bodyTag r) (λ bs s. onSplit (splitList notTag s) (λ ns rest. closed rest ruleEnd (rules hs bs ns)))) (λ hs r e₁ h₁.
-    reads-cut l bodyTag r (λ bs s. onSplit (splitList notTag s) (λ ns rest. closed rest ruleEnd (rules hs bs ns))) (λ bs s e₂ h₂.
-    reads-cut l notTag s (λ ns rest. closed rest ruleEnd (rules hs bs ns)) (λ ns rest e₃ h₃.
-    reads-closed l rest ruleEnd (rules hs bs ns) (λ k.
-    (e₁ ∙ ap (λ t. headTag ++ (spaced hs ++ t)) (e₂ ∙ ap (λ t. bodyTag ++ (spaced bs ++ t)) (e₃ ∙ ap (λ t. notTag ++ (spaced ns ++ t)) k)), h₁, h₂, h₃)))))
-
-reads-line : (l : List ℕ) → Reads l (formOf l)
-unfolding formOf
-reads-line l = choice atoms _ (choice min _ (choice vary _ (choice fix (ruleForm l) (reads-rule l))))
+reads-declared w x us e = go (splitNames us) (cut-names us)
   where
-    choice : (w : Word) (g : LineForm) → Reads l g → Reads l (cond (begins (tagOf w) l) (declaredForm w l) g)
-    choice w g h = on-cond (Reads l) (begins (tagOf w) l) (declaredForm w l) g (λ t. reads-declared w l) (λ n. h)
+    go : (c : Split) → CutOf us c → Reads (opening ∷ word x ∷ us) (onSplit c (λ xs rest. lastly rest (declares w xs)))
+    go (split xs rest) h = reads-last (opening ∷ word x ∷ us) rest (declares w xs) (λ q. ap₂ (λ y vs. opening ∷ word y ∷ vs) e (h ∙ ap (λ vs. map word xs ++ (closing ∷ vs)) q))
+    go none h = tt
 
--- and a line of a form is found to have it
+reads-rule : (x : List ℕ) (us : List Token) → x ≡ ruleWord → Reads (opening ∷ word x ∷ us) (ruleForm us)
+unfolding ruleForm
+reads-rule x us e =
+    let ts = opening ∷ word x ∷ us in
+    reads-cut ts headWord us (λ hs r. onSplit (splitList bodyWord r) (λ bs s. onSplit (splitList notWord s) (λ ns rest. closedLastly rest (rules hs bs ns)))) (λ hs r e₁.
+    reads-cut ts bodyWord r (λ bs s. onSplit (splitList notWord s) (λ ns rest. closedLastly rest (rules hs bs ns))) (λ bs s e₂.
+    reads-cut ts notWord s (λ ns rest. closedLastly rest (rules hs bs ns)) (λ ns rest e₃.
+    reads-closed ts rest (rules hs bs ns) (λ k.
+    ap₂ (λ y vs. opening ∷ word y ∷ vs) e (e₁ ∙ ap (listThen headWord hs) (e₂ ∙ ap (listThen bodyWord bs) (e₃ ∙ ap (listThen notWord ns) k)))))))
 
-declared-form : (w : Word) (xs : List (List ℕ)) → All IsName xs → declaredForm w (tagOf w ++ (spaced xs ++ listEnd)) ≡ declares w xs
-unfolding declaredForm sameBytes
-declared-form w xs h =
-    let f : List (List ℕ) → List ℕ → LineForm = λ ys rest. closed rest listEnd (declares w ys) in
-    ap (λ c. onSplit c f) (cut-of (tagOf w) xs (line-end ∷ []) h)
+reads-tokens : (ts : List Token) → Reads ts (tokenForm ts)
+unfolding tokenForm
+reads-tokens [] = refl
+reads-tokens (t ∷ ts) = go (openedOf (t ∷ ts)) (opened-from (t ∷ ts))
+  where
+    choice : (x : List ℕ) (us : List Token) (w : Word) (g : LineForm) → Reads (opening ∷ word x ∷ us) g → Reads (opening ∷ word x ∷ us) (cond (sameBytes x (wordBytes w)) (declaredForm w us) g)
+    choice x us w g h = on-cond (Reads (opening ∷ word x ∷ us)) (sameBytes x (wordBytes w)) (declaredForm w us) g (λ q. reads-declared w x us (same-equal x (wordBytes w) q)) (λ n. h)
 
-list-form : (w : Word) (xs : List (List ℕ)) → All IsName xs → formOf (tagOf w ++ (spaced xs ++ listEnd)) ≡ declares w xs
-unfolding formOf sameBytes
-list-form atoms xs h = declared-form atoms xs h
-list-form min xs h = declared-form min xs h
-list-form vary xs h = declared-form vary xs h
-list-form fix xs h = declared-form fix xs h
+    all : (x : List ℕ) (us : List Token) → Reads (opening ∷ word x ∷ us) (openedForm (opened x us))
+    all x us =
+        choice x us atoms _ (choice x us min _ (choice x us vary _ (choice x us fix _
+        (on-cond (Reads (opening ∷ word x ∷ us)) (sameBytes x ruleWord) (ruleForm us) broken (λ q. reads-rule x us (same-equal x ruleWord q)) (λ n. tt)))))
 
-rule-form : (hs bs ns : List (List ℕ)) → All IsName hs → All IsName bs → All IsName ns
-    → formOf (headTag ++ (spaced hs ++ (bodyTag ++ (spaced bs ++ (notTag ++ (spaced ns ++ ruleEnd)))))) ≡ rules hs bs ns
-unfolding formOf ruleForm sameBytes
-rule-form hs bs ns h₁ h₂ h₃ =
-    let f₃ : List (List ℕ) → List (List ℕ) → List (List ℕ) → List ℕ → LineForm = λ xs ys zs rest. closed rest ruleEnd (rules xs ys zs) in
-    let f₂ : List (List ℕ) → List (List ℕ) → List ℕ → LineForm = λ xs ys s. onSplit (splitList notTag s) (f₃ xs ys) in
-    let f₁ : List (List ℕ) → List ℕ → LineForm = λ xs r. onSplit (splitList bodyTag r) (f₂ xs) in
-    let third = space ∷ open-bracket ∷ (notWord ++ (spaced ns ++ ruleEnd)) in
-    let second = space ∷ open-bracket ∷ (bodyWord ++ (spaced bs ++ (close-bracket ∷ third))) in
-    ap (λ c. onSplit c f₁) (cut-of headTag hs second h₁)
-    ∙ ap (λ c. onSplit c (f₂ hs)) (cut-of bodyTag bs third h₂)
-    ∙ ap (λ c. onSplit c (f₃ hs bs)) (cut-of notTag ns (close-bracket ∷ line-end ∷ []) h₃)
+    go : (o : Opened) → OpenedFrom (t ∷ ts) o → Reads (t ∷ ts) (openedForm o)
+    go (opened x us) e = subst (λ vs. Reads vs (openedForm (opened x us))) (sym e) (all x us)
+    go unopened e = tt
+
+-- and tokens of a form are found to have it
+
+declared-form : (w : Word) (xs : List (List ℕ)) → declaredForm w (map word xs ++ (closing ∷ [])) ≡ declares w xs
+unfolding declaredForm
+declared-form w xs = ap (λ c. onSplit c (λ ys rest. lastly rest (declares w ys))) (names-cut xs [])
+
+list-form : (w : Word) (xs : List (List ℕ)) → tokenForm (declaringTokens w xs) ≡ declares w xs
+unfolding tokenForm openedOf sameBytes
+list-form atoms xs = declared-form atoms xs
+list-form min xs = declared-form min xs
+list-form vary xs = declared-form vary xs
+list-form fix xs = declared-form fix xs
+
+rule-form : (hs bs ns : List (List ℕ)) → tokenForm (ruleTokens hs bs ns) ≡ rules hs bs ns
+unfolding tokenForm openedOf ruleForm sameBytes
+rule-form hs bs ns =
+    let f₃ : List (List ℕ) → List (List ℕ) → List (List ℕ) → List Token → LineForm = λ xs ys zs rest. closedLastly rest (rules xs ys zs) in
+    let f₂ : List (List ℕ) → List (List ℕ) → List Token → LineForm = λ xs ys s. onSplit (splitList notWord s) (f₃ xs ys) in
+    let f₁ : List (List ℕ) → List Token → LineForm = λ xs r. onSplit (splitList bodyWord r) (f₂ xs) in
+    let third = listThen notWord ns (closing ∷ []) in
+    ap (λ c. onSplit c f₁) (list-cut headWord hs (listThen bodyWord bs third))
+    ∙ ap (λ c. onSplit c (f₂ hs)) (list-cut bodyWord bs third)
+    ∙ ap (λ c. onSplit c (f₃ hs bs)) (list-cut notWord ns (closing ∷ []))
+
+blank-form : tokenForm [] ≡ blank
+unfolding tokenForm
+blank-form = refl
 
 -- the two together
 
 whole? : LineForm → Type 0
 whole? (declares w xs) = Unit {0}
 whole? (rules hs bs ns) = Unit {0}
+whole? blank = Unit {0}
 whole? broken = ⊥
 
 module _ (l : List ℕ) where
+  abbrev Found : LineForm → Type 0
+  Found (declares w xs) = DeclaringLine l w xs
+  Found (rules hs bs ns) = RuleLine l hs bs ns
+  Found blank = BlankLine l
+  Found broken = Unit {0}
+
+  named-found : Ended l → (f : LineForm) → Reads (tokens l) f → Found (named f)
+  named-found e (declares w xs) r = on-cond Found (names? xs) (declares w xs) broken (λ h. (e, tokens-iff l (declaringTokens w xs) .0 r, every-name xs .0 h)) (λ n. tt)
+  named-found e (rules hs bs ns) r =
+      on-cond Found (names? hs) (cond (names? bs) (cond (names? ns) (rules hs bs ns) broken) broken) broken (λ h.
+      on-cond Found (names? bs) (cond (names? ns) (rules hs bs ns) broken) broken (λ b.
+      on-cond Found (names? ns) (rules hs bs ns) broken (λ n.
+      (e, tokens-iff l (ruleTokens hs bs ns) .0 r, every-name hs .0 h, every-name bs .0 b, every-name ns .0 n)) (λ n. tt)) (λ n. tt)) (λ n. tt)
+  named-found e blank r = (e, tokens-iff l [] .0 r)
+  named-found e broken r = tt
+
+  found-line : Found (formOf l)
+  unfolding formOf typedForm
+  found-line = on-cond (λ f. Found (named f)) (ended? l) (tokenForm (tokens l)) broken (λ t. named-found (ended-law l .0 t) (tokenForm (tokens l)) (reads-tokens (tokens l))) (λ n. tt)
+
+  pub form-of : Ended l → {ts : List Token} → tokens l ≡ ts → {f : LineForm} → tokenForm ts ≡ f → formOf l ≡ named f
+  unfolding formOf typedForm
+  form-of h e q = ap (λ b. named (cond b (tokenForm (tokens l)) broken)) (is-true (ended? l) (ended-law l .1 h)) ∙ ap (λ ts. named (tokenForm ts)) e ∙ ap named q
+
+  are-names : (xs : List (List ℕ)) → All IsName xs → names? xs ≡ true
+  are-names xs h = is-true (names? xs) (every-name xs .1 h)
+
   declares-found : (w : Word) (xs : List (List ℕ)) → DeclaringLine l w xs → formOf l ≡ declares w xs
-  declares-found w xs h = ap formOf (h .0) ∙ list-form w xs (h .1)
+  declares-found w xs h = form-of (h .0) (tokens-iff l (declaringTokens w xs) .1 (h .1)) (list-form w xs) ∙ ap (λ b. cond b (declares w xs) broken) (are-names xs (h .2))
 
   rules-found : (hs bs ns : List (List ℕ)) → RuleLine l hs bs ns → formOf l ≡ rules hs bs ns
-  rules-found hs bs ns h = ap formOf (h .0) ∙ rule-form hs bs ns (h .1) (h .2) (h .3)
+  rules-found hs bs ns h =
+      form-of (h .0) (tokens-iff l (ruleTokens hs bs ns) .1 (h .1)) (rule-form hs bs ns)
+      ∙ ap (λ b. cond b (cond (names? bs) (cond (names? ns) (rules hs bs ns) broken) broken) broken) (are-names hs (h .2))
+      ∙ ap₂ (λ b c. cond b (cond c (rules hs bs ns) broken) broken) (are-names bs (h .3)) (are-names ns (h .4))
+
+  blank-found : BlankLine l → formOf l ≡ blank
+  blank-found h = form-of (h .0) (tokens-iff l [] .1 (h .1)) blank-form
 
   pub form-iff : (f : LineForm) → formOf l ≡ f ↔ HasForm l f
   unfolding whole?
-  form-iff (declares w xs) = (λ e. subst (Reads l) e (reads-line l), declares-found w xs)
-  form-iff (rules hs bs ns) = (λ e. subst (Reads l) e (reads-line l), rules-found hs bs ns)
+  form-iff (declares w xs) = (λ e. subst Found e found-line, declares-found w xs)
+  form-iff (rules hs bs ns) = (λ e. subst Found e found-line, rules-found hs bs ns)
+  form-iff blank = (λ e. subst Found e found-line, blank-found)
   form-iff broken = (
-    λ e. (λ w xs h. subst whole? (sym (declares-found w xs h) ∙ e) tt, λ hs bs ns h. subst whole? (sym (rules-found hs bs ns h) ∙ e) tt),
-    λ h. back h (formOf l) refl (reads-line l),
+    λ e. (λ w xs h. subst whole? (sym (declares-found w xs h) ∙ e) tt, λ hs bs ns h. subst whole? (sym (rules-found hs bs ns h) ∙ e) tt, λ h. subst whole? (sym (blank-found h) ∙ e) tt),
+    λ h. back h (formOf l) refl found-line,
   )
     where
-      back : HasForm l broken → (f : LineForm) → formOf l ≡ f → Reads l (formOf l) → formOf l ≡ broken
-      back h (declares w xs) e r = absurd (h .0 w xs (subst (Reads l) e r))
-      back h (rules hs bs ns) e r = absurd (h .1 hs bs ns (subst (Reads l) e r))
+      back : HasForm l broken → (f : LineForm) → formOf l ≡ f → Found (formOf l) → formOf l ≡ broken
+      back h (declares w xs) e r = absurd (h .0 w xs (subst Found e r))
+      back h (rules hs bs ns) e r = absurd (h .1 hs bs ns (subst Found e r))
+      back h blank e r = absurd (h .2 (subst Found e r))
       back h broken e r = e
 
   pub line-names : All IsName (namesOf (formOf l))
-  line-names = go (formOf l) (reads-line l)
+  line-names = go (formOf l) found-line
     where
-      go : (f : LineForm) → Reads l f → All IsName (namesOf f)
-      go (declares w xs) h = h .1
-      go (rules hs bs ns) h = all-app IsName hs (bs ++ ns) (h .1) (all-app IsName bs ns (h .2) (h .3))
+      go : (f : LineForm) → Found f → All IsName (namesOf f)
+      go (declares w xs) h = h .2
+      go (rules hs bs ns) h = all-app IsName hs (bs ++ ns) (h .2) (all-app IsName bs ns (h .3) (h .4))
+      go blank h = tt
       go broken h = tt

@@ -1,11 +1,9 @@
 -- The stage says which lines have come.
-use Prim.Native.Nat.{ℕ, suc}
+use Prim.Native.Nat.{ℕ}
 use native.Mathlib.Omega.{arith}
 use mathlib.Core.Path.{_≡_, refl, sym, ap, ap₂, _∙_, subst}
 use mathlib.Core.Logic.{_↔_}
-use mathlib.Core.Bool.{Bool, true, false, cond}
-use mathlib.Core.List.{List, [], _∷_, _++_, map, append-assoc, append-nil}
-use lib.ListN.{length, getD, drop}
+use mathlib.Core.List.{List, [], _∷_, _++_, append-assoc, append-nil}
 use lib.Seq.{append-snoc}
 use Rattle.kinds.specs.declared.limits.Kind.{Kind}
 use Rattle.kinds.specs.declared.limits.Kind.the-variants.{Plain, Preference}
@@ -14,12 +12,14 @@ use Rattle.rules.specs.Lists.{All}
 use Rattle.rules.proofs.Lists.{all-app, all-app-r}
 use Rattle.lines.specs.declared.stage.Stage.{Stage}
 use Rattle.lines.specs.declared.stage.Stage.the-variants.{Declaring, Fixing, Ruling}
-use Rattle.lines.specs.Forms.{Word, atoms, min, vary, fix, LineForm, declares, rules, broken, begins, tagOf, formOf}
+use Rattle.lines.specs.Forms.{Word, atoms, min, vary, fix, LineForm, declares, rules, blank, broken, formOf}
 use Rattle.lines.specs.Faults.{SoFar, stageAfter}
-use Rattle.lines.specs.Said.{start}
+use Rattle.lines.specs.Lines.{lines}
+use Rattle.lines.specs.Said.{kindOf, start}
 use Rattle.faults.specs.Sentences.{Comes, atoms-line, min-line, vary-line, fix-line, BreaksForm, Faultless, added}
 use Rattle.faults.specs.EarliestFault.{Passed}
-use Rattle.faults.specs.LineOrder.{IsMin, IsRule, Came, OutOfOrder}
+use Rattle.faults.specs.LineOrder.{unlessBlank, formsOf, IsMin, IsRule, Came, OutOfOrder}
+use Rattle.faults.proofs.Entries.{cons-same, no-cons, no-append}
 use Rattle.faults.proofs.Tests.{comes-stable, ruling-stable}
 
 after-declaring : {kind : Kind} {stage : Stage} {w : Word} (xs : List (List ℕ)) (fs : List LineForm) → Comes kind stage w → Came kind stage fs → Came kind (stageAfter w) (fs ++ (declares w xs ∷ []))
@@ -36,30 +36,20 @@ after-rule kind stage f fs r e c = subst (λ s. Came kind s (fs ++ (f ∷ []))) 
     go Preference (ms, xs, ys, rs, m, h, q) =
         (ms, xs, ys, rs ++ (f ∷ []), m, all-app IsRule rs (f ∷ []) h (r, tt), ap (λ l. l ++ (f ∷ [])) q ∙ append-assoc ms (declares vary xs ∷ declares fix ys ∷ rs) (f ∷ []))
 
-after-line : (st : SoFar) (f : LineForm) (fs : List LineForm) → Faultless st f → Came (st .kind) (st .stage) fs → Came (added st f .kind) (added st f .stage) (fs ++ (f ∷ []))
+after-line : (st : SoFar) (f : LineForm) (fs : List LineForm) → Faultless st f → Came (st .kind) (st .stage) fs → Came (added st f .kind) (added st f .stage) (fs ++ unlessBlank f)
 after-line st (declares w xs) fs none c = after-declaring xs fs (comes-stable (st .kind) (st .stage) w (none BrokenForm)) c
 after-line st (rules hs bs ns) fs none c = after-rule (st .kind) (st .stage) (rules hs bs ns) fs (hs, bs, ns, refl) (ruling-stable (st .stage) (none BrokenForm)) c
+after-line st blank fs none c = subst (Came (st .kind) (st .stage)) (sym (append-nil fs)) c
 after-line st broken fs none c = absurd (none BrokenForm tt)
 
 -- which form may come at a stage
 abbrev Fits : Kind → Stage → LineForm → Type 0
 Fits kind stage (declares w xs) = Comes kind stage w
 Fits kind stage (rules hs bs ns) = stage ≡ Ruling
+Fits kind stage blank = ⊥
 Fits kind stage broken = ⊥
 
--- entries of equal lists
-
 module _ {A : Type 0} where
-  cons-same : {x y : A} {xs ys : List A} → x ∷ xs ≡ y ∷ ys → (x ≡ y) × (xs ≡ ys)
-  cons-same {x} e = (ap (λ l. getD l 0 x) e, ap (drop 1) e)
-
-  no-cons : {x : A} {xs : List A} → x ∷ xs ≡ [] → ⊥
-  no-cons {x} {xs} e = absurd (let z : suc (length xs) ≡ 0 = ap length e in omega arith)
-
-  no-append : (xs : List A) (x : A) (ys : List A) → xs ++ (x ∷ ys) ≡ [] → ⊥
-  no-append [] x ys e = no-cons e
-  no-append (y ∷ xs) x ys e = no-cons e
-
   last-same : (xs ys : List A) (x y : A) → xs ++ (x ∷ []) ≡ ys ++ (y ∷ []) → (xs ≡ ys) × (x ≡ y)
   last-same [] [] x y e = (refl, cons-same e .0)
   last-same [] (b ∷ ys) x y e = absurd (no-append ys y [] (sym (cons-same e .1)))
@@ -126,30 +116,35 @@ next-fits Preference Ruling then f fs (ms, xs, ys, rs, h, r, e) n = go then n
         rule-fits Preference f (all-app-r IsRule rs (f ∷ []) (subst (All IsRule) (sym tail) t) .0)
 
 -- a line breaks the form or the order exactly when the lines with it are no beginning of a file
-order-of : (st : SoFar) (f : LineForm) (fs : List LineForm) → Came (st .kind) (st .stage) fs → BreaksForm st f ↔ OutOfOrder (st .kind) (fs ++ (f ∷ []))
+order-of : (st : SoFar) (f : LineForm) (fs : List LineForm) → Came (st .kind) (st .stage) fs → BreaksForm st f ↔ OutOfOrder (st .kind) (fs ++ unlessBlank f)
 order-of st (declares w xs) fs c = (λ b s n. b (next-fits (st .kind) (st .stage) s (declares w xs) fs c n), λ o k. o (stageAfter w) (after-declaring xs fs k c))
 order-of st (rules hs bs ns) fs c = (
   λ b s n. b (next-fits (st .kind) (st .stage) s (rules hs bs ns) fs c n),
   λ o e. o (st .stage) (after-rule (st .kind) (st .stage) (rules hs bs ns) fs (hs, bs, ns, refl) e c),
 )
+order-of st blank fs c = (λ b. absurd b, λ o. o (st .stage) (subst (Came (st .kind) (st .stage)) (sym (append-nil fs)) c))
 order-of st broken fs c = (λ b s n. next-fits (st .kind) (st .stage) s broken fs c n, λ o. tt)
 
-after-lines : (st : SoFar) (ls : List (List ℕ)) (after : SoFar) (fs : List LineForm) → Passed st ls after → Came (st .kind) (st .stage) fs → Came (after .kind) (after .stage) (fs ++ map formOf ls)
+after-lines : (st : SoFar) (ls : List (List ℕ)) (after : SoFar) (fs : List LineForm) → Passed st ls after → Came (st .kind) (st .stage) fs → Came (after .kind) (after .stage) (fs ++ formsOf ls)
 after-lines st [] after fs p c = subst (λ (s : SoFar). Came (s .kind) (s .stage) (fs ++ [])) p (subst (Came (st .kind) (st .stage)) (sym (append-nil fs)) c)
 after-lines st (l ∷ ls) after fs p c =
-    subst (Came (after .kind) (after .stage)) (append-snoc fs (formOf l) (map formOf ls))
-    (after-lines (added st (formOf l)) ls after (fs ++ (formOf l ∷ [])) (p .1) (after-line st (formOf l) fs (p .0) c))
+    subst (Came (after .kind) (after .stage)) (append-assoc fs (unlessBlank (formOf l)) (formsOf ls))
+    (after-lines (added st (formOf l)) ls after (fs ++ unlessBlank (formOf l)) (p .1) (after-line st (formOf l) fs (p .0) c))
 
 started : (text : List ℕ) → Came (start text .kind) (start text .stage) []
 unfolding start
-started text = go (begins (tagOf atoms) text)
+started text = go (kindOf (lines text))
   where
-    go : (b : Bool) → Came (cond b Plain Preference) Declaring []
-    go true = refl
-    go false = tt
+    go : (k : Kind) → Came k Declaring []
+    go Plain = refl
+    go Preference = tt
 
-pub came : (text : List ℕ) (ls : List (List ℕ)) (st : SoFar) → Passed (start text) ls st → Came (st .kind) (st .stage) (map formOf ls)
+pub came : (text : List ℕ) (ls : List (List ℕ)) (st : SoFar) → Passed (start text) ls st → Came (st .kind) (st .stage) (formsOf ls)
 came text ls st p = after-lines (start text) ls st [] p (started text)
 
-pub order-iff : (text : List ℕ) (ls : List (List ℕ)) (st : SoFar) → Passed (start text) ls st → (l : List ℕ) → BreaksForm st (formOf l) ↔ OutOfOrder (st .kind) (map formOf ls ++ (formOf l ∷ []))
-order-iff text ls st p l = order-of st (formOf l) (map formOf ls) (came text ls st p)
+forms-last : (ls : List (List ℕ)) (l : List ℕ) → formsOf (ls ++ (l ∷ [])) ≡ formsOf ls ++ unlessBlank (formOf l)
+forms-last [] l = append-nil (unlessBlank (formOf l))
+forms-last (m ∷ ls) l = ap (λ fs. unlessBlank (formOf m) ++ fs) (forms-last ls l) ∙ sym (append-assoc (unlessBlank (formOf m)) (formsOf ls) (unlessBlank (formOf l)))
+
+pub order-iff : (text : List ℕ) (ls : List (List ℕ)) (st : SoFar) → Passed (start text) ls st → (l : List ℕ) → BreaksForm st (formOf l) ↔ OutOfOrder (st .kind) (formsOf (ls ++ (l ∷ [])))
+order-iff text ls st p l = subst (λ fs. BreaksForm st (formOf l) ↔ OutOfOrder (st .kind) fs) (sym (forms-last ls l)) (order-of st (formOf l) (formsOf ls) (came text ls st p))

@@ -1,5 +1,5 @@
 -- A line is answered with its lowest fault, and passes exactly when it has none.
-use Prim.Native.Nat.{ℕ, suc, _≤_, _<_}
+use Prim.Native.Nat.{ℕ, suc, _<_}
 use native.Mathlib.Omega.{arith}
 use native.Mathlib.Decide.{decLt}
 use mathlib.Core.Path.{_≡_, refl, sym, ap, _∙_, subst}
@@ -16,12 +16,12 @@ use Rattle.kinds.specs.declared.refusals.Refusal.the-variants.{TextTooLong, Bro
 use Rattle.rules.specs.Lists.{All, Any, some}
 use Rattle.rules.proofs.Lists.{all-app-l, all-app-r, some-any}
 use Rattle.rules.proofs.Connectives.{not-law}
-use Rattle.lines.specs.Forms.{Word, LineForm, declares, rules, broken, formOf}
+use Rattle.lines.specs.Forms.{Word, LineForm, declares, rules, blank, broken, formOf}
 use Rattle.lines.specs.Faults.{SoFar, Step, next, fault, first, countsOf, expects, ruling?, classesAfter, twice, refusedName, anyOf, declared, numbered, with-rule, filled, declare, addRule, stepForm}
 use Rattle.lines.specs.Said.{start}
 use Rattle.faults.specs.LineForms.{IsName}
-use Rattle.faults.specs.Sentences.{namesOf, Among, NotAllowed, Says, Lowest, Faultless, added, Sound, classes-pass}
-use Rattle.faults.proofs.LimitTests.{classes-counted, declared-limit, rule-limit}
+use Rattle.faults.specs.Sentences.{namesOf, Among, NotAllowed, Says, Lowest, Faultless, added, Sound, PassesLimit, atoms-pass, rules-pass, occurrences-pass, classes-pass}
+use Rattle.faults.proofs.LimitTests.{declared-limit, declared-within, rule-limit, rule-within}
 use Rattle.faults.proofs.Tests.{comes-law, ruling-law, names-law, any-law, twice-law, lists-law, undeclared-law, filled-law}
 use Rattle.faults.proofs.LineForms.{line-names}
 
@@ -132,7 +132,7 @@ module _ (st : SoFar) (sound : Sound st) where
       (λ b2. tested st f (anyOf (some (refusedName (st .kind))) hs bs ns) Name _ (any-law (NotAllowed (st .kind)) (refusedName (st .kind)) hs bs ns (names-law (st .kind) hs in-heads) (names-law (st .kind) bs in-bodies) (names-law (st .kind) ns in-nots)) b2
       (λ b3. tested st f (anyOf (some (λ x. not (among (st .names) x))) hs bs ns) Undeclared _ (any-law None (λ x. not (among (st .names) x)) hs bs ns (none-declared hs) (none-declared bs) (none-declared ns)) (none-up st f DeclaredTwice b3 (λ h. h))
       (λ b5. tested st f (anyOf (twice []) hs bs ns) TwiceInList _ (lists-law hs bs ns) b5
-      (λ b6. tested st f (not (within (st .kind) (countsOf (with-rule st (numbered (st .names) hs bs ns))))) Limit _ (rule-limit st hs bs ns (sound .classes-fit)) b6
+      (λ b6. tested st f (not (within (st .kind) (countsOf (with-rule st (numbered (st .names) hs bs ns))))) Limit _ (rule-limit st hs bs ns (sound .within-limits)) b6
       (λ b7. tested st f (filled (st .kind) ns) FilledNot _ (filled-law (st .kind) ns) b7
       (λ b8. passes st f b8))))))
     where
@@ -157,6 +157,13 @@ module _ (st : SoFar) (sound : Sound st) where
   form-answers : (f : LineForm) → All IsName (namesOf f) → Answers st f (stepForm st f)
   form-answers (declares w xs) named = declare-answers w xs named
   form-answers (rules hs bs ns) named = rule-answers hs bs ns named
+  form-answers blank named = passes st blank (none-up st blank FilledNot (none-up st blank Limit no-test (sound .within-limits)) (λ h. h))
+    where
+      no-test : NoneBelow st blank 7
+      no-test =
+          none-up st blank TwiceInList
+          (none-up st blank Undeclared (none-up st blank DeclaredTwice (none-up st blank Name (none-up st blank BrokenForm (none-at-all st blank) (λ h. h)) (λ h. h)) (λ h. h)) (λ h. h))
+          (λ h. h)
   form-answers broken named = inl (BrokenForm, refl, record { says = tt; none-lower = λ q l. none-at-all st broken q (omega arith) })
 
   pub line-answers : (l : List ℕ) → Answers st (formOf l) (stepForm st (formOf l))
@@ -220,13 +227,16 @@ module _ (st : SoFar) (sound : Sound st) (l : List ℕ) where
 
 pub start-sound : (text : List ℕ) → Sound (start text)
 unfolding start
-start-sound text = record { different = λ h. h; classes-fit = omega arith }
+start-sound text = record { different = λ h. h; within-limits = none }
+  where
+    none : PassesLimit (start text) blank → ⊥
+    none (atoms-pass h) = omega arith
+    none (rules-pass h) = omega arith
+    none (occurrences-pass h) = omega arith
+    none (classes-pass h) = omega arith
 
 pub added-sound : (st : SoFar) → Sound st → (f : LineForm) → Faultless st f → Sound (added st f)
-added-sound st sound (declares w xs) none = record { different = none DeclaredTwice; classes-fit = fit (decLt classLimit (classesAfter w (st .classes))) }
-  where
-    fit : Dec (classLimit < classesAfter w (st .classes)) → classesAfter w (st .classes) ≤ classLimit
-    fit (yes h) = absurd (none Limit (classes-pass (omega (arith, classes-counted st w xs))))
-    fit (no h) = omega arith
-added-sound st sound (rules hs bs ns) none = record { different = sound .different; classes-fit = sound .classes-fit }
+added-sound st sound (declares w xs) none = record { different = none DeclaredTwice; within-limits = declared-within st w xs (none Limit) }
+added-sound st sound (rules hs bs ns) none = record { different = sound .different; within-limits = rule-within st hs bs ns (none Limit) }
+added-sound st sound blank none = sound
 added-sound st sound broken none = sound

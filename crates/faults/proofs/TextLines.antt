@@ -1,4 +1,4 @@
--- The lines of a text: they are what document 01's words say.
+-- The lines of a text and its kind: they are what the documents' words say.
 use Prim.Native.Nat.{ℕ, zero, suc, _+_}
 use native.Mathlib.Omega.{arith}
 use mathlib.Core.Path.{_≡_, refl, sym, ap, ap₂, _∙_, subst}
@@ -9,16 +9,23 @@ use lib.Dec.{T, eqb, eqb→eq}
 use lib.ListN.{length, take, drop, length-append, take-append-drop}
 use lib.Seq.{append-snoc, drop-nil, take-append-seam, drop-append-seam}
 use borrow.Author.Tests.{ne-eqb}
-use Rattle.kinds.specs.Words.{line-end}
-use Rattle.rules.specs.Lists.{flat}
+use Rattle.kinds.specs.Words.{line-end, atomsWord}
+use Rattle.rules.specs.Lists.{All, flat}
 use Rattle.rules.proofs.Booleans.{eq→eqb}
+use Rattle.kinds.specs.declared.limits.Kind.{Kind}
 use Rattle.kinds.specs.declared.limits.Kind.the-variants.{Plain, Preference}
-use Rattle.name_store.proofs.NameStores.{same-law}
-use Rattle.lines.specs.Forms.{atoms, begins, tagOf}
-use Rattle.lines.specs.Said.{start}
+use Rattle.name_store.specs.NameStore.{sameBytes}
+use Rattle.name_store.proofs.NameStores.{same-equal}
+use Rattle.lines.specs.Tokens.{Token, opening, word, tokens}
+use Rattle.lines.specs.Forms.{Opened, opened, unopened, openedOf}
+use Rattle.lines.specs.Said.{kindOpened, kindBy, kindOf, start}
 use Rattle.lines.specs.Lines.{lineLength, linesFrom, lines}
 use Rattle.lines.proofs.LinePlaces.{cut-first}
-use Rattle.faults.specs.TextLines.{NoEnd, EndedLine, EachEnded, AreLines, StartsWith}
+use Rattle.faults.specs.LineForms.{AreTokens}
+use Rattle.faults.specs.TextLines.{NoEnd, EndedLine, EachEnded, AreLines, OpensPlain}
+use Rattle.faults.proofs.Entries.{cons-same, no-cons, no-append}
+use Rattle.faults.proofs.LineTokens.{tokens-iff}
+use Rattle.faults.proofs.LineForms.{OpenedFrom, opened-from}
 
 joined-from : (k : ℕ) (s : List ℕ) → drop k s ≡ flat (λ l. l) (linesFrom k s)
 unfolding linesFrom lineLength
@@ -109,19 +116,70 @@ lines-iff text ls = (λ e. subst (AreLines text) e (found text), λ h. ap lines 
 
 -- the kind of a text
 
-begins-law : (tag text : List ℕ) → T (begins tag text) ↔ StartsWith tag text
-begins-law tag text = (
-  λ t. (drop (length tag) text, sym (take-append-drop (length tag) text) ∙ ap (λ s. s ++ drop (length tag) text) (same-law (take (length tag) text) tag .0 t)),
-  λ h. same-law (take (length tag) text) tag .1 (ap (take (length tag)) (h .1) ∙ take-append-seam tag (h .0)),
-)
-
-pub kind-iff : (text : List ℕ) → start text .kind ≡ Plain ↔ StartsWith (tagOf atoms) text
-unfolding start
-kind-iff text = go (begins (tagOf atoms) text) (begins-law (tagOf atoms) text)
+plain-opened : (o : Opened) (ts : List Token) → OpenedFrom ts o → kindOpened o ≡ Plain → (us : List Token) × (ts ≡ opening ∷ word atomsWord ∷ us)
+plain-opened (opened x us) ts f e = go (sameBytes x atomsWord) (same-equal x atomsWord) e
   where
-    differ : Preference ≡ Plain → ⊥
-    differ e = absurd (let z : _≡_ {A = ℕ} 0 1 = cc in omega arith)
+    go : (b : Bool) → (T b → x ≡ atomsWord) → cond b Plain Preference ≡ Plain → (vs : List Token) × (ts ≡ opening ∷ word atomsWord ∷ vs)
+    go true g e = (us, f ∙ ap (λ y. opening ∷ word y ∷ us) (g tt))
+    go false g e = absurd (let z : _≡_ {A = ℕ} 0 1 = cc in omega arith)
+plain-opened unopened ts f e = absurd (let z : _≡_ {A = ℕ} 0 1 = cc in omega arith)
 
-    go : (b : Bool) → T b ↔ StartsWith (tagOf atoms) text → cond b Plain Preference ≡ Plain ↔ StartsWith (tagOf atoms) text
-    go true law = (λ e. law .0 tt, λ h. refl)
-    go false law = (λ e. absurd (differ e), λ h. absurd (law .1 h))
+atoms-kind : (us : List Token) (later : Kind) → kindBy (opening ∷ word atomsWord ∷ us) later ≡ Plain
+unfolding openedOf sameBytes
+atoms-kind us later = refl
+
+module _ (l : List ℕ) (ls : List (List ℕ)) where
+  -- the line is blank, or it tells the kind
+  opens-cons : OpensPlain (l ∷ ls) → ((tokens l ≡ []) × OpensPlain ls) ⊎ ((us : List Token) × (tokens l ≡ opening ∷ word atomsWord ∷ us))
+  opens-cons h = go (h .before) (h .are-lines) (h .nothing-before)
+    where
+      go : (before : List (List ℕ)) → l ∷ ls ≡ before ++ (h .line ∷ h .later) → All (λ m. AreTokens m []) before
+          → ((tokens l ≡ []) × OpensPlain ls) ⊎ ((us : List Token) × (tokens l ≡ opening ∷ word atomsWord ∷ us))
+      go [] e n = inr (h .behind, ap tokens (cons-same e .0) ∙ tokens-iff (h .line) (opening ∷ word atomsWord ∷ h .behind) .1 (h .opens))
+      go (m ∷ before) e n = inl (
+        ap tokens (cons-same e .0) ∙ tokens-iff m [] .1 (n .0),
+        record { before = before; line = h .line; later = h .later; behind = h .behind; are-lines = cons-same e .1; nothing-before = n .1; opens = h .opens },
+      )
+
+  kind-step : kindOf ls ≡ Plain ↔ OpensPlain ls → (ts : List Token) → tokens l ≡ ts → kindBy ts (kindOf ls) ≡ Plain ↔ OpensPlain (l ∷ ls)
+  kind-step r [] q = (λ e. more (r .0 e), λ h. less (opens-cons h))
+    where
+      more : OpensPlain ls → OpensPlain (l ∷ ls)
+      more h = record {
+        before = l ∷ h .before;
+        line = h .line;
+        later = h .later;
+        behind = h .behind;
+        are-lines = ap (λ ms. l ∷ ms) (h .are-lines);
+        nothing-before = (tokens-iff l [] .0 q, h .nothing-before);
+        opens = h .opens;
+      }
+
+      less : ((tokens l ≡ []) × OpensPlain ls) ⊎ ((us : List Token) × (tokens l ≡ opening ∷ word atomsWord ∷ us)) → kindOf ls ≡ Plain
+      less (inl h) = r .1 (h .1)
+      less (inr h) = absurd (no-cons (sym (h .1) ∙ q))
+  kind-step r (t ∷ ts) q = (λ e. first (plain-opened (openedOf (t ∷ ts)) (t ∷ ts) (opened-from (t ∷ ts)) e), λ h. told (opens-cons h))
+    where
+      first : (us : List Token) × (t ∷ ts ≡ opening ∷ word atomsWord ∷ us) → OpensPlain (l ∷ ls)
+      first (us, e) = record {
+        before = [];
+        line = l;
+        later = ls;
+        behind = us;
+        are-lines = refl;
+        nothing-before = tt;
+        opens = tokens-iff l (opening ∷ word atomsWord ∷ us) .0 (q ∙ e);
+      }
+
+      told : ((tokens l ≡ []) × OpensPlain ls) ⊎ ((us : List Token) × (tokens l ≡ opening ∷ word atomsWord ∷ us)) → kindBy (t ∷ ts) (kindOf ls) ≡ Plain
+      told (inl h) = absurd (no-cons (sym q ∙ h .0))
+      told (inr h) = ap (λ us. kindBy us (kindOf ls)) (sym q ∙ h .1) ∙ atoms-kind (h .0) (kindOf ls)
+
+kind-of : (ls : List (List ℕ)) → kindOf ls ≡ Plain ↔ OpensPlain ls
+unfolding kindOf
+kind-of [] = (λ e. absurd (let z : _≡_ {A = ℕ} 0 1 = cc in omega arith), λ h. absurd (no-append (h .before) (h .line) (h .later) (sym (h .are-lines))))
+kind-of (l ∷ ls) = kind-step l ls (kind-of ls) (tokens l) refl
+
+pub kind-iff : (text : List ℕ) → start text .kind ≡ Plain ↔ OpensPlain (lines text)
+unfolding start
+kind-iff text = kind-of (lines text)

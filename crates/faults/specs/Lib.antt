@@ -1,7 +1,7 @@
--- What document 01 says of each refusal, and of the line that it is answered with.
-pub mod TextLines
+-- What the documents say of each refusal, and of the line that it is answered with.
 pub mod NameForms
 pub mod LineForms
+pub mod TextLines
 pub mod Sentences
 pub mod EarliestFault
 pub mod LineOrder

@@ -4,10 +4,20 @@ use mathlib.Core.Path.{_≡_}
 use mathlib.Core.List.{List, [], _∷_, _++_}
 use Rattle.kinds.specs.declared.limits.Kind.{Kind}
 use Rattle.kinds.specs.declared.limits.Kind.the-variants.{Plain, Preference}
-use Rattle.rules.specs.Lists.{All}
+use Rattle.rules.specs.Lists.{All, flat}
 use Rattle.lines.specs.declared.stage.Stage.{Stage}
 use Rattle.lines.specs.declared.stage.Stage.the-variants.{Declaring, Fixing, Ruling}
-use Rattle.lines.specs.Forms.{atoms, min, vary, fix, LineForm, declares, rules}
+use Rattle.lines.specs.Forms.{atoms, min, vary, fix, LineForm, declares, rules, blank, broken, formOf}
+
+-- blank lines are passed over
+abbrev pub unlessBlank : LineForm → List LineForm
+unlessBlank (declares w xs) = declares w xs ∷ []
+unlessBlank (rules hs bs ns) = rules hs bs ns ∷ []
+unlessBlank blank = []
+unlessBlank broken = broken ∷ []
+
+abbrev pub formsOf : List (List ℕ) → List LineForm
+formsOf ls = flat (λ l. unlessBlank (formOf l)) ls
 
 abbrev pub IsMin : LineForm → Type 0
 IsMin f = (xs : List (List ℕ)) × (f ≡ declares min xs)

@@ -3,8 +3,10 @@ use Prim.Native.Nat.{ℕ}
 use mathlib.Core.Path.{_≡_}
 use mathlib.Core.Logic.{_⊎_, _≢_}
 use mathlib.Core.List.{List, [], _∷_, _++_}
-use Rattle.kinds.specs.Words.{line-end}
+use Rattle.kinds.specs.Words.{line-end, atomsWord}
 use Rattle.rules.specs.Lists.{All, flat}
+use Rattle.lines.specs.Tokens.{Token, opening, word}
+use Rattle.faults.specs.LineForms.{AreTokens}
 
 abbrev pub NoEnd : List ℕ → Type 0
 NoEnd s = All (λ b. b ≢ line-end) s
@@ -21,6 +23,12 @@ EachEnded (l ∷ ls) = (EndedLine l × EachEnded ls) ⊎ (NoEnd l × (l ≢ []) 
 abbrev pub AreLines : List ℕ → List (List ℕ) → Type 0
 AreLines text ls = (text ≡ flat (λ l. l) ls) × EachEnded ls
 
--- "The kind is plain exactly when the text starts with `(atoms`."
-abbrev pub StartsWith : List ℕ → List ℕ → Type 0
-StartsWith tag text = (rest : List ℕ) × (text ≡ tag ++ rest)
+-- "the first bracket form tells the kind" (document 02, W-205): the first line that has a bracket or a word opens with `(atoms`
+pub record OpensPlain (ls : List (List ℕ)) : Type 0 where
+  pub before : List (List ℕ)
+  pub line : List ℕ
+  pub later : List (List ℕ)
+  pub behind : List Token
+  pub are-lines : ls ≡ before ++ (line ∷ later)
+  pub nothing-before : All (λ l. AreTokens l []) before
+  pub opens : AreTokens line (opening ∷ word atomsWord ∷ behind)

@@ -2,6 +2,7 @@
 pub mod Examples
 pub mod LineByLine
 pub mod WholeText
+pub mod StrictLines
 pub mod FormText
 pub mod NumberedNames
 pub mod ClassParts
@@ -9,5 +10,6 @@ pub mod UsedNames
 pub mod LineSteps
 pub mod Progress
 pub mod WrittenLines
+pub mod SameLines
 pub mod RoundTrip
 pub mod StatesLeft

@@ -1,4 +1,4 @@
--- What holds after each line that passes: the state so far is of the form, and its text is the text of the lines so far.
+-- What holds after each line that passes: the state so far is of the form, and its text is that of the lines so far as strict lines.
 use Prim.Native.Nat.{ℕ, zero, suc, _+_, _≤_, _<_}
 use native.Mathlib.Omega.{arith}
 use mathlib.Core.Path.{_≡_, refl, sym, ap, ap₂, _∙_, subst, subst₂}
@@ -21,14 +21,18 @@ use Rattle.kinds.specs.Words.{atomsWord, minWord, varyWord, fixWord}
 use Rattle.text.specs.Text.{listLine, ruleLine, ruleText, declarations, textOf}
 use Rattle.lines.specs.declared.stage.Stage.{Stage}
 use Rattle.lines.specs.declared.stage.Stage.the-variants.{Declaring, Fixing, Ruling}
-use Rattle.lines.specs.Forms.{Word, atoms, min, vary, fix, declares, rules, broken, formOf, begins, tagOf, LineForm}
+use Rattle.lines.specs.Lines.{lines}
+use Rattle.lines.specs.Tokens.{tokens}
+use Rattle.lines.specs.Strict.{strictLine}
+use Rattle.lines.specs.Forms.{Word, wordBytes, atoms, min, vary, fix, declares, rules, blank, broken, formOf, LineForm}
 use Rattle.lines.specs.Faults.{SoFar, Step, next, fault, ruling?, nameNumber, declared, numbered, with-rule, filled, stepForm}
-use Rattle.lines.specs.Said.{accepted, refused, start, onStep, readLines, programOf}
-use Rattle.faults.specs.LineForms.{HasForm}
+use Rattle.lines.specs.Said.{accepted, refused, kindOf, start, onStep, readLines, programOf}
+use Rattle.faults.specs.LineForms.{declaringTokens, ruleTokens, HasForm}
 use Rattle.faults.specs.Sentences.{Among, Comes, atoms-line, min-line, vary-line, fix-line}
+use Rattle.faults.proofs.LineTokens.{tokens-iff}
 use Rattle.faults.proofs.LineForms.{form-iff}
 use Rattle.faults.proofs.Tests.{comes-law}
-use Rattle.reader.proofs.FormText.{wordOf, list-line, rule-line}
+use Rattle.reader.proofs.FormText.{list-line, rule-line}
 use Rattle.reader.proofs.NumberedNames.{different-law, number-below, names-of-numbers, numbers-differ}
 use Rattle.reader.proofs.ClassParts.{classNames, words-fit, class-kept, class-new, all-replicate, rising-app, role-more, role-new}
 use Rattle.reader.proofs.LineSteps.{Declares, declare-said, Listed, Adds, rule-said}
@@ -194,13 +198,13 @@ module _ {text : List ℕ} (k : ℕ) (words : List ℕ) (names : List (List ℕ)
             ∙ ap₂ _++_ (ap₂ _++_ (min-lines-kept k words names same fixed xs (omega arith)) (line-kept k words names same fixed xs varyWord varying (omega arith)) ∙ s .text-is) (line-new k words names same fixed xs fixWord strict);
       }
 
-declare-step : (st : SoFar) (w : Word) (xs : List (List ℕ)) {text : List ℕ} → Reached st text → Declares st w xs → Reached (declared st w xs) (text ++ listLine (wordOf w) xs)
+declare-step : (st : SoFar) (w : Word) (xs : List (List ℕ)) {text : List ℕ} → Reached st text → Declares st w xs → Reached (declared st w xs) (text ++ listLine (wordBytes w) xs)
 declare-step st w xs {text} s d = go (comes-law (st .kind) (st .stage) w .0 (d .expected)) s d
   where
     go : {kind : Kind} {stage : Stage} {v : Word} → Comes kind stage v
         → Reached (state kind stage (st .classes) (st .words) (st .names) (st .program-rules)) text
         → Declares (state kind stage (st .classes) (st .words) (st .names) (st .program-rules)) v xs
-        → Reached (declared (state kind stage (st .classes) (st .words) (st .names) (st .program-rules)) v xs) (text ++ listLine (wordOf v) xs)
+        → Reached (declared (state kind stage (st .classes) (st .words) (st .names) (st .program-rules)) v xs) (text ++ listLine (wordBytes v) xs)
     go atoms-line = atoms-step (st .classes) (st .words) (st .names) (st .program-rules) xs
     go min-line = min-step (st .classes) (st .words) (st .names) (st .program-rules) xs
     go vary-line = vary-step (st .classes) (st .words) (st .names) (st .program-rules) xs
@@ -278,15 +282,28 @@ rule-step st hs bs ns {text} s d = go (st .stage) (d .ruling) s d
 
 -- every line
 
-line-step : (st : SoFar) (l : List ℕ) {after : SoFar} {text : List ℕ} → Reached st text → stepForm st (formOf l) ≡ next after → Reached after (text ++ l)
+abbrev pub strict : List ℕ → List ℕ
+strict l = strictLine (tokens l)
+
+line-step : (st : SoFar) (l : List ℕ) {after : SoFar} {text : List ℕ} → Reached st text → stepForm st (formOf l) ≡ next after → Reached after (text ++ strict l)
 line-step st l {after} {text} s = go (formOf l) (form-iff l (formOf l) .0 refl)
   where
-    go : (f : LineForm) → HasForm l f → stepForm st f ≡ next after → Reached after (text ++ l)
-    go (declares w xs) h e = let d = declare-said st w xs after e in subst₂ (λ a m. Reached a (text ++ m)) (d .1) (list-line w xs ∙ sym (h .0)) (declare-step st w xs s (d .0))
-    go (rules hs bs ns) h e = let d = rule-said st hs bs ns after e in subst₂ (λ a m. Reached a (text ++ m)) (d .1) (rule-line hs bs ns ∙ sym (h .0)) (rule-step st hs bs ns s (d .0))
+    go : (f : LineForm) → HasForm l f → stepForm st f ≡ next after → Reached after (text ++ strict l)
+    go (declares w xs) h e =
+        let d = declare-said st w xs after e in
+        let line = ap strictLine (tokens-iff l (declaringTokens w xs) .1 (h .1)) ∙ list-line w xs in
+        subst₂ (λ a m. Reached a (text ++ m)) (d .1) (sym line) (declare-step st w xs s (d .0))
+    go (rules hs bs ns) h e =
+        let d = rule-said st hs bs ns after e in
+        let line = ap strictLine (tokens-iff l (ruleTokens hs bs ns) .1 (h .1)) ∙ rule-line hs bs ns in
+        subst₂ (λ a m. Reached a (text ++ m)) (d .1) (sym line) (rule-step st hs bs ns s (d .0))
+    go blank h e =
+        let same : st ≡ after = cc in
+        let line : text ≡ text ++ strict l = sym (ap (λ ts. text ++ strictLine ts) (tokens-iff l [] .1 (h .1)) ∙ append-nil text) in
+        subst₂ Reached same line s
     go broken h e = absurd (let z : _≡_ {A = ℕ} 0 1 = cc in omega arith)
 
--- what all lines together say: stores of the form, whose text they are
+-- what all lines together say: stores of the form, whose text is theirs as strict lines
 pub record AllSaid (p : Program) (names : List (List ℕ)) (text : List ℕ) : Type 0 where
   pub form : ProgramForm p
   pub names-form : NamesForm (p .kind) (p .atoms) names
@@ -300,7 +317,7 @@ all-said {st} {text} s r = record { form = s .form; names-form = s .names-form; 
     go Fixing h e = absurd h
     go Ruling h e = e
 
-pub lines-said : (k : ℕ) (st : SoFar) (ls : List (List ℕ)) (text : List ℕ) {p : Program} {names : List (List ℕ)} → Reached st text → readLines k st ls ≡ accepted p names → AllSaid p names (text ++ flat (λ m. m) ls)
+pub lines-said : (k : ℕ) (st : SoFar) (ls : List (List ℕ)) (text : List ℕ) {p : Program} {names : List (List ℕ)} → Reached st text → readLines k st ls ≡ accepted p names → AllSaid p names (text ++ flat strict ls)
 unfolding readLines
 lines-said k st [] text {p} {names} s e = go (ruling? (st .stage)) (λ t. t) e
   where
@@ -313,25 +330,25 @@ lines-said k st [] text {p} {names} s e = go (ruling? (st .stage)) (λ t. t) e
 lines-said k st (l ∷ ls) text {p} {names} s e = go (stepForm st (formOf l)) (λ after. line-step st l s) (λ after t. lines-said (suc k) after ls t) e
   where
     go : (q : Step)
-        → ((after : SoFar) → q ≡ next after → Reached after (text ++ l))
-        → ((after : SoFar) (t : List ℕ) → Reached after t → readLines (suc k) after ls ≡ accepted p names → AllSaid p names (t ++ flat (λ m. m) ls))
+        → ((after : SoFar) → q ≡ next after → Reached after (text ++ strict l))
+        → ((after : SoFar) (t : List ℕ) → Reached after t → readLines (suc k) after ls ≡ accepted p names → AllSaid p names (t ++ flat strict ls))
         → onStep q k (λ after. readLines (suc k) after ls) ≡ accepted p names
-        → AllSaid p names (text ++ (l ++ flat (λ m. m) ls))
-    go (next after) f rec i = subst (AllSaid p names) (append-assoc text l (flat (λ m. m) ls)) (rec after (text ++ l) (f after refl) i)
+        → AllSaid p names (text ++ (strict l ++ flat strict ls))
+    go (next after) f rec i = subst (AllSaid p names) (append-assoc text (strict l) (flat strict ls)) (rec after (text ++ strict l) (f after refl) i)
     go (fault r) f rec i = absurd (let z : _≡_ {A = ℕ} 0 1 = cc in omega arith)
 
 pub start-said : (text : List ℕ) → Reached (start text) []
 unfolding start
-start-said text = go (begins (tagOf atoms) text)
+start-said text = go (kindOf (lines text))
   where
-    go : (b : Bool) → Reached (state (cond b Plain Preference) Declaring 0 [] [] []) []
-    go true = record {
+    go : (k : Kind) → Reached (state k Declaring 0 [] [] []) []
+    go Plain = record {
       form = record { atoms-fit = omega arith; rules-fit = omega arith; occurrences-fit = omega arith; classes-form = (refl, refl); rule-forms = tt };
       names-form = record { count = refl; all-allowed = tt; different = tt };
       stage-form = (refl, refl);
       text-is = refl;
     }
-    go false = record {
+    go Preference = record {
       form = record { atoms-fit = omega arith; rules-fit = omega arith; occurrences-fit = omega arith; classes-form = (omega arith, refl, tt, tt); rule-forms = tt };
       names-form = record { count = refl; all-allowed = tt; different = tt };
       stage-form = (tt, refl);

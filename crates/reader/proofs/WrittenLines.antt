@@ -26,7 +26,7 @@ use Rattle.text.specs.Text.{named, listLine, ruleLine, ruleText, declarations}
 use Rattle.lines.specs.declared.stage.Stage.{Stage}
 use Rattle.lines.specs.declared.stage.Stage.the-variants.{Declaring, Fixing, Ruling}
 use Rattle.lines.specs.Lines.{lines}
-use Rattle.lines.specs.Forms.{Word, atoms, min, vary, fix, LineForm, declares, rules, isName}
+use Rattle.lines.specs.Forms.{Word, wordBytes, atoms, min, vary, fix, LineForm, declares, rules, isName}
 use Rattle.lines.specs.Faults.{SoFar, countsOf, next, expects, stageAfter, classesAfter, classWords, declared, numbered, with-rule, filled, stepForm}
 use Rattle.lines.specs.Said.{onStep, readLines}
 use Rattle.gathering.proofs.HeldState.{Fits}
@@ -35,7 +35,7 @@ use Rattle.faults.specs.LineForms.{IsName, HasForm}
 use Rattle.faults.specs.Sentences.{Among}
 use Rattle.faults.proofs.TextLines.{lines-iff}
 use Rattle.faults.proofs.LineForms.{name-law, form-iff}
-use Rattle.reader.proofs.FormText.{wordOf, list-line, list-ended, rule-line, rule-ended}
+use Rattle.reader.proofs.FormText.{list-ended, list-declares, rule-ended, rule-rules}
 use Rattle.reader.proofs.NumberedNames.{different-law, declared-at, numbers-of-names, names-differ}
 use Rattle.reader.proofs.ClassParts.{chosen, is, upTo, classNames, class-chosen, chosen-none, chosen-every, all-chosen, distinct-chosen, length-chosen, chosen-words, Next, chosen-next, role-parts}
 use Rattle.reader.proofs.LineSteps.{Declares, declare-says, Listed, Adds, rule-says}
@@ -57,7 +57,7 @@ reads-then {a} {b} {c} {s} {t} f g = record { reads = both }
         let q = g .reads (r .0) rest in
         (q .0, ap (λ l. readLines k a (lines l)) (append-assoc s t rest) ∙ r .1 ∙ q .1)
 
-lines-cons : (l rest : List ℕ) → EndedLine l → lines (l ++ rest) ≡ l ∷ lines rest
+pub lines-cons : (l rest : List ℕ) → EndedLine l → lines (l ++ rest) ≡ l ∷ lines rest
 lines-cons l rest h =
     let later = lines-iff rest (lines rest) .0 refl in
     lines-iff (l ++ rest) (l ∷ lines rest) .1 (ap (λ t. l ++ t) (later .0), inl (h, later .1))
@@ -85,17 +85,17 @@ allowed-name kind x h = name-law x .0 (go kind (nameClass x) h)
 allowed-names : (kind : Kind) (xs : List (List ℕ)) → All (λ x. T (allowed kind x)) xs → All IsName xs
 allowed-names kind xs h = all-imp (λ x. T (allowed kind x)) IsName (allowed-name kind) xs h
 
-reads-declares : {st : SoFar} {w : Word} {xs : List (List ℕ)} → Declares st w xs → Reads st (listLine (wordOf w) xs) (declared st w xs)
+reads-declares : {st : SoFar} {w : Word} {xs : List (List ℕ)} → Declares st w xs → Reads st (listLine (wordBytes w) xs) (declared st w xs)
 reads-declares {st} {w} {xs} d =
     let h = allowed-names (st .kind) xs (d .all-allowed) in
-    reads-line (listLine (wordOf w) xs) (declares w xs) (list-ended w xs h) (list-line w xs, h) (declare-says st w xs d)
+    reads-line (listLine (wordBytes w) xs) (declares w xs) (list-ended w xs h) (list-declares w xs h) (declare-says st w xs d)
 
 reads-rule : {st : SoFar} {hs bs ns : List (List ℕ)} → Adds st hs bs ns → Reads st (ruleLine hs bs ns) (with-rule st (numbered (st .names) hs bs ns))
 reads-rule {st} {hs} {bs} {ns} d =
     let h = allowed-names (st .kind) hs (d .head-listed .all-allowed) in
     let b = allowed-names (st .kind) bs (d .body-listed .all-allowed) in
     let n = allowed-names (st .kind) ns (d .nots-listed .all-allowed) in
-    reads-line (ruleLine hs bs ns) (rules hs bs ns) (rule-ended hs bs ns h b n) (rule-line hs bs ns, h, b, n) (rule-says st hs bs ns d)
+    reads-line (ruleLine hs bs ns) (rules hs bs ns) (rule-ended hs bs ns h b n) (rule-rules hs bs ns h b n) (rule-says st hs bs ns d)
 
 pub counted : {kind : Kind} {n : ℕ} {names : List (List ℕ)} → NamesForm kind n names → NamesForm kind (length names) names
 counted f = record { count = refl; all-allowed = f .all-allowed; different = f .different }
@@ -150,7 +150,7 @@ module _ (kind : Kind) (k : ℕ) (words : List ℕ) (names : List (List ℕ)) (f
 
 -- the declarations of a plain program
 
-reads-atoms : (names : List (List ℕ)) → NamesForm Plain (length names) names → length names ≤ atomLimit Plain → Reads (state Plain Declaring 0 [] [] []) (listLine (wordOf atoms) names) (state Plain Ruling 0 [] names [])
+reads-atoms : (names : List (List ℕ)) → NamesForm Plain (length names) names → length names ≤ atomLimit Plain → Reads (state Plain Declaring 0 [] [] []) (listLine (wordBytes atoms) names) (state Plain Ruling 0 [] names [])
 reads-atoms names f room = reads-declares {w = atoms} (record {
   expected = tt;
   all-allowed = f .all-allowed;
@@ -182,7 +182,7 @@ module _ (k : ℕ) (words : List ℕ) (names : List (List ℕ)) (few : k ≤ cla
       → T (expects Preference stage w)
       → ((c : ℕ) → classWords w j c ≡ replicate c b)
       → classesAfter w j ≤ classLimit
-      → Reads (part a stage j) (listLine (wordOf w) (classNames words names b)) (part b (stageAfter w) (classesAfter w j))
+      → Reads (part a stage j) (listLine (wordBytes w) (classNames words names b)) (part b (stageAfter w) (classesAfter w j))
   class-read a b l gap stage j w ok word fits =
       let old = chosen (upTo a) words names in
       let xs = chosen (is b) words names in
@@ -197,7 +197,7 @@ module _ (k : ℕ) (words : List ℕ) (names : List (List ℕ)) (few : k ≤ cla
       let words-are : chosen (upTo a) words words ++ classWords w j (length xs) ≡ chosen (upTo b) words words =
       (ap (λ v. chosen (upTo a) words words ++ v) (word (length xs) ∙ sym (chosen-words b words names same))
       ∙ sym (chosen-next a b l 0 words words rising gap)) in
-      subst₂ (λ ys st. Reads (part a stage j) (listLine (wordOf w) ys) st) (sym (class-chosen words names b same))
+      subst₂ (λ ys st. Reads (part a stage j) (listLine (wordBytes w) ys) st) (sym (class-chosen words names b same))
       (ap₂ (λ ws ns. state Preference (stageAfter w) (classesAfter w j) ws ns []) words-are (sym e)) (reads-declares d)
 
   reads-mins : (c j : ℕ) → j + c ≡ k → Reads (part j Declaring j) (flat (λ i. listLine minWord (classNames words names i)) (from (suc j) c)) (part k Declaring k)
@@ -243,7 +243,7 @@ pub reads-declarations : (kind : Kind) (p : Program) (names : List (List ℕ)) �
     → Reads (state kind Declaring 0 [] [] []) (declarations kind p names) (state kind Ruling (p .classes) (p .words) names [])
 reads-declarations Plain p names c f room =
     let n : length names ≡ p .atoms = f .count in
-    subst₂ (λ k ws. Reads (state Plain Declaring 0 [] [] []) (listLine (wordOf atoms) names) (state Plain Ruling k ws names [])) (sym (c .0)) (sym (c .1)) (reads-atoms names (counted f) (omega arith))
+    subst₂ (λ k ws. Reads (state Plain Declaring 0 [] [] []) (listLine (wordBytes atoms) names) (state Plain Ruling k ws names [])) (sym (c .0)) (sym (c .1)) (reads-atoms names (counted f) (omega arith))
 reads-declarations Preference p names c f room =
     let n : length names ≡ p .atoms = f .count in
     reads-classes (p .classes) (p .words) names (c .0) (c .1 ∙ sym n) (c .2) (c .3) (counted f) (omega arith) (p .atoms) (p .rules)

@@ -1,4 +1,4 @@
--- What the writer gives for stores that were read, and the reader for a text that was written (document 01, "The writer gives for an accepted text's stores the same text"; document 02, W-203).
+-- What the writer gives for stores that were read, and the reader for a text that was written (document 01, "The writer gives for an accepted text's stores the same text"; document 02, W-203 and W-205).
 use Prim.Native.Nat.{ℕ}
 use mathlib.Core.Path.{_≡_}
 use mathlib.Core.Logic.{_↔_}
@@ -13,6 +13,7 @@ use Rattle.name_store.specs.NameStore.{NamesForm}
 use Rattle.restriction.specs.Atoms.{used?}
 use Rattle.restriction.specs.Remaining.{remaining, remainingNames, AllUsed}
 use Rattle.text.specs.Text.{listLine, named, ruleText, textOf}
+use Rattle.lines.specs.Strict.{strictText, Strict}
 use Rattle.faults.specs.EarliestFault.{Accepts}
 
 -- the line of a class word, without the names of atoms that stand in no rule
@@ -26,11 +27,14 @@ usedText p names =
 
 -- the stores of an accepted text, written
 pub record WritesBack (text : List ℕ) (p : Program) (names : List (List ℕ)) (a : Accepts text p names) : Type 0 where
-  -- a plain text comes back
-  pub plain : p .kind ≡ Plain → textOf p names ≡ text
-  -- a preference text comes back without the names that no rule has, and unaltered exactly when it has none of these
+  -- all that is declared gives the text's brackets and words with strict spacing
+  pub whole : textOf (a .1 .whole) (a .1 .whole-names) ≡ strictText text
+  -- so does a plain text, which comes back unaltered exactly when it is strict
+  pub plain : p .kind ≡ Plain → textOf p names ≡ strictText text
+  pub plain-unaltered : p .kind ≡ Plain → (textOf p names ≡ text) ↔ Strict text
+  -- a preference text comes back so without the names that no rule has, and unaltered exactly when it is strict and has none of these
   pub preference : p .kind ≡ Preference → textOf p names ≡ usedText (a .1 .whole) (a .1 .whole-names)
-  pub unaltered : p .kind ≡ Preference → (textOf p names ≡ text) ↔ AllUsed (a .1 .whole)
+  pub unaltered : p .kind ≡ Preference → (textOf p names ≡ text) ↔ (Strict text × AllUsed (a .1 .whole))
   -- and what was written is read as what was read
   pub again : Accepts (textOf p names) p names
 
@@ -38,3 +42,5 @@ pub record RoundTrips : Type 0 where
   pub read-write : (text : List ℕ) (p : Program) (names : List (List ℕ)) (a : Accepts text p names) → WritesBack text p names a
   -- two stores of the form, written and read: a preference store comes back without its unused atoms, a plain one as it was
   pub write-read : (p : Program) (names : List (List ℕ)) → ProgramForm p → NamesForm (p .kind) (p .atoms) names → Accepts (textOf p names) (remaining p) (remainingNames p names)
+  -- every text that is written is strict
+  pub strict : (p : Program) (names : List (List ℕ)) → ProgramForm p → NamesForm (p .kind) (p .atoms) names → Strict (textOf p names)

@@ -1,10 +1,16 @@
--- The texts that are written from two stores of the form (document 01, the rule store and the name store).
-use Prim.Native.Nat.{ℕ}
+-- The texts that are written from two stores of the form (document 01, the rule store and the name store), and the texts that are accepted (document 02, W-205).
+use Prim.Native.Nat.{ℕ, _≤_}
 use mathlib.Core.Path.{_≡_}
 use mathlib.Core.List.{List}
+use lib.ListN.{length}
+use Rattle.kinds.specs.Limits.{textLimit}
+use Rattle.rules.specs.Lists.{All}
 use Rattle.stores.specs.Program.{Program, ProgramForm}
 use Rattle.name_store.specs.NameStore.{NamesForm}
 use Rattle.text.specs.Text.{textOf}
+use Rattle.lines.specs.Lines.{lines}
+use Rattle.lines.specs.Strict.{strictText}
+use Rattle.faults.specs.LineForms.{Ended}
 
 pub record WrittenText (text : List ℕ) : Type 0 where
   pub program : Program
@@ -12,3 +18,9 @@ pub record WrittenText (text : List ℕ) : Type 0 where
   pub form : ProgramForm program
   pub names-form : NamesForm (program .kind) (program .atoms) names
   pub is-text : textOf program names ≡ text
+
+-- spacing, blank lines and comments apart, a text that is written
+pub record TypedText (text : List ℕ) : Type 0 where
+  pub short : length text ≤ textLimit
+  pub ended : All Ended (lines text)
+  pub written : WrittenText (strictText text)
