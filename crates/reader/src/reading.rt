@@ -88,12 +88,18 @@ fn read_line(
     let stage = gathered.stage;
     if rule_line::is_ruling(stage) {
         return rule_line::read_rule(
-            line, kind, gathered, words, bytes, starts, firsts, links, marks,
+            line,
+            kind,
+            gathered,
+            words,
+            bytes,
+            starts,
+            firsts,
+            links,
+            marks,
         );
     }
-    declared_line::read_declared(
-        line, kind, gathered, words, bytes, starts, firsts, links,
-    )
+    declared_line::read_declared(line, kind, gathered, words, bytes, starts, firsts, links)
 }
 
 // A line's refusal, passed on with the line.
