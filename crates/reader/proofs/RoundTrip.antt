@@ -112,7 +112,7 @@ unfolding textOf
 start-program p names = start-is (p .kind) p names (flat (ruleText names) (p .rules))
 
 -- stores of the form are written to a text that declares them
-write-typed : (p : Program) (names : List (List ℕ)) → ProgramForm p → NamesForm (p .kind) (p .atoms) names → typed (textOf p names) ≡ accepted p names
+pub write-typed : (p : Program) (names : List (List ℕ)) → ProgramForm p → NamesForm (p .kind) (p .atoms) names → typed (textOf p names) ≡ accepted p names
 write-typed p names f g =
     typed-read (textOf p names) (state (p .kind) Declaring 0 [] [] []) (endState p names) (text-fits f g) (start-program p names) (reads-program p names f g) tt
     ∙ ap (λ n. accepted (counting n) names) (g .count)
