@@ -21,7 +21,7 @@ use Rattle.reader.proofs.RoundTrip.{accepted-form, write-typed, write-read}
 use Rattle.canonical.specs.Canonical.{canonical}
 use Rattle.canonical.specs.CanonicalProgram.{canonicalProgram, SamePrograms}
 use Rattle.canonical.proofs.CanonicalRules.{canonical-same, canonical-twice, canonical-stable, canonical-preferred}
-use Rattle.canonical.proofs.CanonicalForms.{canonical-form}
+use Rattle.canonical.proofs.CanonicalForm.{canonical-form}
 use Rattle.answers.specs.WritingCanonical.{canonicalText, storesCanonical}
 use Rattle.canonical_text.specs.CanonicalTexts.{Formed, EqualTexts, WrittenAgain, CanonicalTexts, SameStates, CanonicalStates}
 use Rattle.canonical_text.proofs.UsedAtoms.{canonical-used}
