@@ -13,7 +13,7 @@ use Rattle.rules.proofs.Lists.{all-imp, all-map}
 use Rattle.stores.specs.Program.{Program, ProgramForm, RuleForm, ListForm, NotForm}
 use Rattle.canonical.specs.Order.{Order, numbers, place, insert, ordered, Ascending}
 use Rattle.canonical.specs.Canonical.{compareRules, tidy, canonical}
-use Rattle.canonical.specs.CanonicalProgram.{canonicalProgram}
+use Rattle.canonical.specs.CanonicalProgram.{tidyProgram, canonicalProgram}
 use Rattle.canonical.specs.declared.comparison.Comparison.{Comparison}
 use Rattle.canonical.specs.declared.comparison.Comparison.the-variants.{Less, Same, More}
 use Rattle.canonical.proofs.Orders.{less-number, number-order, rule-order}
@@ -38,7 +38,7 @@ count-sum : {A : Type 0} (l : List A) → length l ≡ sum (λ (a : A). 1) l
 count-sum [] = refl
 count-sum (x ∷ l) = let h = count-sum l in omega arith
 
-pub ordered-fewer : {A : Type 0} (c : A → A → Comparison) (l : List A) → length (ordered c l) ≤ length l
+ordered-fewer : {A : Type 0} (c : A → A → Comparison) (l : List A) → length (ordered c l) ≤ length l
 ordered-fewer c l = omega (arith, ordered-sum c (λ a. 1) l, count-sum (ordered c l), count-sum l)
 
 -- lists
@@ -56,7 +56,7 @@ ordered-not Preference l h = ap (ordered numbers) h
 
 -- rules
 
-pub tidy-form : (kind : Kind) (n : ℕ) (r : Rule ℕ) → RuleForm kind n r → RuleForm kind n (tidy r)
+tidy-form : (kind : Kind) (n : ℕ) (r : Rule ℕ) → RuleForm kind n r → RuleForm kind n (tidy r)
 unfolding tidy
 tidy-form kind n r h = record {
   head-form = ordered-form n (r .head) (h .head-form);
@@ -65,20 +65,28 @@ tidy-form kind n r h = record {
   no-nots = ordered-not kind (r .nots) (h .no-nots);
 }
 
-pub tidy-forms : (kind : Kind) (n : ℕ) (rs : List (Rule ℕ)) → All (RuleForm kind n) rs → All (RuleForm kind n) (map tidy rs)
-tidy-forms kind n rs h = all-map (RuleForm kind n) tidy rs (all-imp (RuleForm kind n) (λ r. RuleForm kind n (tidy r)) (tidy-form kind n) rs h)
-
-pub tidy-occurrences : (rs : List (Rule ℕ)) → sum occurrences (map tidy rs) ≤ sum occurrences rs
+tidy-occurrences : (rs : List (Rule ℕ)) → sum occurrences (map tidy rs) ≤ sum occurrences rs
 unfolding tidy
 tidy-occurrences [] = omega arith
 tidy-occurrences (r ∷ rs) = omega (arith, ordered-fewer numbers (r .head), ordered-fewer numbers (r .body), ordered-fewer numbers (r .nots), tidy-occurrences rs)
 
+pub tidy-program-form : (p : Program) → ProgramForm p → ProgramForm (tidyProgram p)
+tidy-program-form p f = record {
+  atoms-fit = f .atoms-fit;
+  rules-fit = omega (arith, f .rules-fit, length-map (p .rules) tidy);
+  occurrences-fit = omega (arith, f .occurrences-fit, tidy-occurrences (p .rules));
+  classes-form = f .classes-form;
+  rule-forms = all-map (RuleForm (p .kind) (p .atoms)) tidy (p .rules) (all-imp (RuleForm (p .kind) (p .atoms)) (λ r. RuleForm (p .kind) (p .atoms) (tidy r)) (tidy-form (p .kind) (p .atoms)) (p .rules) (f .rule-forms));
+}
+
 pub canonical-form : (p : Program) → ProgramForm p → ProgramForm (canonicalProgram p)
 unfolding canonicalProgram canonical
-canonical-form p f = record {
-  atoms-fit = f .atoms-fit;
-  rules-fit = omega (arith, f .rules-fit, ordered-fewer compareRules (map tidy (p .rules)), length-map (p .rules) tidy);
-  occurrences-fit = omega (arith, f .occurrences-fit, ordered-sum compareRules occurrences (map tidy (p .rules)), tidy-occurrences (p .rules));
-  classes-form = f .classes-form;
-  rule-forms = ordered-all compareRules rule-order (RuleForm (p .kind) (p .atoms)) (map tidy (p .rules)) (tidy-forms (p .kind) (p .atoms) (p .rules) (f .rule-forms));
-}
+canonical-form p f =
+    let t = tidy-program-form p f in
+    record {
+      atoms-fit = f .atoms-fit;
+      rules-fit = omega (arith, t .rules-fit, ordered-fewer compareRules (map tidy (p .rules)));
+      occurrences-fit = omega (arith, t .occurrences-fit, ordered-sum compareRules occurrences (map tidy (p .rules)));
+      classes-form = f .classes-form;
+      rule-forms = ordered-all compareRules rule-order (RuleForm (p .kind) (p .atoms)) (map tidy (p .rules)) (t .rule-forms);
+    }
