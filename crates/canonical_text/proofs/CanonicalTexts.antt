@@ -18,7 +18,6 @@ use Rattle.text.specs.Text.{textOf}
 use Rattle.faults.specs.EarliestFault.{Accepts}
 use Rattle.faults.proofs.EarliestFault.{same-accepted, said-accepted}
 use Rattle.reader.proofs.RoundTrip.{accepted-form, write-typed, write-read}
-use Rattle.canonical.specs.Canonical.{canonical}
 use Rattle.canonical.specs.CanonicalProgram.{canonicalProgram, SamePrograms}
 use Rattle.canonical.proofs.CanonicalRules.{canonical-same, canonical-twice, canonical-stable, canonical-preferred}
 use Rattle.canonical.proofs.CanonicalForm.{canonical-form}
