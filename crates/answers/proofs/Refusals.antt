@@ -24,7 +24,8 @@ use Rattle.faults.proofs.EarliestFault.{said-refused, said-accepted}
 use Rattle.lines.specs.Said.{refused}
 use Rattle.answers.specs.declared.Written.{Written}
 use Rattle.answers.specs.declared.Written.the-variants.{Text, Refused as NotWritten}
-use Rattle.answers.specs.Writing.{fitted, writtenBytes, storesText, writeAnswer, writeOutput}
+use Rattle.answers.specs.Writing.{fitted, writtenBytes, storesAnswer, storesText, writeAnswer, writeOutput}
+use Rattle.answers.specs.WritingCanonical.{storesCanonical, canonicalAnswer, canonicalOutput}
 use Rattle.answers.specs.Translating.{translationText, storesTranslation, translateAnswer, translateOutput}
 use Rattle.walks.specs.declared.answers.Verdict.the-variants.{Refused as NotJudged}
 use Rattle.walks.specs.declared.answers.NextState.the-variants.{Refused as NotSearched}
@@ -37,7 +38,7 @@ use Rattle.walks.proofs.NextStates.{next-means}
 use Rattle.answers.specs.Printed.{shown}
 use Rattle.answers.specs.Listed.{wholeListing, streamed, statesOf}
 use Rattle.answers.specs.Programs.{printed, translatePrinted, statesPrinted}
-use Rattle.answers.specs.Refusals.{PrintsInto, Streams, PrintRefuses, Tested, NoOther, Passes, NoStore, NoStoreOf, NoNames, TooShort, StoresRefused, StoresPass, NumberRefused, Writes, WriteRefuses, TranslateRefuses, CallRefused, VerdictRefuses}
+use Rattle.answers.specs.Refusals.{PrintsInto, Streams, PrintRefuses, Tested, NoOther, Passes, NoStore, NoStoreOf, NoNames, TooShort, StoresRefused, StoresPass, NumberRefused, Writes, WritesText, WriteRefuses, CanonicalRefuses, TranslateRefuses, CallRefused, VerdictRefuses}
 
 -- one test of an answer: where it fails, the refusal x
 module _ {A : Type 0} (refuse : Refusal → A) (inj : (x y : Refusal) → refuse x ≡ refuse y → x ≡ y) {Sentence : Type 0} (b : Bool) (law : Sentence ↔ (T b → ⊥)) (x : Refusal) where
@@ -141,24 +142,35 @@ writes answer text before sizes = record {
   written = λ size e. ap (λ (a : Written). over (writtenBytes a text) before) e ∙ ap (λ (k : ℕ). text ++ drop k before) (sym (sizes size e));
 }
 
--- the writer
+-- a writer, from its two tests
+module _ {NoRules : Type 0} (rules names text before : List ℕ) (a b : Bool) (law : NoRules ↔ (T a → ⊥)) (named : T a → NoNames rules names ↔ (T b → ⊥)) where
+  abbrev answer : Written
+  answer = cond a (cond b (fitted text (length before)) (NotWritten NameStore)) (NotWritten RuleStore)
 
-module _ (rules names : List ℕ) (room : ℕ) where
-  write-passes : (size : ℕ) → writeAnswer rules names room ≡ Text size
-      ↔ Passes (NoStore rules) (StoresPass rules names (storesText rules names) room (size ≡ length (storesText rules names)))
-  unfolding writeAnswer
-  write-passes size =
-      passed-by NotWritten written-inj (store? rules) (no-store rules) RuleStore (Text size) never-text (λ t.
-      passed-by NotWritten written-inj (names? (decode rules .kind) (decode rules .atoms) names) (no-names rules names) NameStore (Text size) never-text (λ u. fitted-written (storesText rules names) room size))
+  passes : (size : ℕ) → answer ≡ Text size ↔ Passes NoRules (StoresPass rules names text (length before) (size ≡ length text))
+  passes size =
+      passed-by NotWritten written-inj a law RuleStore (Text size) never-text (λ t.
+      passed-by NotWritten written-inj b (named t) NameStore (Text size) never-text (λ u. fitted-written text (length before) size))
+
+  writes-text : WritesText NoRules rules names text before answer (over (writtenBytes answer text) before)
+  writes-text = record {
+    refused = λ r. refused-by NotWritten written-inj a law RuleStore (StoresRefused rules names text (length before)) r (λ t.
+        refused-by NotWritten written-inj b (named t) NameStore (Tested Output (TooShort text (length before)) NoOther) r (λ u. fitted-refused text (length before) r));
+    written = passes;
+    output = writes answer text before (λ size e. passes size .0 e .1 .1 .1);
+  }
+
+stores-text : (rules names text before : List ℕ)
+    → WritesText (NoStore rules) rules names text before (storesAnswer rules names text (length before)) (over (writtenBytes (storesAnswer rules names text (length before)) text) before)
+stores-text rules names text before = writes-text rules names text before (store? rules) (names? (decode rules .kind) (decode rules .atoms) names) (no-store rules) (λ t. no-names rules names)
 
 pub write-refuses : (rules names before : List ℕ) → WriteRefuses rules names before
 unfolding writeAnswer writeOutput
-write-refuses rules names before = record {
-  refused = λ r. refused-by NotWritten written-inj (store? rules) (no-store rules) RuleStore (StoresRefused rules names (storesText rules names) (length before)) r (λ t.
-      refused-by NotWritten written-inj (names? (decode rules .kind) (decode rules .atoms) names) (no-names rules names) NameStore (Tested Output (TooShort (storesText rules names) (length before)) NoOther) r (λ u. fitted-refused (storesText rules names) (length before) r));
-  written = write-passes rules names (length before);
-  output = writes (writeAnswer rules names (length before)) (storesText rules names) before (λ size e. write-passes rules names (length before) size .0 e .1 .1 .1);
-}
+write-refuses rules names before = stores-text rules names (storesText rules names) before
+
+pub canonical-refuses : (rules names before : List ℕ) → CanonicalRefuses rules names before
+unfolding canonicalAnswer canonicalOutput
+canonical-refuses rules names before = stores-text rules names (storesCanonical rules names) before
 
 -- the translator: past the first test the kind is Preference
 
@@ -173,22 +185,11 @@ kind-is rules t = step (ruleStore rules) refl t
 no-preference-names : (rules bytes : List ℕ) → T (isOf Preference (ruleStore rules)) → NoNames rules bytes ↔ (T (names? Preference (decode rules .atoms) bytes) → ⊥)
 no-preference-names rules bytes t = subst (λ (k : Kind). NoNames rules bytes ↔ (T (names? k (decode rules .atoms) bytes) → ⊥)) (kind-is rules t) (no-names rules bytes)
 
-module _ (rules names : List ℕ) (room : ℕ) where
-  translate-passes : (size : ℕ) → translateAnswer rules names room ≡ Text size
-      ↔ Passes (NoStoreOf Preference rules) (StoresPass rules names (storesTranslation rules names) room (size ≡ length (storesTranslation rules names)))
-  unfolding translateAnswer
-  translate-passes size =
-      passed-by NotWritten written-inj (isOf Preference (ruleStore rules)) (no-store-of Preference rules) RuleStore (Text size) never-text (λ t.
-      passed-by NotWritten written-inj (names? Preference (decode rules .atoms) names) (no-preference-names rules names t) NameStore (Text size) never-text (λ u. fitted-written (storesTranslation rules names) room size))
-
 pub translate-refuses : (rules names before : List ℕ) → TranslateRefuses rules names before
 unfolding translateAnswer translateOutput
-translate-refuses rules names before = record {
-  refused = λ r. refused-by NotWritten written-inj (isOf Preference (ruleStore rules)) (no-store-of Preference rules) RuleStore (StoresRefused rules names (storesTranslation rules names) (length before)) r (λ t.
-      refused-by NotWritten written-inj (names? Preference (decode rules .atoms) names) (no-preference-names rules names t) NameStore (Tested Output (TooShort (storesTranslation rules names) (length before)) NoOther) r (λ u. fitted-refused (storesTranslation rules names) (length before) r));
-  written = translate-passes rules names (length before);
-  output = writes (translateAnswer rules names (length before)) (storesTranslation rules names) before (λ size e. translate-passes rules names (length before) size .0 e .1 .1 .1);
-}
+translate-refuses rules names before =
+    writes-text rules names (storesTranslation rules names) before (isOf Preference (ruleStore rules)) (names? Preference (decode rules .atoms) names)
+    (no-store-of Preference rules) (no-preference-names rules names)
 
 -- the verdicts and the lister
 

@@ -3,6 +3,7 @@ pub mod Reading
 pub mod ReadsAs
 pub mod ReadingClauses
 pub mod Writing
+pub mod WritingCanonical
 pub mod Translating
 pub mod Printed
 pub mod Listed

@@ -22,6 +22,7 @@ use Rattle.answers.specs.ReadingClauses.{clausesAnswer, clausesRules, cl
 use Rattle.answers.specs.declared.Written.{Written}
 use Rattle.answers.specs.declared.Written.the-variants.{Text, Refused as NotWritten}
 use Rattle.answers.specs.Writing.{storesText, writeAnswer, writeOutput}
+use Rattle.answers.specs.WritingCanonical.{storesCanonical, canonicalAnswer, canonicalOutput}
 use Rattle.answers.specs.Translating.{translationText, storesTranslation, translateAnswer, translateOutput}
 use Rattle.walks.specs.declared.answers.Verdict.the-variants.{Refused as NotJudged}
 use Rattle.walks.specs.declared.answers.NextState.the-variants.{Refused as NotSearched}
@@ -91,21 +92,25 @@ abbrev pub ClausesRefuse : List ℕ → List ℕ → List ℕ → Type 0
 ClausesRefuse text rules names =
     Reads (RefusesClauses text) (AcceptsClauses text) (clausesAnswer text (length rules) (length names)) rules names (clausesRules text rules names) (clausesNames text rules names)
 
--- the writer: 10, 14, 9
-pub record WriteRefuses (rules names before : List ℕ) : Type 0 where
-  pub refused : (r : Refusal) → writeAnswer rules names (length before) ≡ NotWritten r
-      ↔ Tested RuleStore (NoStore rules) (StoresRefused rules names (storesText rules names) (length before)) r
-  pub written : (size : ℕ) → writeAnswer rules names (length before) ≡ Text size
-      ↔ Passes (NoStore rules) (StoresPass rules names (storesText rules names) (length before) (size ≡ length (storesText rules names)))
-  pub output : Writes (writeAnswer rules names (length before)) (storesText rules names) before (writeOutput rules names before)
+-- a writer of a text that two stores give: 10 where there is no rule store for it, 14, 9
+pub record WritesText (NoRules : Type 0) (rules names text before : List ℕ) (answer : Written) (after : List ℕ) : Type 0 where
+  pub refused : (r : Refusal) → answer ≡ NotWritten r ↔ Tested RuleStore NoRules (StoresRefused rules names text (length before)) r
+  pub written : (size : ℕ) → answer ≡ Text size ↔ Passes NoRules (StoresPass rules names text (length before) (size ≡ length text))
+  pub output : Writes answer text before after
 
--- the translator: 10 (a plain store too), 14, 9
-pub record TranslateRefuses (rules names before : List ℕ) : Type 0 where
-  pub refused : (r : Refusal) → translateAnswer rules names (length before) ≡ NotWritten r
-      ↔ Tested RuleStore (NoStoreOf Preference rules) (StoresRefused rules names (storesTranslation rules names) (length before)) r
-  pub written : (size : ℕ) → translateAnswer rules names (length before) ≡ Text size
-      ↔ Passes (NoStoreOf Preference rules) (StoresPass rules names (storesTranslation rules names) (length before) (size ≡ length (storesTranslation rules names)))
-  pub output : Writes (translateAnswer rules names (length before)) (storesTranslation rules names) before (translateOutput rules names before)
+-- the writer
+abbrev pub WriteRefuses : List ℕ → List ℕ → List ℕ → Type 0
+WriteRefuses rules names before = WritesText (NoStore rules) rules names (storesText rules names) before (writeAnswer rules names (length before)) (writeOutput rules names before)
+
+-- the canonical writer
+abbrev pub CanonicalRefuses : List ℕ → List ℕ → List ℕ → Type 0
+CanonicalRefuses rules names before =
+    WritesText (NoStore rules) rules names (storesCanonical rules names) before (canonicalAnswer rules names (length before)) (canonicalOutput rules names before)
+
+-- the translator: 10 of a plain store too
+abbrev pub TranslateRefuses : List ℕ → List ℕ → List ℕ → Type 0
+TranslateRefuses rules names before =
+    WritesText (NoStoreOf Preference rules) rules names (storesTranslation rules names) before (translateAnswer rules names (length before)) (translateOutput rules names before)
 
 -- a call with a set or a start: 10, 11, 12 (the set or the start outside), then what comes later
 abbrev pub NumberRefused : Kind → List ℕ → (ℕ → Type 0) → (Refusal → Type 0) → Refusal → Type 0

@@ -21,15 +21,19 @@ abbrev pub writtenBytes : Written → List ℕ → List ℕ
 writtenBytes (Text k) text = text
 writtenBytes (Refused f) text = []
 
+-- a text that two stores give
+abbrev pub storesAnswer : List ℕ → List ℕ → List ℕ → ℕ → Written
+storesAnswer rules names text room =
+    cond (store? rules)
+    (cond (names? (decode rules .kind) (decode rules .atoms) names) (fitted text room) (Refused NameStore))
+    (Refused RuleStore)
+
 -- the text of two stores
 unfoldable pub storesText : List ℕ → List ℕ → List ℕ
 storesText rules names = textOf (decode rules) (decodeNames (decode rules .atoms) names)
 
 unfoldable pub writeAnswer : List ℕ → List ℕ → ℕ → Written
-writeAnswer rules names room =
-    cond (store? rules)
-    (cond (names? (decode rules .kind) (decode rules .atoms) names) (fitted (storesText rules names) room) (Refused NameStore))
-    (Refused RuleStore)
+writeAnswer rules names room = storesAnswer rules names (storesText rules names) room
 
 unfoldable pub writeOutput : List ℕ → List ℕ → List ℕ → List ℕ
 writeOutput rules names before = over (writtenBytes (writeAnswer rules names (length before)) (storesText rules names)) before

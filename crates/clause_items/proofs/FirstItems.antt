@@ -14,7 +14,7 @@ use Rattle.rules.proofs.Booleans.{T-of, both-true}
 use Rattle.name_store.specs.NameStore.{sameBytes}
 use Rattle.name_store.proofs.NameStores.{same-equal}
 use Rattle.name_store.proofs.ByteLoops.{other-length}
-use Rattle.lines.specs.Forms.{begins}
+use Rattle.lines.specs.Shapes.{begins}
 use Rattle.clauses.specs.Numerals.{numeral?}
 use Rattle.clauses.specs.Items.{separator?, run, itemsFrom, items}
 use Rattle.clause_items.specs.Found.{gap, front}

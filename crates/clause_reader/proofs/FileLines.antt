@@ -12,7 +12,8 @@ use Rattle.kinds.specs.Limits.{atomLimit, ruleLimit}
 use Rattle.kinds.specs.Words.{byte, line-end}
 use Rattle.kinds.specs.declared.limits.Kind.the-variants.{Preference}
 use Rattle.kinds.specs.declared.refusals.Refusal.the-variants.{BrokenClauses, Limit}
-use Rattle.clauses.specs.Items.{items, itemsFrom, comment?, ended?}
+use Rattle.clauses.specs.Items.{items, itemsFrom, comment?}
+use Rattle.lines.specs.Lines.{ended?}
 use Rattle.clauses.specs.Tokens.{tokenOf, lineTokens}
 use Rattle.clauses.specs.Gathered.{Gathered, nothing}
 use Rattle.clauses.specs.Faults.{State, unheaded, headed, Step, next, fault, headerLine, clauseLine, stepItems, stepLine}
@@ -28,18 +29,6 @@ use Rattle.clause_reader.specs.declared.clause_line.Reading.the-variants
 use Rattle.clause_reader.specs.declared.clause_line.Line.{Line}
 use Rattle.clause_reader.specs.declared.clause_line.Line.the-variants.{Next, Fault}
 use Rattle.clause_reader.specs.Reading.{Gathers, Empty, LineIs}
-
--- the last byte
-pub last-byte : (l : List ℕ) (i : ℕ) → length l ≡ suc i → ended? l ≡ eqb (getD l i 0) line-end
-last-byte [] i e = absurd (omega arith)
-last-byte (b ∷ []) zero e = refl
-last-byte (b ∷ []) (suc i) e = absurd (omega arith)
-last-byte (b ∷ c ∷ s) zero e = absurd (omega arith)
-last-byte (b ∷ c ∷ s) (suc i) e = last-byte (c ∷ s) i (omega arith)
-
-pub empty-unended : (l : List ℕ) → length l ≡ 0 → false ≡ ended? l
-empty-unended [] e = refl
-empty-unended (b ∷ s) e = absurd (omega arith)
 
 pub ended-filled : (l : List ℕ) → ended? l ≡ true → 0 < length l
 ended-filled [] e = absurd (subst T (sym e) tt)

@@ -15,7 +15,7 @@ ghost use Prim.Native.Nat.{_≤_};
 ghost use lib.ListN.{length};
 ghost use Rattle.kinds.specs.Limits.{textLimit};
 ghost use Rattle.lines.specs.Lines.{lines};
-ghost use Rattle.clauses.specs.Items.{items, ended?};
+ghost use Rattle.clauses.specs.Items.{items};
 ghost use Rattle.clauses.specs.Faults.{unheaded, headerLine, stepLine};
 ghost use Rattle.clauses.specs.ClausesSaid.{readLines};
 ghost use Rattle.clause_reader.specs.Reading.{stateOf, HeldReading, LineIs, Empty, passedOn, wholeOf, atEnd, GatherIs};
@@ -42,15 +42,6 @@ fn read_header(line: &[u8], words: &mut [u16], bodies: &[u16], marks: &[u16]) ->
     }
 }
 
-fn is_ended(line: &[u8]) -> bool
-    ensures { λ r. ⌜ r ≡ ended? (now (line .entry)) ⌝ }
-{
-    if line.len() == 0 {
-        return false;
-    }
-    line[line.len() - 1] == b'\n'
-}
-
 // One line against what the lines before have given.
 fn read_line(
     line: &[u8],
@@ -62,7 +53,7 @@ fn read_line(
     requires { ⌜ HeldReading reading (now words) (now bodies) (now marks) ⌝ }
     ensures { λ r. ⌜ LineIs (stepLine (stateOf reading (now (words .entry)) (now (bodies .entry))) (now (line .entry))) (now (words .exit)) (now (bodies .exit)) (now (marks .exit)) r ⌝ }
 {
-    let ended = is_ended(line);
+    let ended = scan::is_ended(line);
     if !ended {
         return Line::Fault(Refusal::BrokenClauses);
     }

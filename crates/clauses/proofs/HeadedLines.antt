@@ -19,7 +19,8 @@ use Rattle.stores.specs.Program.{Program}
 use Rattle.name_store.specs.NameStore.{sameBytes}
 use Rattle.lines.specs.Said.{Said, accepted, refused}
 use Rattle.clauses.specs.Numerals.{numeral?, value}
-use Rattle.clauses.specs.Items.{items, comment?, ended?}
+use Rattle.clauses.specs.Items.{items, comment?}
+use Rattle.lines.specs.Lines.{ended?}
 use Rattle.clauses.specs.Literals.{atomOf}
 use Rattle.clauses.specs.Tokens.{Token, literal, ends, wrong, tokenOf, wrong?, beyond?, lineTokens}
 use Rattle.clauses.specs.Gathered.{Gathered, nothing, withToken, withTokens, closed?, begun, occurrencesIn}

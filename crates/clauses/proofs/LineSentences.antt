@@ -12,7 +12,8 @@ use Rattle.kinds.specs.declared.refusals.Refusal.the-variants.{BrokenClauses, L
 use Rattle.rules.specs.Lists.{some, empty?}
 use Rattle.rules.proofs.Booleans.{T-and-r}
 use Rattle.rules.proofs.Connectives.{not-law, and-law, or-law}
-use Rattle.clauses.specs.Items.{items, comment?, ended?}
+use Rattle.clauses.specs.Items.{items, comment?}
+use Rattle.lines.specs.Lines.{ended?}
 use Rattle.clauses.specs.Tokens.{Token, tokenOf, wrong?, beyond?, lineTokens}
 use Rattle.clauses.specs.Gathered.{Gathered, nothing, withTokens, begun, occurrencesIn}
 use Rattle.clauses.specs.Faults.{State, unheaded, headed, Step, next, fault, first, headerWith, headerLine, clauseLine, stepItems, stepLine}

@@ -12,7 +12,8 @@ use Rattle.rules.specs.Lists.{Any, some, empty?}
 use Rattle.rules.proofs.Booleans.{eq→eqb}
 use Rattle.rules.proofs.Connectives.{not-law, and-law}
 use Rattle.rules.proofs.Lists.{some-any}
-use Rattle.clauses.specs.Items.{items, comment?, ended?}
+use Rattle.clauses.specs.Items.{items, comment?}
+use Rattle.lines.specs.Lines.{ended?}
 use Rattle.clauses.specs.Literals.{atomOf}
 use Rattle.clauses.specs.Tokens.{Token, literal, ends, wrong, wrong?, beyond?}
 use Rattle.clauses.specs.ClausesSaid.{filled?}

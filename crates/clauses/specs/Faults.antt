@@ -11,7 +11,8 @@ use Rattle.kinds.specs.declared.refusals.Refusal.the-variants.{BrokenClauses, L
 use Rattle.rules.specs.Lists.{some}
 use Rattle.name_store.specs.NameStore.{sameBytes}
 use Rattle.clauses.specs.Numerals.{numeral?, value}
-use Rattle.clauses.specs.Items.{items, comment?, ended?}
+use Rattle.clauses.specs.Items.{items, comment?}
+use Rattle.lines.specs.Lines.{ended?}
 use Rattle.clauses.specs.Tokens.{Token, tokenOf, wrong?, beyond?}
 use Rattle.clauses.specs.Gathered.{Gathered, nothing, withTokens, begun, occurrencesIn}
 

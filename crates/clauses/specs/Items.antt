@@ -5,7 +5,6 @@ use mathlib.Core.List.{List, [], _∷_}
 use lib.Dec.{eqb}
 use lib.ListN.{take}
 use Rattle.kinds.specs.Words.{byte, space, line-end}
-use Rattle.rules.specs.Lists.{empty?}
 
 abbrev pub separator? : ℕ → Bool
 separator? b = eqb b space || eqb b line-end
@@ -28,8 +27,3 @@ items l = itemsFrom 0 l
 abbrev pub comment? : List ℕ → Bool
 comment? [] = false
 comment? (b ∷ s) = eqb b (byte "c")
-
--- "Lines end with byte 10"; the last one may lack it, and is then faulty
-abbrev pub ended? : List ℕ → Bool
-ended? [] = false
-ended? (b ∷ s) = cond (empty? s) (eqb b line-end) (ended? s)

@@ -1,12 +1,12 @@
 -- How runs of written bytes go together.
 use Prim.Native.Nat.{ℕ, suc, _+_, _-_, _<_, _≤_}
 use native.Mathlib.Numerals.{add-one}
-use native.Mathlib.Nat.{add-zero}
+use native.Mathlib.Nat.{add-zero, zero-add}
 use native.Mathlib.Omega.{arith}
 use mathlib.Core.Path.{_≡_, refl, sym, ap, ap₂, _∙_, subst}
 use mathlib.Core.List.{List, [], _∷_, _++_, append-assoc, append-nil}
 use lib.ListN.{length, getD, take, drop, set, length-append}
-use lib.Seq.{drop-cons, drop-drop, set-append-seam, set-out, set-comm, sets, sets-eq, length-sets}
+use lib.Seq.{take-at, drop-cons, drop-drop, set-append-seam, set-out, set-comm, sets, sets-eq, length-sets}
 use borrow.Rule.Slice.PartMut.{putMid}
 use Rattle.output.specs.Emitted.{Emitted, InRange}
 
@@ -134,3 +134,14 @@ range-begin r e = range-here {before = []} (start r) e
 -- the next byte of a list
 pub byte-next : (s : List ℕ) (i : ℕ) → i < length s → Ahead (drop i s) (getD s i 0 ∷ []) (drop (i + 1) s)
 byte-next s i h = record { is = drop-cons s i 0 h ∙ ap (λ (k : ℕ). getD s i 0 ∷ drop k s) (sym (add-one i)) }
+
+-- what stands at the front of a scratch that has room
+module _ {before w after : List ℕ} {next : ℕ} (e : Emitted before 0 w after next) (room : length w ≤ length before) where
+  pub front-inside : next ≤ length after
+  front-inside = omega (arith, e .place, same-length e)
+
+  pub front-is : take next after ≡ w
+  front-is =
+      let c : 0 + length w ≤ length before = omega arith in
+      let n : length w ≡ next = sym (e .place ∙ zero-add (length w)) in
+      ap (take next) (e .bytes ∙ sets-eq w before 0 c) ∙ take-at w (drop (0 + length w) before) next n

@@ -20,7 +20,7 @@ use Rattle.stores.specs.Program.{Program, ProgramForm}
 use Rattle.stores.specs.RuleStore.{StoreOf, encode, decode, ruleWords, wordCount}
 use Rattle.names.specs.Names.{allowed}
 use Rattle.name_store.specs.NameStore.{encodeNames, decodeNames, NamesForm, NamesOf}
-use Rattle.stores.proofs.RuleStores.{decode-encode, words-count, rules-length}
+use Rattle.stores.proofs.RuleStores.{decode-encode, words-fit}
 use Rattle.name_store.proofs.NameStores.{allowed-short, decode-names, encoded-length}
 use Rattle.answers.specs.declared.Written.{Written}
 use Rattle.answers.specs.declared.Written.the-variants.{Text, Refused as NotWritten}
@@ -41,21 +41,6 @@ use Rattle.text.proofs.TextParts.{store-header}
 use Rattle.printing.proofs.PrintedLines.{refused-short}
 
 -- the longest stores
-
-pub words-fit : (p : Program) → ProgramForm p → length (encode p) ≤ storeWords
-unfolding encode
-words-fit p f =
-    let a = length-append (p .words) (flat ruleWords (p .rules)) in
-    let b = rules-length (p .rules) in
-    let c = words-count (p .kind) (p .atoms) (p .classes) (p .words) (f .classes-form) in
-    omega (arith, by-kind (p .kind) c (f .atoms-fit) (f .rules-fit) (f .occurrences-fit) a b)
-  where
-    by-kind : (k : Kind) → length (p .words) ≡ wordCount k (p .atoms) → p .atoms ≤ atomLimit k → length (p .rules) ≤ ruleLimit k → sum occurrences (p .rules) ≤ occurrenceLimit k
-        → length (p .words ++ flat ruleWords (p .rules)) ≡ length (p .words) + length (flat ruleWords (p .rules))
-        → length (flat ruleWords (p .rules)) ≡ 3 * length (p .rules) + sum occurrences (p .rules)
-        → 4 + length (p .words ++ flat ruleWords (p .rules)) ≤ storeWords
-    by-kind Plain c n r o a b = omega arith
-    by-kind Preference c n r o a b = omega arith
 
 pub bytes-fit : (p : Program) (names : List (List ℕ)) → ProgramForm p → NamesForm (p .kind) (p .atoms) names → length (encodeNames names) ≤ storeBytes
 bytes-fit p names f g = by-kind (p .kind) (f .atoms-fit)

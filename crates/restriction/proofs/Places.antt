@@ -21,7 +21,7 @@ use Rattle.restriction.specs.Covers.{Covers}
 
 -- members
 
-member-any : (xs : List ℕ) (a : ℕ) → T (member? xs a) ↔ Any (λ x. a ≡ x) xs
+pub member-any : (xs : List ℕ) (a : ℕ) → T (member? xs a) ↔ Any (λ x. a ≡ x) xs
 member-any xs a = some-any (eqb a) (λ x. a ≡ x) (λ x. (eqb→eq a x, eq→eqb a x)) xs
 
 pub member-all : (P : ℕ → Type 0) (xs : List ℕ) (a : ℕ) → All P xs → T (member? xs a) → P a

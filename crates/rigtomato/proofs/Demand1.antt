@@ -18,9 +18,10 @@ use Rattle.reader.specs.WrittenText.{WrittenText}
 use Rattle.reader.proofs.RoundTrip.{write-read, accepted-iff, round-trips}
 use Rattle.clauses.specs.Sentences.{AcceptsClauses}
 use Rattle.clauses.proofs.Satisfying.{written-clauses}
+use Rattle.canonical_text.proofs.CanonicalTexts.{canonical-texts}
 use Rattle.answers.specs.Writing.{storesText}
 use Rattle.answers.proofs.Readers.{read-refuses, clauses-refuse}
-use Rattle.answers.proofs.Refusals.{write-refuses, translate-refuses, verdict-refuses, print-refuses, prints-into}
+use Rattle.answers.proofs.Refusals.{write-refuses, canonical-refuses, translate-refuses, verdict-refuses, print-refuses, prints-into}
 use Rattle.rigtomato.specs.Demand1.{PreferenceStores, Demand1}
 
 accepted-texts : (text : List ℕ) → ((p : Program) × (names : List (List ℕ)) × Accepts text p names) ↔ WrittenText text
@@ -53,6 +54,8 @@ demand-1 = record {
   clauses = clauses-refuse;
   clause-stores = clause-stores;
   write = write-refuses;
+  write-canonical = canonical-refuses;
+  canonical-texts = canonical-texts;
   translate = translate-refuses;
   verdicts = verdict-refuses;
   programs = print-refuses;

@@ -11,6 +11,7 @@ use Rattle.faults.proofs.EarliestFault.{said-accepted}
 use Rattle.clauses.proofs.Satisfying.{written-clauses}
 use Rattle.reader.proofs.RoundTrip.{accepted-form}
 use Rattle.reader.proofs.StatesLeft.{states-left}
+use Rattle.canonical_text.proofs.CanonicalTexts.{canonical-states}
 use Rattle.places.proofs.Places.{in-places}
 use Rattle.walks.proofs.Order.{ordered}
 use Rattle.walks.proofs.WalksAgree.{walks-agree}
@@ -40,4 +41,5 @@ demand-2 = record {
   lists = lists;
   left-out = states-left;
   clause-sets = written-clauses;
+  canonical-states = canonical-states;
 }

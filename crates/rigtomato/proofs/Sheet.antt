@@ -25,14 +25,18 @@ use Rattle.choices.specs.Choices.{closed?, visited}
 use Rattle.walks.specs.Order.{walkOrder, preferredSets}
 use Rattle.walks.specs.Walk.{preferredWalk, stableWalk, candidates, search, capped, preferredNeeds, stableNeeds, preferredVerdict, stableVerdict, firstState, cappedNext, nextNeeds, nextVerdict}
 use Rattle.kinds.specs.Words.{digits}
+use Rattle.canonical.specs.Order.{numbers}
+use Rattle.canonical.specs.Canonical.{compareLists, compareRules, tidy, canonical}
+use Rattle.canonical.specs.CanonicalProgram.{canonicalProgram}
 use Rattle.answers.specs.Writing.{storesText}
+use Rattle.answers.specs.WritingCanonical.{canonicalText, storesCanonical}
 use Rattle.answers.specs.Printed.{stateLine, totalLine}
 use Rattle.answers.specs.Listed.{listing, wholeListing, statesOf}
 use Rattle.answers.specs.Programs.{printed, statesPrinted}
-use Rattle.rigtomato.specs.Sheet.{rulesA, fileA, oneClass, lampFirst, darkFixed, nothing, emptyRule, oneRule, unused, unusedLong, unusedTwice, plainUnused, plain, inverters, clauseFile, manyLiterals, Sheet}
+use Rattle.rigtomato.specs.Sheet.{rulesA, fileA, oneClass, lampFirst, darkFixed, nothing, emptyRule, oneRule, unused, unusedLong, unusedTwice, plainUnused, plain, inverters, clauseFile, manyLiterals, falling, plainFalling, plainRising, Sheet}
 
 pub sheet : Sheet
-unfolding rulesA fileA oneClass lampFirst darkFixed nothing emptyRule oneRule unused unusedLong unusedTwice plainUnused plain inverters clauseFile manyLiterals nameClass house? classNumber? allowed encode ruleAt rulesFrom decode sameBytes encodeNames decodeNames listLine openText ruleLine textOf lines linesFrom lineLength items itemsFrom run span splitNames splitList declaredForm ruleForm formOf twice nameNumber declare addRule start readLines typed restrict remaining remainingNames used said value clauseItems clauseItemsFrom clauseRun tokenOf headerLine clauseLine stepLine clauseNames readClauses clausesTyped clausesSaid declared step1 step2 step3 step4 step5 step6 step7 step8 step9 step10 translation translatedRules place closed? visited walkOrder preferredSets preferredWalk stableWalk candidates search capped preferredNeeds stableNeeds preferredVerdict stableVerdict firstState cappedNext nextNeeds nextVerdict digits storesText stateLine totalLine listing wholeListing printed statesOf statesPrinted
+unfolding rulesA fileA oneClass lampFirst darkFixed nothing emptyRule oneRule unused unusedLong unusedTwice plainUnused plain inverters clauseFile manyLiterals falling plainFalling plainRising nameClass house? classNumber? allowed encode ruleAt rulesFrom decode sameBytes encodeNames decodeNames listLine openText ruleLine textOf lines linesFrom lineLength items itemsFrom run span splitNames splitList declaredForm ruleForm formOf twice nameNumber declare addRule start readLines typed restrict remaining remainingNames used said value clauseItems clauseItemsFrom clauseRun tokenOf headerLine clauseLine stepLine clauseNames readClauses clausesTyped clausesSaid declared step1 step2 step3 step4 step5 step6 step7 step8 step9 step10 translation translatedRules place closed? visited walkOrder preferredSets preferredWalk stableWalk candidates search capped preferredNeeds stableNeeds preferredVerdict stableVerdict firstState cappedNext nextNeeds nextVerdict digits numbers compareLists compareRules tidy canonical canonicalProgram canonicalText storesText storesCanonical stateLine totalLine listing wholeListing printed statesOf statesPrinted
 sheet = record {
   a-6 = refl;
   a-1 = refl;
@@ -84,4 +88,9 @@ sheet = record {
   surplus-clause = refl;
   missing-clause = refl;
   unfinished-clause = refl;
+  falling-sorted = refl;
+  sorted-again = refl;
+  plain-sorted = refl;
+  plain-again = refl;
+  handed-in-sorted = refl;
 }

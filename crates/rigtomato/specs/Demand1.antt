@@ -1,4 +1,4 @@
--- Demand 1 (document 01, "Who can be turned back"; document 02, W-202): each entry point refuses exactly what is wrong, and leaves every lent buffer as it was.
+-- Demand 1 (document 01, "Who can be turned back"; document 02, W-202 and W-205): each entry point refuses exactly what is wrong, and leaves every lent buffer as it was.
 use Prim.Native.Nat.{ℕ}
 use mathlib.Core.Path.{_≡_}
 use mathlib.Core.Logic.{_↔_}
@@ -12,8 +12,9 @@ use Rattle.faults.specs.EarliestFault.{Accepts}
 use Rattle.clauses.specs.Sentences.{AcceptsClauses}
 use Rattle.reader.specs.WrittenText.{WrittenText}
 use Rattle.reader.specs.RoundTrips.{RoundTrips}
+use Rattle.canonical_text.specs.CanonicalTexts.{CanonicalTexts}
 use Rattle.answers.specs.Writing.{storesText}
-use Rattle.answers.specs.Refusals.{ReadRefuses, ClausesRefuse, WriteRefuses, TranslateRefuses, VerdictRefuses, PrintRefuses, PrintsInto}
+use Rattle.answers.specs.Refusals.{ReadRefuses, ClausesRefuse, WriteRefuses, CanonicalRefuses, TranslateRefuses, VerdictRefuses, PrintRefuses, PrintsInto}
 
 -- "Written are the two stores of such a preference file" (document 02, W-202): the writer's text of them is accepted as just what they hold
 pub record PreferenceStores (p : Program) (names : List (List ℕ)) : Type 0 where
@@ -31,6 +32,9 @@ pub record Demand1 : Type 0 where
   pub clauses : (text rules names : List ℕ) → ClausesRefuse text rules names
   pub clause-stores : (text : List ℕ) (p : Program) (names : List (List ℕ)) → AcceptsClauses text p names → PreferenceStores p names
   pub write : (rules names before : List ℕ) → WriteRefuses rules names before
+  pub write-canonical : (rules names before : List ℕ) → CanonicalRefuses rules names before
+  -- when two canonical texts are equal, and what they are read as
+  pub canonical-texts : CanonicalTexts
   pub translate : (rules names before : List ℕ) → TranslateRefuses rules names before
   pub verdicts : (rules : List ℕ) (number budget : ℕ) → VerdictRefuses rules number budget
   pub programs : (text : List ℕ) → PrintRefuses text

@@ -1,4 +1,4 @@
--- Demand 2 (document 01, "Verdicts"; document 02, W-202, W-203, W-206 and W-207): unless the budget runs out, the verdicts are those of the theory, and every preferred state is listed once, in order.
+-- Demand 2 (document 01, "Verdicts"; document 02, W-202, W-203, W-205, W-206 and W-207): unless the budget runs out, the verdicts are those of the theory, and every preferred state is listed once, in order.
 use Prim.Native.Nat.{ℕ, _≤_}
 use mathlib.Core.Path.{_≡_}
 use mathlib.Core.Logic.{_⊎_}
@@ -13,6 +13,7 @@ use Rattle.faults.specs.EarliestFault.{Accepts}
 use Rattle.clauses.specs.ClausesSaid.{clausesOf}
 use Rattle.clauses.specs.Satisfying.{WrittenClauses}
 use Rattle.clauses.specs.Sentences.{AcceptsClauses}
+use Rattle.canonical_text.specs.CanonicalTexts.{CanonicalStates}
 use Rattle.walks.specs.Order.{walkOrder, preferredSets}
 use Rattle.places.specs.Places.{InPlaces}
 use Rattle.walks.specs.Meanings.{Ordered}
@@ -47,3 +48,5 @@ pub record Demand2 : Type 0 where
       → PreferredLeft (left (a .1 .whole)) (a .1 .whole .words) (a .1 .whole .rules) (p .words) (p .rules)
   -- "The sets satisfying the clauses are exactly the models of what is written, and its preferred states are their subset-minimal ones" (W-202)
   pub clause-sets : (text : List ℕ) (p : Program) (names : List (List ℕ)) (a : AcceptsClauses text p names) → WrittenClauses (a .atoms) (clausesOf text) p names
+  -- "preferred states are those of the typed file" (W-205): what is read from a file's canonical text has the file's declarations, and its preferred and stable sets
+  pub canonical-states : CanonicalStates

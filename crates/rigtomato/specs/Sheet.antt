@@ -1,4 +1,4 @@
--- The marked cases of document 01's "Sheets of known states", from the bytes of the files; the order of states is that of document 02, W-206, units are those of W-207, the counts of translations those of W-214, atoms that no rule has are left out by W-203, and clause files are read by W-202.
+-- The marked cases of document 01's "Sheets of known states", from the bytes of the files; the order of states is that of document 02, W-206, units are those of W-207, the counts of translations those of W-214, atoms that no rule has are left out by W-203, clause files are read by W-202, and canonical texts are those of W-205.
 use Prim.Native.Nat.{ℕ}
 use mathlib.Core.Path.{_≡_}
 use mathlib.Core.List.{List, [], _∷_, _++_}
@@ -24,6 +24,7 @@ use Rattle.walks.specs.Order.{preferredSets}
 use Rattle.walks.specs.Walk.{preferredVerdict, stableVerdict, nextVerdict}
 use Rattle.pairing.specs.Translated.{translated}
 use Rattle.answers.specs.Writing.{storesText}
+use Rattle.answers.specs.WritingCanonical.{canonicalText, storesCanonical}
 use Rattle.answers.specs.Programs.{statesPrinted}
 
 -- the rules of file A
@@ -94,6 +95,17 @@ manyLiterals =
     ++ (flat (λ i. bytes "1 2 3 4 5 6 7 8 9 10 11 12 13 14 15 16 17 18 19 20 21 22 23 24 25 26 27 28 29 30 31 32 0 ") (from 0 256)
     ++ bytes "\n")
 
+-- A with its rules in falling order, the first one twice, with its atoms in either sequence
+unfoldable pub falling : List ℕ
+falling = bytes "(min sensor)\n(min lamp)\n(vary dark)\n(fix)\n(rule (head dark) (body lamp) (not))\n(rule (head lamp sensor) (body) (not))\n(rule (head sensor lamp) (body) (not))\n"
+
+-- a plain program in falling order, and its canonical text: head before body before not, and a list that ends first before a longer one
+unfoldable pub plainFalling : List ℕ
+plainFalling = bytes "(atoms a b c)\n(rule (head b) (body) (not))\n(rule (head b a) (body) (not))\n(rule (head a) (body c b) (not))\n(rule (head a) (body b) (not c))\n(rule (head a) (body b) (not))\n(rule (head) (body c) (not))\n"
+
+unfoldable pub plainRising : List ℕ
+plainRising = bytes "(atoms a b c)\n(rule (head) (body c) (not))\n(rule (head a) (body b) (not))\n(rule (head a) (body b) (not c))\n(rule (head a) (body b c) (not))\n(rule (head a b) (body) (not))\n(rule (head b) (body) (not))\n"
+
 -- the verdict on a set by a text's lines
 abbrev pub verdict : Said → ℕ → ℕ → Verdict
 verdict (accepted p names) set budget = preferredVerdict (p .words) (p .rules) set budget
@@ -133,6 +145,16 @@ written (refused f line) = []
 abbrev pub handedIn : Said → List ℕ
 handedIn (accepted p names) = storesText (encode p) (encodeNames names)
 handedIn (refused f line) = []
+
+-- the canonical text of what a text's lines leave
+abbrev pub canonical : Said → List ℕ
+canonical (accepted p names) = canonicalText p names
+canonical (refused f line) = []
+
+-- the canonical text of the two stores with all that a text's lines declare, handed in
+abbrev pub handedInCanonical : Said → List ℕ
+handedInCanonical (accepted p names) = storesCanonical (encode p) (encodeNames names)
+handedInCanonical (refused f line) = []
 
 -- atoms, rules and occurrences of the translation
 abbrev pub counts : Said → List ℕ
@@ -201,3 +223,9 @@ pub record Sheet : Type 0 where
   pub surplus-clause : clausesSaid (bytes "p cnf 1 1\n1 0\n-1\n0\n") ≡ refused BrokenClauses 3
   pub missing-clause : clausesSaid (bytes "p cnf 1 2\n1 0\n") ≡ refused BrokenClauses 3
   pub unfinished-clause : clausesSaid (bytes "p cnf 1 1\n1\n") ≡ refused BrokenClauses 3
+  -- A's rules in another sequence, with one of them twice: the canonical text is A, and that of A is A again; of stores handed in, the unused atoms are written
+  pub falling-sorted : canonical (said falling) ≡ fileA
+  pub sorted-again : canonical (said fileA) ≡ fileA
+  pub plain-sorted : canonical (said plainFalling) ≡ plainRising
+  pub plain-again : canonical (said plainRising) ≡ plainRising
+  pub handed-in-sorted : handedInCanonical (typed unused) ≡ unused

@@ -11,6 +11,7 @@ use fields::written_fields;
 ghost use mathlib.Core.Path.{_≡_};
 ghost use lib.ListN.{length};
 ghost use Rattle.answers.specs.Writing.{writeAnswer, writeOutput};
+ghost use Rattle.answers.specs.WritingCanonical.{canonicalAnswer, canonicalOutput};
 ghost use Rattle.answers.specs.Reading.{readAnswer, readRules, readNames};
 ghost use Rattle.answers.specs.ReadingClauses.{clausesAnswer, clausesRules, clausesNames};
 ghost use Rattle.answers.specs.Translating.{translateAnswer, translateOutput};
@@ -47,6 +48,19 @@ pub extern "C" fn rigtomato_write(rules: &[u16], names: &[u8], out: &mut [u8]) -
     ensures output { λ r. ⌜ now (out .exit) ≡ writeOutput (now (rules .entry)) (now (names .entry)) (now (out .entry)) ⌝ }
 {
     let answer = crate::write(rules, names, out);
+    written_fields(answer)
+}
+
+#[no_mangle]
+pub extern "C" fn rigtomato_write_canonical(
+    rules: &[u16],
+    names: &[u8],
+    out: &mut [u8],
+) -> WrittenFields
+    ensures answer { λ r. ⌜ r ≡ writtenFields (canonicalAnswer (now (rules .entry)) (now (names .entry)) (length (now (out .entry)))) ⌝ }
+    ensures output { λ r. ⌜ now (out .exit) ≡ canonicalOutput (now (rules .entry)) (now (names .entry)) (now (out .entry)) ⌝ }
+{
+    let answer = crate::write_canonical(rules, names, out);
     written_fields(answer)
 }
 

@@ -4,6 +4,7 @@ pub mod capi;
 ghost use mathlib.Core.Path.{_≡_};
 ghost use lib.ListN.{length};
 ghost use Rattle.answers.specs.Writing.{writeAnswer, writeOutput};
+ghost use Rattle.answers.specs.WritingCanonical.{canonicalAnswer, canonicalOutput};
 ghost use Rattle.answers.specs.Reading.{readAnswer, readRules, readNames};
 ghost use Rattle.answers.specs.ReadingClauses.{clausesAnswer, clausesRules, clausesNames};
 ghost use Rattle.answers.specs.Translating.{translateAnswer, translateOutput};
@@ -33,6 +34,14 @@ pub fn write(rules: &[u16], names: &[u8], out: &mut [u8]) -> answers::Written
     ensures output { λ r. ⌜ now (out .exit) ≡ writeOutput (now (rules .entry)) (now (names .entry)) (now (out .entry)) ⌝ }
 {
     writer::write(rules, names, out)
+}
+
+// The canonical text of two stores (document 02, W-205).
+pub fn write_canonical(rules: &[u16], names: &[u8], out: &mut [u8]) -> answers::Written
+    ensures answer { λ r. ⌜ r ≡ canonicalAnswer (now (rules .entry)) (now (names .entry)) (length (now (out .entry))) ⌝ }
+    ensures output { λ r. ⌜ now (out .exit) ≡ canonicalOutput (now (rules .entry)) (now (names .entry)) (now (out .entry)) ⌝ }
+{
+    canonical_writer::write_canonical(rules, names, out)
 }
 
 // The text of the plain program of a preference file's stores.

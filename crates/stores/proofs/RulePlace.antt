@@ -25,7 +25,7 @@ pub limit-small : (kind : Kind) → occurrenceLimit kind ≤ occurrenceLimit Pla
 limit-small Plain = omega arith
 limit-small Preference = omega arith
 
-rules-small : (kind : Kind) → ruleLimit kind ≤ ruleLimit Plain
+pub rules-small : (kind : Kind) → ruleLimit kind ≤ ruleLimit Plain
 rules-small Plain = omega arith
 rules-small Preference = omega arith
 

@@ -8,6 +8,7 @@ use native.Mathlib.Omega.{arith}
 use lib.Dec.{T, leb, leb→le, le→leb, eqb→eq}
 use lib.ListN.{length, take, drop, getD, length-append, length-take, take-append-drop}
 use lib.Seq.{length-take-le, take-at, drop-at, drop-drop}
+use Rattle.kinds.specs.Sizes.{storeWords}
 use Rattle.kinds.specs.Limits.{atomLimit, ruleLimit, occurrenceLimit, classLimit}
 use Rattle.kinds.specs.declared.limits.Kind.{Kind}
 use Rattle.kinds.specs.declared.limits.Kind.the-variants.{Plain, Preference}
@@ -194,6 +195,22 @@ store-law ws = (λ h. (decode ws, decoded ws h), λ s. subst (λ (l : List ℕ).
 
 pub only-decoded : (ws : List ℕ) (p : Program) → StoreOf ws p → p ≡ decode ws
 only-decoded ws p s = sym (decode-encode p (s .form)) ∙ ap decode (s .words)
+
+-- the longest store
+pub words-fit : (p : Program) → ProgramForm p → length (encode p) ≤ storeWords
+unfolding encode
+words-fit p f =
+    let a = length-append (p .words) (flat ruleWords (p .rules)) in
+    let b = rules-length (p .rules) in
+    let c = words-count (p .kind) (p .atoms) (p .classes) (p .words) (f .classes-form) in
+    omega (arith, by-kind (p .kind) c (f .atoms-fit) (f .rules-fit) (f .occurrences-fit) a b)
+  where
+    by-kind : (k : Kind) → length (p .words) ≡ wordCount k (p .atoms) → p .atoms ≤ atomLimit k → length (p .rules) ≤ ruleLimit k → sum occurrences (p .rules) ≤ occurrenceLimit k
+        → length (p .words ++ flat ruleWords (p .rules)) ≡ length (p .words) + length (flat ruleWords (p .rules))
+        → length (flat ruleWords (p .rules)) ≡ 3 * length (p .rules) + sum occurrences (p .rules)
+        → 4 + length (p .words ++ flat ruleWords (p .rules)) ≤ storeWords
+    by-kind Plain c n r o a b = omega arith
+    by-kind Preference c n r o a b = omega arith
 
 -- the answer of the check
 

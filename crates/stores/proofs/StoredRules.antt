@@ -39,7 +39,7 @@ rules-front n (r ∷ rs) rest h l =
     )
 
 module _ {ws : List ℕ} {p : Program} (s : StoreOf ws p) where
-  rule-part : drop (4 + wordCount (p .kind) (p .atoms)) ws ≡ flat ruleWords (p .rules)
+  pub rule-part : drop (4 + wordCount (p .kind) (p .atoms)) ws ≡ flat ruleWords (p .rules)
   unfolding encode
   rule-part =
       let c = wordCount (p .kind) (p .atoms) in

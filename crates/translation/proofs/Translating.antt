@@ -1,13 +1,11 @@
 -- What the translator answers and leaves, from what its parts did.
-use Prim.Native.Nat.{ℕ, _+_, _≤_}
-use native.Mathlib.Nat.{zero-add}
+use Prim.Native.Nat.{ℕ, _≤_}
 use native.Mathlib.Omega.{arith}
 use mathlib.Core.Path.{_≡_, refl, sym, ap, ap₂, _∙_, subst}
 use mathlib.Core.Bool.{Bool, true, false}
 use mathlib.Core.List.{List}
 use lib.Dec.{T}
-use lib.ListN.{length, getD, take, drop}
-use lib.Seq.{take-at, length-sets, sets-eq}
+use lib.ListN.{length, getD, take}
 use Rattle.kinds.specs.Sizes.{storeWords, storeBytes}
 use Rattle.kinds.specs.declared.limits.Kind.the-variants.{Plain, Preference}
 use Rattle.kinds.specs.declared.refusals.Refusal.the-variants.{RuleStore, NameStore}
@@ -22,6 +20,7 @@ use Rattle.pairing.proofs.PlainForm.{plain-form}
 use Rattle.pairing.proofs.PlainNames.{plain-names}
 use Rattle.text.specs.Text.{textOf}
 use Rattle.output.specs.Emitted.{Emitted}
+use Rattle.output.proofs.Emitting.{front-inside, front-is}
 use Rattle.answers.specs.Writing.{fitted, storesText}
 use Rattle.writer.specs.Fitted.{fittedOutput}
 use Rattle.answers.specs.declared.Written.{Written}
@@ -30,17 +29,6 @@ use Rattle.answers.specs.Translating.{translationText, storesTranslation, trans
 use Rattle.translated.specs.PreferenceStore.{PreferenceStore}
 use Rattle.translated.proofs.FileStore.{store-fits}
 use Rattle.translated.proofs.FileNames.{names-fit}
-
--- what stands at the front of a scratch that has room
-module _ {before w after : List ℕ} {next : ℕ} (e : Emitted before 0 w after next) (room : length w ≤ length before) where
-  pub front-inside : next ≤ length after
-  front-inside = omega (arith, e .place, ap length (e .bytes) ∙ length-sets before 0 w)
-
-  pub front-is : take next after ≡ w
-  front-is =
-      let c : 0 + length w ≤ length before = omega arith in
-      let n : length w ≡ next = sym (e .place ∙ zero-add (length w)) in
-      ap (take next) (e .bytes ∙ sets-eq w before 0 c) ∙ take-at w (drop (0 + length w) before) next n
 
 -- the stores of the plain program
 module _ {rules names : List ℕ} (h : PreferenceStore rules) (g : NamesOf names Preference (decode rules .atoms) (decodeNames (decode rules .atoms) names)) where

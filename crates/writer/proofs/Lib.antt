@@ -1,2 +1,3 @@
 -- The laws of the writer's answer.
+pub mod StoreTests
 pub mod Writing

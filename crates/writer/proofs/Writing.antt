@@ -2,10 +2,9 @@
 use Prim.Native.Nat.{ℕ, _+_, _≤_, _<_}
 use native.Mathlib.Nat.{zero-add}
 use native.Mathlib.Omega.{arith}
-use mathlib.Core.Path.{_≡_, sym, ap, _∙_, subst}
+use mathlib.Core.Path.{_≡_, sym, ap, _∙_}
 use mathlib.Core.Bool.{Bool, true, false}
 use mathlib.Core.List.{List, _++_}
-use lib.Dec.{T}
 use lib.ListN.{length, getD, take, drop}
 use lib.Seq.{sets-eq}
 use borrow.Author.Tests.{le-leb, lt-leb}
@@ -13,15 +12,12 @@ use Rattle.kinds.specs.Limits.{atomLimit}
 use Rattle.kinds.specs.declared.limits.Kind.{Kind}
 use Rattle.kinds.specs.declared.limits.Kind.the-variants.{Plain}
 use Rattle.kinds.specs.declared.refusals.Refusal.the-variants.{Output, RuleStore, NameStore}
-use Rattle.rules.proofs.Booleans.{is-true, is-false}
-use Rattle.stores.specs.RuleStore.{StoreOf, decode, ruleStore, store?}
+use Rattle.stores.specs.RuleStore.{StoreOf, decode, ruleStore}
 use Rattle.name_store.specs.NameStore.{NamesOf, decodeNames, names?}
 use Rattle.name_store.specs.NameIndex.{Placed, Indexed}
 use Rattle.stores.specs.declared.rule_store.RuleStore.the-variants.{Of, Refused as NoStore}
 use Rattle.name_store.proofs.NamePlaces.{length-decode}
 use Rattle.name_store.proofs.NameEntries.{length-filled, filled}
-use Rattle.name_store.proofs.NameStores.{decoded-names}
-use Rattle.stores.proofs.RuleStores.{store-law, of-kind, refused}
 use Rattle.stores.proofs.StoreHeader.{atoms-small}
 use Rattle.text.specs.Text.{textOf}
 use Rattle.output.specs.Emitted.{Emitted}
@@ -29,6 +25,7 @@ use Rattle.text.specs.Items.{storedNames}
 use Rattle.text.specs.Sources.{Sources, sourceText}
 use Rattle.answers.specs.Writing.{fitted, storesText, writeAnswer, writeOutput}
 use Rattle.writer.specs.Fitted.{fittedOutput}
+use Rattle.writer.proofs.StoreTests.{store-here, names-here, not-stored, not-named, both-stored}
 use Rattle.answers.specs.declared.Written.{Written}
 use Rattle.answers.specs.declared.Written.the-variants.{Text, Refused}
 use Rattle.text.proofs.TextLength.{text-fits}
@@ -100,50 +97,30 @@ module _ {rules names : List ℕ} (s : StoreOf rules (decode rules)) (m : NamesO
 module _ (rules names before : List ℕ) where
   pub no-store : ruleStore rules ≡ NoStore → (Refused RuleStore ≡ writeAnswer rules names (length before)) × (before ≡ writeOutput rules names before)
   unfolding writeAnswer writeOutput
-  no-store e = let t : store? rules ≡ false = is-false (store? rules) (refused rules .0 e) in (rw t, rw t)
+  no-store = not-stored rules names (storesText rules names) before
 
-  module _ (kind : Kind) (e : ruleStore rules ≡ Of kind) where
-    pub store-here : StoreOf rules (decode rules)
-    store-here = of-kind rules kind e .0
+  module _ (kind : Kind) (e : ruleStore rules ≡ Of kind) (b : Bool) (f : b ≡ names? kind (getD rules 1 0) names) where
+    pub no-names : b ≡ false → (Refused NameStore ≡ writeAnswer rules names (length before)) × (before ≡ writeOutput rules names before)
+    unfolding writeAnswer writeOutput
+    no-names = not-named rules names (storesText rules names) before kind e b f
 
-    is-store : store? rules ≡ true
-    is-store = is-true (store? rules) (store-law rules .1 (decode rules, store-here))
+    -- the places that the check of the names has found
+    module _ (g : b ≡ true) {starts heads next : List ℕ} (x : Indexed (decodeNames (getD rules 1 0) names) names starts heads next) where
+      abbrev found : List ℕ
+      found = take (getD rules 1 0) starts
 
-    pub atoms-fit : getD rules 1 0 ≤ atomLimit Plain
-    unfolding decode
-    atoms-fit = omega (arith, store-here .form .atoms-fit, atoms-small (decode rules .kind))
+      pub found-length : length found ≡ getD rules 1 0
+      found-length = length-filled (getD rules 1 0) x
 
-    module _ (b : Bool) (f : b ≡ names? kind (getD rules 1 0) names) where
-      fits : names? (decode rules .kind) (decode rules .atoms) names ≡ b
-      unfolding decode
-      fits = ap (λ (k : Kind). names? k (getD rules 1 0) names) (of-kind rules kind e .1) ∙ sym f
+      pub found-inside : getD rules 1 0 ≤ length starts
+      found-inside = omega (arith, x .placed .room, length-decode (getD rules 1 0) names)
 
-      pub no-names : b ≡ false → (Refused NameStore ≡ writeAnswer rules names (length before)) × (before ≡ writeOutput rules names before)
+      pub found-sources : Sources rules names found
+      found-sources = sources (store-here rules kind e) (names-here rules kind e names b f g) found found-length (filled (getD rules 1 0) x .placed)
+
+      pub answered : {r : Written} {after : List ℕ} → (r ≡ fitted (sourceText rules names found) (length before)) × (after ≡ fittedOutput (sourceText rules names found) before)
+          → (r ≡ writeAnswer rules names (length before)) × (after ≡ writeOutput rules names before)
       unfolding writeAnswer writeOutput
-      no-names g = let t = fits ∙ g in (rw (is-store, t), rw (is-store, t))
-
-      module _ (g : b ≡ true) where
-        names-here : NamesOf names (decode rules .kind) (decode rules .atoms) (decodeNames (decode rules .atoms) names)
-        names-here = decoded-names (decode rules .kind) (decode rules .atoms) names (subst T (sym (fits ∙ g)) tt)
-
-        -- the places that the check of the names has found
-        module _ {starts heads next : List ℕ} (x : Indexed (decodeNames (getD rules 1 0) names) names starts heads next) where
-          abbrev found : List ℕ
-          found = take (getD rules 1 0) starts
-
-          pub found-length : length found ≡ getD rules 1 0
-          found-length = length-filled (getD rules 1 0) x
-
-          pub found-inside : getD rules 1 0 ≤ length starts
-          found-inside = omega (arith, x .placed .room, length-decode (getD rules 1 0) names)
-
-          pub found-sources : Sources rules names found
-          found-sources = sources store-here names-here found found-length (filled (getD rules 1 0) x .placed)
-
-          pub answered : {r : Written} {after : List ℕ} → (r ≡ fitted (sourceText rules names found) (length before)) × (after ≡ fittedOutput (sourceText rules names found) before)
-              → (r ≡ writeAnswer rules names (length before)) × (after ≡ writeOutput rules names before)
-          unfolding writeAnswer writeOutput
-          answered h =
-              let t = fits ∙ g in
-              let e = text-same store-here names-here found found-length in
-              (rw (is-store, t, ← e) (h .0), rw (is-store, t, ← e) (h .1))
+      answered h =
+          let t = text-same (store-here rules kind e) (names-here rules kind e names b f g) found found-length in
+          both-stored rules names (storesText rules names) before kind e b f g (rw (← t) (h .0), rw (← t) (h .1))

@@ -1,4 +1,5 @@
-use Rattle.writer.proofs.Writing.{no-store, store-here, atoms-fit, no-names, found-length, found-inside, found-sources, answered}
+use Rattle.writer.proofs.StoreTests.{store-here, atoms-fit}
+use Rattle.writer.proofs.Writing.{no-store, no-names, found-length, found-inside, found-sources, answered}
 use Rattle.text.proofs.TextParts.{store-header}
 use borrow.Author.Tests.{not-true, not-false}
 use mathlib.Core.Path.{refl, sym, _∙_}
@@ -20,10 +21,10 @@ returns : tie.Need-returns
 returns c = no-store _ _ _ (sym (c .before .before .check-rules .ensures) ∙ c .enum-told .given .1)
 
 shared-slice-read-atoms : tie.Need-shared-slice-read-atoms
-shared-slice-read-atoms c = omega (arith, store-header (store-here (c .before .before .before .before .before .before .before .before .args .rules .now) (c .before .before .before .before .before .before .before .before .args .names .now) (c .before .before .before .before .before .before .before .before .args .out .now) _ (sym (c .before .before .before .before .check-rules .ensures) ∙ c .before .before .store .given .1)))
+shared-slice-read-atoms c = omega (arith, store-header (store-here (c .before .before .before .before .before .before .before .before .args .rules .now) _ (sym (c .before .before .before .before .check-rules .ensures) ∙ c .before .before .store .given .1)))
 
 cast-atoms : tie.Need-cast-atoms
-cast-atoms c = omega (arith, atoms-fit (c .before .before .before .before .before .before .before .before .args .rules .now) (c .before .before .before .before .before .before .before .before .args .names .now) (c .before .before .before .before .before .before .before .before .args .out .now) _ (sym (c .before .before .before .before .check-rules .ensures) ∙ c .before .before .store .given .1))
+cast-atoms c = omega (arith, atoms-fit (c .before .before .before .before .before .before .before .before .args .rules .now) _ (sym (c .before .before .before .before .check-rules .ensures) ∙ c .before .before .store .given .1))
 
 slice-aggregate-index-names : tie.Need-slice-aggregate-index-names
 slice-aggregate-index-names c = search needs
@@ -35,7 +36,7 @@ slice-aggregate-index-names-3 : tie.Need-slice-aggregate-index-names-3
 slice-aggregate-index-names-3 c = search needs
 
 index-names-requires : tie.Need-index-names-requires
-index-names-requires c κs = (atoms-fit (c .before .before .before .before .before .before .before .before .before .before .before .args .rules .now) (c .before .before .before .before .before .before .before .before .before .before .before .args .names .now) (c .before .before .before .before .before .before .before .before .before .before .before .args .out .now) _ (sym (c .before .before .before .before .before .before .before .check-rules .ensures) ∙ c .before .before .before .before .before .store .given .1), atoms-fit (c .before .before .before .before .before .before .before .before .before .before .before .args .rules .now) (c .before .before .before .before .before .before .before .before .before .before .before .args .names .now) (c .before .before .before .before .before .before .before .before .before .before .before .args .out .now) _ (sym (c .before .before .before .before .before .before .before .check-rules .ensures) ∙ c .before .before .before .before .before .store .given .1), refl, atoms-fit (c .before .before .before .before .before .before .before .before .before .before .before .args .rules .now) (c .before .before .before .before .before .before .before .before .before .before .before .args .names .now) (c .before .before .before .before .before .before .before .before .before .before .before .args .out .now) _ (sym (c .before .before .before .before .before .before .before .check-rules .ensures) ∙ c .before .before .before .before .before .store .given .1))
+index-names-requires c κs = (atoms-fit (c .before .before .before .before .before .before .before .before .before .before .before .args .rules .now) _ (sym (c .before .before .before .before .before .before .before .check-rules .ensures) ∙ c .before .before .before .before .before .store .given .1), atoms-fit (c .before .before .before .before .before .before .before .before .before .before .before .args .rules .now) _ (sym (c .before .before .before .before .before .before .before .check-rules .ensures) ∙ c .before .before .before .before .before .store .given .1), refl, atoms-fit (c .before .before .before .before .before .before .before .before .before .before .before .args .rules .now) _ (sym (c .before .before .before .before .before .before .before .check-rules .ensures) ∙ c .before .before .before .before .before .store .given .1))
 
 returns-2 : tie.Need-returns-2
 returns-2 c = no-names _ _ _ _ (sym (c .before .before .before .before .before .before .before .before .before .before .before .before .check-rules .ensures) ∙ c .before .before .before .before .before .before .before .before .before .before .store .given .1) _ (c .before .before .before .before .index-names .ensures .0) (not-true _ (c .if1 .taken))

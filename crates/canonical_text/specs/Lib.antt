@@ -1,0 +1,2 @@
+-- What holds of canonical texts.
+pub mod CanonicalTexts

@@ -1,0 +1,2 @@
+-- The laws of the canonical writer's answer.
+pub mod WritingCanonical

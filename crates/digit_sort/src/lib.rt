@@ -1,0 +1,3 @@
+// Entries sorted by their keys, digit by digit (document 02, W-205).
+pub mod sorting;
+pub mod spreading;

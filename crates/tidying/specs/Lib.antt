@@ -1,0 +1,2 @@
+-- What sorting the lists of stored rules leaves.
+pub mod TidyWords
