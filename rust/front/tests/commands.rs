@@ -457,6 +457,7 @@ fn unreadable_files() {
             "preferred",
             "stable",
             "clauses",
+            "canonical",
             "solve",
         ] {
             let ran = run(front().args([command, path]), "");
@@ -487,6 +488,7 @@ fn help() {
         "preferred FILE [--budget N] [--json] ATOM..",
         "stable FILE [--budget N] [--json] ATOM..",
         "clauses FILE",
+        "canonical FILE",
         "solve FILE [--solver PATH] [--first N] [--check] [--json]",
     ] {
         assert!(page.out.contains(&format!("  {usage}\n")), "{usage}");

@@ -111,7 +111,9 @@ fn each_refusal() {
     let texts = [
         (1, many("a", 917_505)),
         (2, String::new()),
-        (2, "(vary  a)\n".to_string()),
+        (2, "(vary a) (fix)\n".to_string()),
+        (2, "; nothing\n\n".to_string()),
+        (2, "(vary)\n(fix)\n; the end".to_string()),
         (2, "(vary)\n(fix)".to_string()),
         (2, "(vary)\r\n(fix)\r\n".to_string()),
         (2, "(min a)\n".to_string()),
@@ -134,6 +136,7 @@ fn each_refusal() {
             "(vary)\n(fix a)\n(rule (head) (body) (not a))\n".to_string(),
         ),
         (10, "(atoms a)\n".to_string()),
+        (10, "; plain\n\n ( atoms a )\n".to_string()),
     ];
     for (number, text) in texts {
         compare_both(text.as_bytes());
