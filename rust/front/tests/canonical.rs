@@ -4,6 +4,7 @@ mod common;
 
 use common::{example, front, ran, rigtomato, run, run_bytes, text_of, Temporary, FILE_A};
 use compare::generate::{either, partly_used, Size};
+use compare::hand_typed::loosened;
 use compare::random::Random;
 use reference::canonical::canonical;
 use reference::limits::Kind;
@@ -61,7 +62,8 @@ fn of_files() {
     );
 }
 
-/// What the second implementation says of random files, typed as the writer writes them.
+/// What the second implementation says of random files, as the writer writes them and as they are
+/// typed.
 #[test]
 fn random_files() {
     let mut random = Random::new(205);
@@ -70,7 +72,10 @@ fn random_files() {
             0 => either(&mut random, Size::SMALL),
             _ => partly_used(&mut random, Size::SMALL),
         };
-        let text = writer::write(&program, &names);
+        let mut text = writer::write(&program, &names);
+        if turn % 4 > 1 {
+            text = loosened(&mut random, &text);
+        }
         let (left, left_names) = match program.kind {
             Kind::Plain => (program, names),
             Kind::Preference => without_unused(&program, &names),

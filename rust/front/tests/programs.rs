@@ -6,6 +6,7 @@ mod common;
 use common::{example, front, proved, run_bytes, tautology, varying};
 use compare::fresh_seed;
 use compare::generate::{either, names, partly_used, preference, Size};
+use compare::hand_typed::{damage, loosened};
 use compare::random::Random;
 use compare::spoil;
 use reference::limits::{Kind, BUDGET_LIMIT, PROGRAM_LIMIT, VERDICT_ATOM_LIMIT};
@@ -207,10 +208,16 @@ fn random_files() {
     let mut random = Random::new(seed);
     for round in 0..400 {
         let mut text = random_text(&mut random);
-        match round % 3 {
+        match round % 4 {
             1 => spoil::text(&mut random, &mut text),
             2 => spoil::names_of_text(&mut random, &mut text),
             _ => {}
+        }
+        if random.once_in(2) {
+            text = loosened(&mut random, &text);
+        }
+        if round % 4 == 3 {
+            damage(&mut random, &mut text);
         }
         compare_both(&text);
     }
