@@ -4,15 +4,14 @@ use crate::arguments::Choice;
 use crate::commands::{Command, COMMANDS};
 
 const FORMAT: &str = "\
-FILE may be - for standard input. A preference file has one bracket form a line,
-with any spaces around words and brackets, comments from ; to the line's end, and
-blank lines where they help:
+FILE may be - for standard input. A preference file has one bracket form a line.
+Spaces may stand around words and brackets, a comment goes from ; to the line's
+end, and lines may be blank:
 
     (min sensor)                            ; faults, the gravest class first
     (min lamp)                              ; .. up to 16 classes
     (vary dark)                             ; what nobody knows
     (fix)                                   ; what is known and stays as it is
-
     (rule (head sensor lamp) (body) (not))  ; the sensor or the lamp is at fault
     (rule (head dark) (body lamp) (not))    ; a lamp at fault means dark
 

@@ -54,6 +54,11 @@ fn of_files() {
         states,
         run(front().args(["states", &example("catalogue.pref")]), "")
     );
+    let typed = run(
+        front().args(["canonical", &example("file_a_typed.pref")]),
+        "",
+    );
+    assert_eq!(typed, ran(0, &text_of(&example("file_a.pref")), ""));
     let inverters = text_of(&example("inverters.pref"));
     let sorted = rigtomato("canonical -", &inverters).out;
     assert_eq!(

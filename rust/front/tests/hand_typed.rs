@@ -2,7 +2,7 @@
 
 mod common;
 
-use common::{ran, rigtomato, run, stored, Json, Temporary, FILE_A};
+use common::{example, front, ran, rigtomato, run, stored, Json, Temporary, FILE_A};
 
 /// File A.
 const TYPED: &str = "\
@@ -78,13 +78,26 @@ fn broken_rules() {
     );
 }
 
+/// The examples, as their page tells of them.
+#[test]
+fn the_plain_example() {
+    let file = example("switch.plain");
+    let stable = |atoms: &[&str]| run(front().args(["stable", &file]).args(atoms), "");
+    assert_eq!(stable(&["on", "lit"]), ran(0, "yes, 5 units\n", ""));
+    assert_eq!(stable(&["off"]), ran(0, "yes, 4 units\n", ""));
+    let broken = "no model: line 8 is broken: (rule (head lit) (body on) (not))\n";
+    assert_eq!(stable(&["on"]), ran(0, broken, ""));
+    let check = run(front().args(["check", &file]), "");
+    assert!(check.out.starts_with("accepted: a plain program\n"));
+}
+
 /// `solve --check` names the broken line too.
 #[test]
 fn states_of_a_solver() {
     let file = Temporary::new("typed.pref", TYPED);
     let models = Temporary::new("typed.models", "holds(\"lamp\")\nSATISFIABLE\n");
     let solve = |models: &str| {
-        let mut command = common::front();
+        let mut command = front();
         command
             .args(["solve", "--check", &file.path])
             .args(["--solver", &stored("solver")])

@@ -89,6 +89,7 @@ fn compare_both(text: &[u8]) {
 fn examples() {
     for name in [
         "file_a",
+        "file_a_typed",
         "inverters",
         "inverters_by_rank",
         "touch",

@@ -2,9 +2,12 @@
 
 mod common;
 
-use common::{accepted, many, refused, states, stores, FILE_A};
+use common::{accepted, many, refused, rules, states, stores, FILE_A};
+use reference::canonical::canonical;
+use reference::lent;
 use reference::limits::TEXT_LIMIT;
 use reference::pieces::strict;
+use reference::verdicts::Verdict;
 use reference::{programs, reader, writer};
 
 /// The text that the writer gives for an accepted one.
@@ -409,6 +412,39 @@ fn the_programs() {
     );
     assert_eq!(programs::states(b"\n ( atoms )\n"), b"(refused 10 0)\n");
     assert_eq!(programs::states(b"\n\n"), b"(refused 2 3)\n");
+}
+
+/// The examples that are typed as a person does, with what their page tells of them.
+#[test]
+fn the_examples() {
+    for (typed, listed) in [
+        (
+            include_str!("../../../examples/touch.pref"),
+            "(state bad_lamp visit touch)\n(total 1)\n",
+        ),
+        (
+            include_str!("../../../examples/inverters_by_rank.pref"),
+            "(state ab3 b)\n(total 1)\n",
+        ),
+        (
+            include_str!("../../../examples/file_a_typed.pref"),
+            "(state lamp dark)\n(total 1)\n",
+        ),
+    ] {
+        assert_ne!(strict(typed.as_bytes()), typed.as_bytes());
+        assert_eq!(programs::states(typed.as_bytes()), listed.as_bytes());
+    }
+    let strict_file = include_str!("../../../examples/file_a.pref");
+    accepted(strict_file);
+    let typed = include_str!("../../../examples/file_a_typed.pref");
+    let (program, names) = reader::read(typed.as_bytes()).unwrap();
+    assert_eq!(
+        writer::write(&canonical(&program), &names),
+        strict_file.as_bytes()
+    );
+    let plain = rules(include_str!("../../../examples/switch.plain"));
+    let yes = |set: &u64| matches!(lent::stable(&plain, *set, 99), Ok(Verdict::Yes { .. }));
+    assert!((0..8).filter(yes).eq([2, 5]));
 }
 
 /// A text as long as the limit is read, whatever it is made of; the length is tested first.
