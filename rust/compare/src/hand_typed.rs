@@ -26,9 +26,10 @@ fn in_ten(random: &mut Random, often: usize) -> bool {
     random.below(10) < often
 }
 
-/// So many spaces or more.
+/// So many spaces or more, at times past a block of bytes that a reader may look at at once.
 fn spaces(random: &mut Random, habit: &Habit, least: usize, text: &mut Vec<u8>) {
     let more = match in_ten(random, habit.spaces) {
+        true if random.once_in(20) => random.within(1, 70),
         true => random.within(1, 5),
         false => 0,
     };
@@ -59,16 +60,21 @@ fn comment(random: &mut Random) -> Vec<u8> {
         "; caf\u{e9}",
         ";\\",
     ];
-    if random.once_in(20) {
-        let length = random.within(30, 400);
-        return [b";".as_slice(), &vec![b'x'; length]].concat();
+    const BYTES: &[u8] = b"ab ();;\t\r\0\x7f\x80\xff";
+    let mut comment = random.pick(&COMMENTS).as_bytes().to_vec();
+    if random.once_in(4) {
+        let most = *random.pick(&[70, 70, 70, 400]);
+        for _ in 0..random.within(0, most) {
+            comment.push(*random.pick(BYTES));
+        }
     }
-    random.pick(&COMMENTS).as_bytes().to_vec()
+    comment
 }
 
 /// A line that says nothing.
 fn blank(random: &mut Random, text: &mut Vec<u8>) {
-    let indented = *random.pick(&[0, 0, 1, 3, 40]);
+    let most = *random.pick(&[0, 0, 3, 70]);
+    let indented = random.within(0, most);
     text.resize(text.len() + indented, b' ');
     if random.once_in(2) {
         text.extend(comment(random));
@@ -126,7 +132,7 @@ pub fn loosened(random: &mut Random, text: &[u8]) -> Vec<u8> {
     typed
 }
 
-/// The places where the text has a byte of these, or none.
+/// The place of some byte of these, where the text has one.
 fn place_of(random: &mut Random, text: &[u8], wanted: &[u8]) -> Option<usize> {
     let has = |at: &usize| wanted.contains(&text[*at]);
     let places: Vec<usize> = (0..text.len()).filter(has).collect();

@@ -125,6 +125,45 @@ pub fn limits(check: &mut Checker) -> Checked {
     Ok(())
 }
 
+/// Lines of each length up to some blocks of bytes, with what ends a run of spaces, a word or a comment
+/// at each place of a block. Done once a run.
+pub fn block_edges(check: &mut Checker) -> Checked {
+    const RULE: &str = "(rule(head)(body)(not))";
+    for count in 0..=70 {
+        let (spaces, word) = (" ".repeat(count), "a".repeat(count));
+        for line in [
+            format!("{spaces}{RULE}"),
+            format!("{RULE}{spaces}"),
+            format!("{RULE}{spaces};"),
+            format!("{RULE};{spaces}"),
+            format!("{RULE};{word}"),
+            format!("(rule(head{spaces})(body)(not))"),
+            format!("(rule(head)(body){spaces}(not))"),
+            format!("(rule(head)(body)(not)){spaces}{RULE}"),
+            format!("(rule(head)(body{word})(not))"),
+            format!("(rule(head)(body {word})(not))"),
+            format!("(rule(head)(body {word};)(not))"),
+            format!("{spaces}\t"),
+            format!("{spaces};"),
+            format!(";{word}"),
+            format!(";{word};"),
+            spaces,
+            word,
+        ] {
+            for text in [
+                format!("(vary)\n(fix)\n{line}\n"),
+                format!("(vary)\n(fix)\n{line}"),
+                format!("(vary)\n(fix)\n{line}\n(rule\n"),
+                format!("{line}\n(atoms)\n"),
+                format!("(atoms)\n{line}\n{RULE}\n{line}"),
+            ] {
+                check.read(text.as_bytes(), 20, 20)?;
+            }
+        }
+    }
+    Ok(())
+}
+
 /// Every text of up to so many of these pieces, behind what stands before it.
 fn every(check: &mut Checker, before: &str, pieces: &[&str], most: usize) -> Checked {
     let mut texts = vec![before.to_string()];

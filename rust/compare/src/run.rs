@@ -103,6 +103,7 @@ pub fn run_families(
     clause_cases::short_texts(&mut check)?;
     let clauses = check.comparisons - before - limits;
     hand_typed_cases::short_texts(&mut check)?;
+    hand_typed_cases::block_edges(&mut check)?;
     let typed = check.comparisons - before - limits - clauses;
     let mut families = vec![
         ("limits", limits),
