@@ -14,8 +14,8 @@ each list of a rule are sorted as they are declared, then the rules by the first
 difference of their heads, bodies and not lists, where a list that ends first
 stands before; one of equal rules is kept. The declarations stay.
 
-So two files print the same text exactly when they declare the same atoms in the
-same order and have the same rules, however they are typed:
+So two files print the same text exactly when they have the same declarations in
+the same order, without what goes, and the same rules, however they are typed:
 
     rigtomato canonical ONE >one
     rigtomato canonical OTHER | cmp - one
