@@ -10,8 +10,10 @@
  * the parameters can carry. In short:
  *
  * - A text is a preference file (`(min ..)` lines, `(vary ..)`, `(fix ..)`, rules) or a plain
- *   program (`(atoms ..)`, rules). rigtomato_read turns it into two stores, rigtomato_write turns
- *   the stores back into the same text, but for the names that were left out.
+ *   program (`(atoms ..)`, rules), typed with any spaces, comments and blank lines. rigtomato_read
+ *   turns it into two stores. rigtomato_write turns the stores back into text, into the same one if
+ *   it had one space between items and no other spacing, but for the names that were left out.
+ *   rigtomato_write_canonical gives files that say the same the same text.
  * - Only atoms that stand in some rule belong to a preference file's program. rigtomato_read leaves
  *   the others out. Stores handed in may hold such atoms: they are taken as they stand, and n and
  *   sets count them.
@@ -76,7 +78,7 @@ extern "C" {
 
 /* ---- Sizes ---- */
 
-/* The most bytes of a text; what the writer and the translator give is never longer. */
+/* The most bytes of a text; what the two writers and the translator give is never longer. */
 #define RIGTOMATO_TEXT_LIMIT 917504
 /* The most words of a rule store: 4, and three lengths for each of 4,200 rules, and 24,000 atoms. */
 #define RIGTOMATO_RULES_LIMIT 36604
@@ -95,6 +97,12 @@ struct rigtomato_read_answer {
 };
 
 /* Reads a text of either kind into a rule store and a name store. rules[0] tells the kind.
+ *
+ * Lines end with byte 10, the last one too. A line is cut at its first `;`; what is left is brackets
+ * and words, which are runs of bytes other than spaces (byte 32) and brackets. Spaces mean nothing
+ * else, and none is needed beside a bracket. One bracket form stands on a line; a line with nothing
+ * left is blank, and counts as a line. A tab or a carriage return belongs to a word and so breaks it.
+ * The text is a plain program exactly when its first form's first word is `atoms`.
  *
  * A preference file's atoms that stand in no rule are checked with the others: a name too long, an
  * atom declared twice or a 257th is refused. Then they are left out of both stores. The remaining
@@ -131,10 +139,22 @@ struct rigtomato_text_answer {
 };
 
 /* Writes the text of a rule store of either kind and its name store, atoms that no rule has
- * included. */
+ * included: one space between items, no other spacing, no comment and no blank line. */
 struct rigtomato_text_answer rigtomato_write(const uint16_t *rules, size_t rules_len,
                                              const uint8_t *names, size_t names_len,
                                              uint8_t *out, size_t out_len);
+
+/* Writes the canonical text of a rule store of either kind and its name store: the same form, with
+ * the atoms inside each of a rule's lists sorted by number, then the rules by the first difference of
+ * their heads, bodies and `not` lists (a list that ends first stands before), and one of equal rules
+ * kept. The declarations stay as they are, atoms that no rule has included.
+ *
+ * Two stores with their names give equal bytes exactly when they declare the same in the same order
+ * and have the same rules as sets. The text read and written canonically again is the same, unless it
+ * is that of a preference store with atoms in no rule, which rigtomato_read leaves out. */
+struct rigtomato_text_answer rigtomato_write_canonical(const uint16_t *rules, size_t rules_len,
+                                                       const uint8_t *names, size_t names_len,
+                                                       uint8_t *out, size_t out_len);
 
 /* Writes the text of a preference file's plain program, whose stable sets, cut down to the file's
  * atoms, are the file's preferred states, each from one stable set. */

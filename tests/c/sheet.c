@@ -1,6 +1,6 @@
 /* Document 01's sheet for file A, with places and order by document 02, W-206, units by W-207, what
- * is left out by W-203 and clause files by W-202, through the C interface. Prints what fails and ends
- * with status 1 then. Compile with
+ * is left out by W-203, clause files by W-202, hand-typed files and the canonical text by W-205,
+ * through the C interface. Prints what fails and ends with status 1 then. Compile with
  *     gcc -Wall -Wextra -Werror -Iinclude tests/c/sheet.c target/staticlib/librigtomato.a */
 #include "rigtomato.h"
 
@@ -195,17 +195,21 @@ static void places(void)
     CHECK(rigtomato_place(NULL, 0, 0).refusal == RIGTOMATO_RULE_STORE);
 }
 
-/* From the stores of a text comes the text expected, into an output exact, one byte short and
- * longer. */
-static void written_as(const char *read, const char *text)
+/* One of the two writers. */
+typedef struct rigtomato_text_answer writer(const uint16_t *rules, size_t rules_len,
+                                            const uint8_t *names, size_t names_len,
+                                            uint8_t *out, size_t out_len);
+
+/* From the file's stores the writer makes the text expected, into an output exact, one byte short
+ * and longer. */
+static void stores_written_as(writer *write, const char *text)
 {
     static uint8_t out[4096];
     size_t length = strlen(text);
-    CHECK(read_text(read, strlen(read)).refusal == 0);
     for (size_t lent = length - 1; lent <= length + 2; lent++) {
         memset(out, 0xa5, sizeof out);
-        struct rigtomato_text_answer answer = rigtomato_write(
-            file.rules, file.rules_len, file.names, file.names_len, out, lent);
+        struct rigtomato_text_answer answer =
+            write(file.rules, file.rules_len, file.names, file.names_len, out, lent);
         size_t done = 0;
         if (lent < length) {
             CHECK(answer.refusal == RIGTOMATO_OUTPUT_SHORT && answer.bytes == 0);
@@ -219,6 +223,13 @@ static void written_as(const char *read, const char *text)
             kept = kept && out[i] == 0xa5;
         CHECK(kept);
     }
+}
+
+/* The same from the stores of a text. */
+static void written_as(const char *read, const char *text)
+{
+    CHECK(read_text(read, strlen(read)).refusal == 0);
+    stores_written_as(rigtomato_write, text);
 }
 
 /* The text comes back from its stores. */
@@ -462,6 +473,172 @@ static void clause_refusals(void)
     CHECK(answer.refusal == RIGTOMATO_TEXT_TOO_LONG && answer.line == 0);
 }
 
+/* Document 02, W-205: spaces, comments and blank lines. */
+static void hand_typed(void)
+{
+    const char *file_a = "(min sensor)\n(min lamp)\n(vary dark)\n(fix)\n"
+                         "(rule (head sensor lamp) (body) (not))\n"
+                         "(rule (head dark) (body lamp) (not))\n";
+    written_as("; one of two parts is at fault\n\n  ( min sensor )\n(min lamp)   ; the lesser\n"
+               "(vary  dark)\n(fix)\n     \n(rule (head sensor lamp) (body)      (not))\n"
+               "(rule(head dark)(body lamp)(not));no light\n;\n", file_a);
+    CHECK(states_are(1, (const uint64_t[]){6}));
+    written_as("\n;\n ( atoms a N.a )\n\n(rule(head a)(body)(not N.a))\n",
+               "(atoms a N.a)\n(rule (head a) (body) (not N.a))\n");
+    CHECK(file.rules[0] == 0);
+    /* lines are counted as typed, and a missing one stands one past the last */
+    CHECK(read_gives("\n\n(vary a) ; one\n(fix a)\n", RIGTOMATO_DECLARED_TWICE, 4));
+    CHECK(read_gives("(vary)\n(fix)\n;\n\n(rule(head a)(body)(not))\n", RIGTOMATO_NOT_DECLARED, 5));
+    CHECK(read_gives("\n; nothing\n  \n", RIGTOMATO_FORM, 4));
+    CHECK(read_gives("(vary)\n\n", RIGTOMATO_FORM, 3));
+    /* one form a line, and no form over two */
+    CHECK(read_gives("(vary)(fix)\n", RIGTOMATO_FORM, 1));
+    CHECK(read_gives("(vary)\n(fix) (rule (head) (body) (not))\n", RIGTOMATO_FORM, 2));
+    CHECK(read_gives("(vary\n)\n(fix)\n", RIGTOMATO_FORM, 1));
+    /* byte 10 ends the last line too, a comment or a blank one */
+    CHECK(read_gives("(vary)\n(fix)\n; end", RIGTOMATO_FORM, 3));
+    CHECK(read_gives("(vary)\n(fix)\n ", RIGTOMATO_FORM, 3));
+    /* only byte 32 is a space */
+    CHECK(read_gives("(vary\ta)\n(fix)\n", RIGTOMATO_FORM, 1));
+    CHECK(read_gives("(vary)\r\n(fix)\r\n", RIGTOMATO_FORM, 1));
+    CHECK(read_gives("(vary) ;\t\r\n(fix)\n", 0, 0));
+    /* what a comment cuts off is lacking */
+    CHECK(read_gives("(vary a;)\n(fix)\n", RIGTOMATO_FORM, 1));
+    CHECK(read_gives("(vary);(fix)\n", RIGTOMATO_FORM, 2));
+    /* the first form's first word tells the kind */
+    CHECK(read_gives("; (atoms a)\n(vary)\n(fix)\n(rule (head) (body) (not a))\n",
+                     RIGTOMATO_NOT_DECLARED, 4));
+    CHECK(read_gives("(atomsx)\n", RIGTOMATO_FORM, 1));
+    CHECK(read_gives("(min(a))\n(vary)\n(fix)\n", RIGTOMATO_FORM, 1));
+}
+
+/* The longest texts of spaces, comments, blank lines and brackets. */
+static void longest_texts(void)
+{
+    static char text[RIGTOMATO_TEXT_LIMIT];
+    struct rigtomato_read_answer answer;
+    memset(text, ' ', sizeof text);
+    answer = read_text(text, sizeof text);
+    CHECK(answer.refusal == RIGTOMATO_FORM && answer.line == 1);
+    text[sizeof text - 1] = '\n';
+    answer = read_text(text, sizeof text);
+    CHECK(answer.refusal == RIGTOMATO_FORM && answer.line == 2);
+    memcpy(text + 400000, "(vary)\n(fix)\n", 13);
+    CHECK(read_text(text, sizeof text).refusal == 0 && file.rules_len == 4);
+    memset(text, '\n', sizeof text);
+    answer = read_text(text, sizeof text);
+    CHECK(answer.refusal == RIGTOMATO_FORM && answer.line == sizeof text + 1);
+    for (size_t i = 0; i < sizeof text; i += 2)
+        text[i] = ';';
+    answer = read_text(text, sizeof text);
+    CHECK(answer.refusal == RIGTOMATO_FORM && answer.line == sizeof text / 2 + 1);
+    memset(text, '(', sizeof text);
+    answer = read_text(text, sizeof text);
+    CHECK(answer.refusal == RIGTOMATO_FORM && answer.line == 1);
+}
+
+/* The canonical text of the stores of a text. */
+static void canonical_is(const char *read, const char *text)
+{
+    CHECK(read_text(read, strlen(read)).refusal == 0);
+    stores_written_as(rigtomato_write_canonical, text);
+}
+
+static uint64_t canonical_refusal(const uint16_t *rules, size_t rules_len, const char *names,
+                                  size_t names_len, size_t lent)
+{
+    static uint8_t out[4096];
+    memset(out, 0xa5, sizeof out);
+    struct rigtomato_text_answer answer = rigtomato_write_canonical(
+        rules, rules_len, (const uint8_t *)names, names_len, out, lent);
+    CHECK(answer.bytes == 0);
+    int kept = 1;
+    for (size_t i = 0; i < sizeof out; i++)
+        kept = kept && out[i] == 0xa5;
+    CHECK(kept);
+    return answer.refusal;
+}
+
+/* Document 02, W-205: the canonical text. */
+static void canonical(void)
+{
+    /* lists by number and not by name, rules by head, body and not, one of equal rules */
+    const char *sorted = "(atoms c b a)\n"
+                         "(rule (head) (body) (not))\n"
+                         "(rule (head) (body) (not c))\n"
+                         "(rule (head) (body b) (not))\n"
+                         "(rule (head c) (body) (not))\n"
+                         "(rule (head c) (body b) (not a))\n"
+                         "(rule (head c) (body b a) (not))\n"
+                         "(rule (head c b a) (body) (not))\n"
+                         "(rule (head b) (body) (not))\n";
+    canonical_is(sorted, sorted);
+    canonical_is("; the same\n(atoms c b a)\n"
+                 "(rule(head b)(body)(not))\n"
+                 "(rule(head a b c)(body)(not))\n"
+                 "(rule(head c)(body a b)(not))\n"
+                 "(rule(head c)(body b)(not a))\n"
+                 "(rule(head c)(body)(not))\n\n"
+                 "(rule(head)(body b)(not))\n"
+                 "(rule(head)(body)(not c))\n"
+                 "(rule(head)(body)(not))\n"
+                 "(rule(head c)(body b a)(not)) ; once more\n"
+                 "(rule(head b)(body)(not)) ; once more\n", sorted);
+    canonical_is("(atoms)\n", "(atoms)\n");
+    canonical_is("(min b x)\n(min)\n(vary)\n(fix a)\n(rule (head a b) (body) (not))\n",
+                 "(min b)\n(min)\n(vary)\n(fix a)\n(rule (head b a) (body) (not))\n");
+    /* in stores handed in the atoms that no rule has are written */
+    static const uint16_t words[] = {1, 4, 2, 2, 1, 2, 17, 18, 2, 0, 0, 3, 1, 2, 0, 0, 1, 3};
+    static const char names[] = "\x01" "a\x01" "b\x01" "v\x01" "f";
+    size_t count = sizeof words / sizeof words[0], length = sizeof names - 1;
+    file.rules_len = count;
+    memcpy(file.rules, words, sizeof words);
+    file.names_len = length;
+    memcpy(file.names, names, length);
+    stores_written_as(rigtomato_write_canonical, "(min a)\n(min b)\n(vary v)\n(fix f)\n"
+                                                 "(rule (head b f) (body) (not))\n");
+    /* 10, then 14, then 9; nothing is written on a refusal */
+    CHECK(canonical_refusal(words, count, names, length, 63) == RIGTOMATO_OUTPUT_SHORT);
+    CHECK(canonical_refusal(words, count, names, length, 0) == RIGTOMATO_OUTPUT_SHORT);
+    CHECK(canonical_refusal(words, count, names, length - 1, 4096) == RIGTOMATO_NAME_STORE);
+    CHECK(canonical_refusal(words, count, names, 0, 0) == RIGTOMATO_NAME_STORE);
+    CHECK(canonical_refusal(words, count - 1, names, length, 4096) == RIGTOMATO_RULE_STORE);
+    CHECK(canonical_refusal(words, count - 1, names, 0, 0) == RIGTOMATO_RULE_STORE);
+    CHECK(rigtomato_write_canonical(NULL, 0, NULL, 0, NULL, 0).refusal == RIGTOMATO_RULE_STORE);
+}
+
+/* The most rules: from the last to the first, and all of them equal. */
+static void canonical_of_the_most_rules(void)
+{
+    static char text[RIGTOMATO_TEXT_LIMIT];
+    static uint8_t out[RIGTOMATO_TEXT_LIMIT], again[RIGTOMATO_TEXT_LIMIT];
+    size_t declared = (size_t)sprintf(text, "(atoms");
+    declared += print_atoms(text + declared, 1100);
+    declared += (size_t)sprintf(text + declared, ")\n");
+    size_t length = declared;
+    for (int i = 4199; i >= 0; i--)
+        length += (size_t)sprintf(text + length, "(rule (head a%d) (body a%d) (not))\n", i % 1100,
+                                  i / 1100);
+    CHECK(read_text(text, length).refusal == 0);
+    struct rigtomato_text_answer answer = rigtomato_write_canonical(
+        file.rules, file.rules_len, file.names, file.names_len, out, sizeof out);
+    CHECK(answer.refusal == 0 && answer.bytes == length);
+    CHECK(memcmp(out + declared, "(rule (head a0) (body a0) (not))\n", 33) == 0);
+    CHECK(memcmp(out + declared + 33, "(rule (head a0) (body a1) (not))\n", 33) == 0);
+    CHECK(read_text((const char *)out, answer.bytes).refusal == 0);
+    answer = rigtomato_write_canonical(file.rules, file.rules_len, file.names, file.names_len,
+                                       again, sizeof again);
+    CHECK(answer.refusal == 0 && answer.bytes == length && memcmp(out, again, length) == 0);
+    length = declared;
+    for (int i = 0; i < 4200; i++)
+        length += (size_t)sprintf(text + length, "(rule (head) (body a7) (not))\n");
+    CHECK(read_text(text, length).refusal == 0);
+    answer = rigtomato_write_canonical(file.rules, file.rules_len, file.names, file.names_len, out,
+                                       declared + 30);
+    CHECK(answer.refusal == 0 && answer.bytes == declared + 30);
+    CHECK(memcmp(out, text, declared + 30) == 0);
+}
+
 /* The sizes that the header names, met and passed by one. */
 static void sizes(void)
 {
@@ -492,6 +669,10 @@ int main(void)
     stores_handed_in();
     clauses();
     clause_refusals();
+    hand_typed();
+    longest_texts();
+    canonical();
+    canonical_of_the_most_rules();
     sizes();
     printf("tests/c/sheet.c: %d checks, %d failed\n", checks, failures);
     return failures != 0;

@@ -12,7 +12,9 @@ import shlex
 import subprocess
 import sys
 
-from to_clingo import RULE, convert
+from to_clingo import convert
+
+LIST = re.compile(r"\( *(?:head|body|not)((?: [^()]*)?)\)")  # a list of a rule, however it is spaced
 
 
 def output(command, path):
@@ -23,11 +25,12 @@ def output(command, path):
 def atoms(path):
     """The declared atoms that stand in some rule, in declared order: only these belong to the program."""
     declared, used = [], set()
-    with open(path) as text:
-        for line in text:
-            word, *rest = re.findall(r"[^ ()\n]+", line)
+    with open(path, "rb") as text:
+        for line in text.read().decode("latin-1").split("\n"):
+            form = line.partition(";")[0]
+            word, *rest = re.findall(r"[^ ()]+", form) or [None]
             if word == "rule":
-                used.update(name for part in RULE.fullmatch(line.strip()).groups() for name in part.split())
+                used.update(name for names in LIST.findall(form) for name in names.split())
             else:
                 declared += rest
     return [name for name in declared if name in used]

@@ -1,11 +1,12 @@
 //! The inputs, from fixed seeds, so that each run of the table has the same.
 
+use crate::twin::{Refused, Stores};
 use crate::walks::{self, Answer};
 use compare::generate;
 use compare::random::Random;
-use reference::limits::Kind;
+use reference::limits::{Kind, TEXT_LIMIT};
 use reference::program::{Program, Role, Rule};
-use reference::stores::rule_store;
+use reference::stores::{name_store, rule_store};
 use reference::verdicts::place;
 
 /// A rule store with a set or a start, and the answer to it.
@@ -194,6 +195,78 @@ pub fn long_file(every: usize) -> Vec<u8> {
     }
     let names = generate::names(&mut random, Kind::Preference, 256);
     reference::writer::write(&file, &names)
+}
+
+/// The text as a person types it: lists that stand apart, a comment behind every other line, and every
+/// fourth time a blank line and a comment before it.
+pub fn typed(text: &[u8]) -> Vec<u8> {
+    let mut typed = Vec::new();
+    for (number, line) in text.split_inclusive(|byte| *byte == b'\n').enumerate() {
+        if number % 4 == 0 {
+            typed.extend_from_slice(b"\n; what the table of the next part says\n");
+        }
+        let line = line.strip_suffix(b"\n").expect("an ended line");
+        typed.extend_from_slice(b"  ");
+        for byte in line {
+            match byte {
+                b'(' => typed.extend_from_slice(b"   ("),
+                b')' => typed.extend_from_slice(b" )"),
+                _ => typed.push(*byte),
+            }
+        }
+        if number % 2 == 0 {
+            typed.extend_from_slice(b"    ; as it was read at the opening");
+        }
+        typed.push(b'\n');
+    }
+    typed
+}
+
+/// The stores of a plain program with 4,200 rules in no order and nearly 24,000 places. Of many atoms
+/// no rule repeats another; of three most do.
+pub fn many_rules(atoms: usize) -> Stores {
+    let mut random = Random::new(205 + atoms as u64);
+    let mut plain = Program::empty(Kind::Plain);
+    plain.atoms = atoms;
+    for _ in 0..4_200 {
+        let mut rule = Rule::default();
+        for _ in 0..24_000 / 4_200 {
+            let list = match random.below(3) {
+                0 => &mut rule.head,
+                1 => &mut rule.body,
+                _ => &mut rule.not,
+            };
+            let atom = random.below(atoms);
+            if !list.contains(&atom) {
+                list.push(atom);
+            }
+        }
+        plain.rules.push(rule);
+    }
+    let names = generate::names(&mut random, Kind::Plain, atoms);
+    Stores {
+        rules: rule_store(&plain),
+        names: name_store(&names),
+    }
+}
+
+/// As many bytes as a text may have, of what says least: what they are, and how they are refused.
+pub fn longest_texts() -> Vec<(&'static str, Vec<u8>, Refused)> {
+    let filled = |what: &str| what.repeat(TEXT_LIMIT / what.len()).into_bytes();
+    let lines = |what: &str| (2, (TEXT_LIMIT / what.len()) as u64 + 1);
+    let mut spaces = filled(" ");
+    spaces[TEXT_LIMIT - 1] = b'\n';
+    let comment = "; of 16 bytes..\n";
+    vec![
+        ("spaces on one line", spaces, (2, 2)),
+        ("spaces, unended", filled(" "), (2, 1)),
+        ("comment lines", filled(comment), lines(comment)),
+        ("empty comments", filled(";\n"), lines(";\n")),
+        ("blank lines", filled("\n"), lines("\n")),
+        ("opening brackets", filled("("), (2, 1)),
+        ("brackets in pairs", filled("()"), (2, 1)),
+        ("one word", filled("a"), (2, 1)),
+    ]
 }
 
 /// The largest clause file: 256 atoms, 1,024 clauses, 8,192 literals of either sign. Between two items

@@ -1,5 +1,5 @@
-//! What the engine's speed is measured against: hand-written C and Rust for the walks, a fast
-//! readers, writer and translator.
+//! What the engine's speed is measured against: hand-written C and Rust for the walks, fast
+//! readers, writers and translator.
 
 pub mod clauses;
 pub mod inputs;

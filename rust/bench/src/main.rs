@@ -247,7 +247,7 @@ fn inverters_rows() {
 type Lent = fn(&[u16], &[u8], &mut [u8]) -> bool;
 type Fast = fn(&twin::Stores) -> Result<Vec<u8>, u64>;
 
-/// The writer or the translator: the engine's, the fast one and the second implementation's.
+/// A writer or the translator: the engine's, the fast one and the second implementation's.
 struct Writers {
     what: &'static str,
     engine: Option<Lent>,
@@ -256,22 +256,29 @@ struct Writers {
 }
 
 #[cfg(feature = "engine")]
-const ENGINE: (Option<Lent>, Option<Lent>) = (
+const ENGINE: [Option<Lent>; 3] = [
     Some(|rules, names, out| rigtomato::lent::write(rules, names, out).is_ok()),
+    Some(|rules, names, out| rigtomato::lent::write_canonical(rules, names, out).is_ok()),
     Some(|rules, names, out| rigtomato::lent::translate(rules, names, out).is_ok()),
-);
+];
 #[cfg(not(feature = "engine"))]
-const ENGINE: (Option<Lent>, Option<Lent>) = (None, None);
+const ENGINE: [Option<Lent>; 3] = [None, None, None];
 
 const WRITE: Writers = Writers {
     what: "write",
-    engine: ENGINE.0,
+    engine: ENGINE[0],
     fast: twin::write,
     reference: |rules, names, out| lent::write(rules, names, out).is_ok(),
 };
+const WRITE_CANONICAL: Writers = Writers {
+    what: "write canonical",
+    engine: ENGINE[1],
+    fast: twin::write_canonical,
+    reference: |rules, names, out| lent::write_canonical(rules, names, out).is_ok(),
+};
 const TRANSLATE: Writers = Writers {
     what: "translate",
-    engine: ENGINE.1,
+    engine: ENGINE[2],
     fast: twin::translate,
     reference: |rules, names, out| lent::translate(rules, names, out).is_ok(),
 };
@@ -368,15 +375,20 @@ fn clauses_row(what: &str, text: &[u8]) {
     row(&what, text.len() as f64, "MB/s", &contestants);
 }
 
-fn write_row(writers: &Writers, stores: &twin::Stores, text: &Vec<u8>) {
-    let what = format!("{}, {} bytes", writers.what, text.len());
+/// Each of them writes this text, or the bench ends.
+fn those_who_write<'w>(
+    writers: &Writers,
+    stores: &'w twin::Stores,
+    text: &Vec<u8>,
+) -> Vec<Contestant<'w>> {
+    let what = writers.what;
     let fast = writers.fast;
     assert_eq!(
         fast(stores).as_ref(),
         Ok(text),
         "{what}: Rust answers differently"
     );
-    let lent = |call: Lent| -> Box<dyn Fn() + '_> {
+    let lent = |call: Lent| -> Box<dyn Fn() + 'w> {
         let mut out = vec![0; text.len()];
         assert!(
             call(&stores.rules, &stores.names, &mut out) && out == *text,
@@ -398,7 +410,74 @@ fn write_row(writers: &Writers, stores: &twin::Stores, text: &Vec<u8>) {
         Box::new(move || drop(black_box(fast(black_box(stores))))),
     ));
     contestants.push(("reference", lent(writers.reference)));
+    contestants
+}
+
+fn write_row(writers: &Writers, stores: &twin::Stores, text: &Vec<u8>) {
+    let what = format!("{}, {} bytes", writers.what, text.len());
+    let contestants = those_who_write(writers, stores, text);
     row(&what, text.len() as f64, "MB/s", &contestants);
+}
+
+/// 4,200 rules of so many atoms: the fewer atoms, the more of them are equal and the shorter is the
+/// text.
+fn canonical_row(atoms: usize) {
+    let stores = inputs::many_rules(atoms);
+    let text = twin::write_canonical(&stores).expect("stores that fit");
+    let contestants = those_who_write(&WRITE_CANONICAL, &stores, &text);
+    let what = format!(
+        "write canonical, 4,200 rules of {atoms} atoms, {} bytes",
+        text.len()
+    );
+    let times = times(TURNS, &contestants);
+    print_row(&what, &contestants, &times, microseconds);
+}
+
+/// The readers by their refusals.
+type Refusing = fn(&[u8]) -> Option<Refused>;
+
+#[cfg(feature = "engine")]
+fn engine_refusing() -> Option<(&'static str, Refusing)> {
+    let read: Refusing = |text| {
+        let read = rigtomato::lent::read(text, &mut [], &mut []);
+        let refused = read.err()?;
+        Some((refused.refusal as u64, refused.line.unwrap_or(0)))
+    };
+    Some(("engine", read))
+}
+
+#[cfg(not(feature = "engine"))]
+fn engine_refusing() -> Option<(&'static str, Refusing)> {
+    None
+}
+
+/// No text of the permitted length may take longer.
+const BAR: f64 = 0.2;
+
+/// The longest texts of what says least; each is refused, in a time that is held to the bar.
+fn longest_rows() {
+    println!("\nTexts of 917,504 bytes, each of them refused; at most {BAR} s are allowed.");
+    let others: [(&'static str, Refusing); 2] = [
+        ("Rust", |text| twin::read(text).err()),
+        ("reference", |text| {
+            let refused = lent::read(text, &mut [], &mut []).err()?;
+            Some((refused.number(), refused.line))
+        }),
+    ];
+    for (what, text, refused) in inputs::longest_texts() {
+        let text = &text;
+        let contestant = |(name, read): (&'static str, Refusing)| -> Contestant<'_> {
+            let given = move || assert_eq!(read(black_box(text)), Some(refused), "{name}, {what}");
+            (name, Box::new(given))
+        };
+        let readers = engine_refusing().into_iter().chain(others);
+        let contestants: Vec<Contestant> = readers.map(contestant).collect();
+        let times = times(3, &contestants);
+        print_row(&format!("read, {what}"), &contestants, &times, |time| {
+            let over = if time > BAR { ", over the bar" } else { "" };
+            format!("{:>8.3} ms{over}", time * 1e3)
+        });
+    }
 }
 
 /// A long preference file, its translation, and what can be done with them.
@@ -409,12 +488,17 @@ fn text_rows() {
     let plain = twin::read(&delivered).expect("an accepted text");
     read_row("256 atoms, all in rules", &file);
     read_row("256 atoms, half in no rule", &inputs::long_file(2));
+    read_row("256 atoms, hand-typed", &inputs::typed(&file));
     read_row("a translation", &delivered);
+    read_row("a translation, hand-typed", &inputs::typed(&delivered));
     clauses_row("8,192 literals", &inputs::clause_file(1, 0));
     clauses_row("comments and spaces", &inputs::clause_file(3, 2));
     write_row(&WRITE, &stores, &file);
     write_row(&WRITE, &plain, &delivered);
     write_row(&TRANSLATE, &stores, &delivered);
+    for atoms in [1_100, 60, 3] {
+        canonical_row(atoms);
+    }
 }
 
 fn main() {
@@ -430,5 +514,6 @@ fn main() {
     walk_rows();
     beaten_row(29);
     text_rows();
+    longest_rows();
     inverters_rows();
 }

@@ -1,8 +1,10 @@
-//! Reader, writer and translator as a Rust programmer would write them for speed: one pass over
-//! the bytes, names in a HashMap, stores to text without a detour. It is compared with the second
-//! implementation before it is timed.
+//! Reader, both writers and translator as a Rust programmer would write them for speed: one pass over
+//! the bytes, names in a HashMap, stores to text without a detour, rules sorted by a key of their first
+//! words. It is compared with the second implementation before it is timed.
 
+use std::cmp::Ordering;
 use std::collections::{HashMap, HashSet};
+use std::io::BufRead;
 
 /// A refusal's number and line.
 pub type Refused = (u64, u64);
@@ -57,7 +59,21 @@ fn name_fault(name: &[u8], plain: bool) -> u64 {
     }
 }
 
-/// A line being read, and its lowest fault so far.
+/// Does this byte end a word?
+fn ends_a_word(byte: u8) -> bool {
+    static ENDS: [bool; 256] = {
+        let mut ends = [false; 256];
+        ends[b' ' as usize] = true;
+        ends[b'(' as usize] = true;
+        ends[b')' as usize] = true;
+        ends[b';' as usize] = true;
+        ends[b'\n' as usize] = true;
+        ends
+    };
+    ENDS[usize::from(byte)]
+}
+
+/// What is left of the text from a place in a line on, and the line's lowest fault so far.
 struct Line<'t> {
     left: &'t [u8],
     fault: u64,
@@ -70,20 +86,57 @@ impl<'t> Line<'t> {
         }
     }
 
-    fn expect(&mut self, bytes: &[u8]) -> Option<()> {
-        self.left = self.left.strip_prefix(bytes)?;
-        Some(())
+    fn skip_spaces(&mut self) {
+        while let [b' ', rest @ ..] = self.left {
+            self.left = rest;
+        }
+    }
+
+    fn expect(&mut self, byte: u8) -> Option<()> {
+        self.skip_spaces();
+        let (first, rest) = self.left.split_first()?;
+        self.left = rest;
+        (*first == byte).then_some(())
+    }
+
+    /// Takes an opening bracket and then this word.
+    fn open(&mut self, word: &[u8]) -> Option<()> {
+        self.expect(b'(')?;
+        self.skip_spaces();
+        let rest = self.left.strip_prefix(word)?;
+        self.left = rest;
+        ends_a_word(*rest.first()?).then_some(())
     }
 
     /// The names up to the closing bracket, which is taken too.
     fn names(&mut self, mut each: impl FnMut(&mut Self, &'t [u8])) -> Option<()> {
-        while let Some(rest) = self.left.strip_prefix(b" ") {
-            let end = rest.iter().position(|b| matches!(b, b' ' | b')' | b'('))?;
-            let (name, rest) = rest.split_at(end);
+        loop {
+            self.skip_spaces();
+            let end = self.left.iter().position(|byte| ends_a_word(*byte))?;
+            let (name, rest) = self.left.split_at(end);
+            if name.is_empty() {
+                self.left = &rest[1..];
+                return (rest[0] == b')').then_some(());
+            }
             self.left = rest;
             each(self, name);
         }
-        self.expect(b")")
+    }
+
+    /// Goes past the line's end, behind spaces and a comment; nothing where something else stands
+    /// before it or where it is missing.
+    fn end(&mut self) -> Option<()> {
+        self.skip_spaces();
+        match self.left.split_first()? {
+            (b'\n', rest) => self.left = rest,
+            (b';', _) => {
+                let comment = self.left;
+                let length = self.left.skip_until(b'\n').ok()?;
+                comment[..length].strip_suffix(b"\n")?;
+            }
+            _ => return None,
+        }
+        Some(())
     }
 }
 
@@ -121,7 +174,7 @@ impl<'t> Reader<'t> {
     }
 
     fn list(&mut self, line: &mut Line<'t>, word: &[u8], count_at: usize) -> Option<u16> {
-        line.expect(word)?;
+        line.open(word)?;
         self.lists += 1;
         let plain = self.plain;
         let before = self.stores.rules.len();
@@ -154,13 +207,13 @@ impl<'t> Reader<'t> {
         }
         let counts = self.stores.rules.len();
         self.stores.rules.extend([0; 3]);
-        line.expect(b"(rule ")?;
-        self.list(line, b"(head", counts)?;
-        self.list(line, b" (body", counts + 1)?;
-        if self.list(line, b" (not", counts + 2)? > 0 && !self.plain {
+        line.open(b"rule")?;
+        self.list(line, b"head", counts)?;
+        self.list(line, b"body", counts + 1)?;
+        if self.list(line, b"not", counts + 2)? > 0 && !self.plain {
             line.found(8);
         }
-        line.expect(b")")
+        line.expect(b')')
     }
 
     /// Leaves out the atoms that no list has, which the reading of the lists marked: one pass over
@@ -201,11 +254,34 @@ impl<'t> Reader<'t> {
     }
 }
 
+/// The text from its first form on, and the number of lines before that; where there is no form, the
+/// refusal.
+fn first_form(text: &[u8]) -> Result<(&[u8], u64), Refused> {
+    let mut line = Line {
+        left: text,
+        fault: 0,
+    };
+    let mut blank = 0;
+    loop {
+        let start = line.left;
+        if start.is_empty() {
+            return Err((2, blank + 1));
+        }
+        line.skip_spaces();
+        match line.left.first() {
+            Some(b';' | b'\n') => line.end().ok_or((2, blank + 1))?,
+            _ => return Ok((start, blank)),
+        }
+        blank += 1;
+    }
+}
+
 pub fn read(text: &[u8]) -> Result<Stores, Refused> {
     if text.len() > 917_504 {
         return Err((1, 0));
     }
-    let plain = text.starts_with(b"(atoms");
+    let (left, mut line_number) = first_form(text)?;
+    let plain = Line { left, fault: 0 }.open(b"atoms").is_some();
     let mut reader = Reader {
         plain,
         limits: if plain { PLAIN } else { PREFERENCE },
@@ -223,46 +299,43 @@ pub fn read(text: &[u8]) -> Result<Stores, Refused> {
     let mut classes = 0;
     // What is still to come: 3 `min` or `vary`, 2 `fix`, 1 `atoms`, 0 rules.
     let mut stage = if plain { 1 } else { 3 };
-    let mut line_number = 0;
-    let mut left = text;
-    while !left.is_empty() {
+    let mut line = Line { left, fault: 0 };
+    while !line.left.is_empty() {
         line_number += 1;
-        let Some(end) = left.iter().position(|b| *b == b'\n') else {
-            return Err((2, line_number));
-        };
-        let mut line = Line {
-            left: &left[..end],
-            fault: 0,
-        };
-        left = &left[end + 1..];
+        line.skip_spaces();
+        if let Some(b';' | b'\n') = line.left.first() {
+            line.end().ok_or((2, line_number))?;
+            continue;
+        }
         let stands = match stage {
             0 => reader.rule(&mut line),
             1 => {
                 stage = 0;
-                line.expect(b"(atoms")
+                line.open(b"atoms")
                     .and_then(|()| reader.declaration(&mut line, None))
             }
             2 => {
                 stage = 0;
-                line.expect(b"(fix")
+                line.open(b"fix")
                     .and_then(|()| reader.declaration(&mut line, Some(18)))
             }
-            _ if line.expect(b"(min").is_some() => {
-                classes += 1;
-                if classes > 16 {
-                    line.found(7);
-                }
-                reader.declaration(&mut line, Some(classes))
-            }
             _ => {
-                stage = 2;
-                line.expect(b"(vary")
-                    .and_then(|()| reader.declaration(&mut line, Some(17)))
+                let start = line.left;
+                if line.open(b"min").is_some() {
+                    classes += 1;
+                    if classes > 16 {
+                        line.found(7);
+                    }
+                    reader.declaration(&mut line, Some(classes))
+                } else {
+                    stage = 2;
+                    line.left = start;
+                    line.open(b"vary")
+                        .and_then(|()| reader.declaration(&mut line, Some(17)))
+                }
             }
         };
-        if stands.is_none() || !line.left.is_empty() {
-            return Err((2, line_number));
-        }
+        stands.and_then(|()| line.end()).ok_or((2, line_number))?;
         if line.fault != 0 {
             return Err((line.fault, line_number));
         }
@@ -348,7 +421,13 @@ fn check(stores: &Stores) -> Result<(), u64> {
 /// The text of the stores, or a refusal's number.
 pub fn write(stores: &Stores) -> Result<Vec<u8>, u64> {
     check(stores)?;
-    Ok(text_of(stores))
+    Ok(text_of(stores, rules(stores)))
+}
+
+/// The canonical text of the stores, or a refusal's number.
+pub fn write_canonical(stores: &Stores) -> Result<Vec<u8>, u64> {
+    check(stores)?;
+    Ok(canonical_text_of(stores))
 }
 
 /// The plain program's text of a preference file's stores, or a refusal's number.
@@ -357,7 +436,8 @@ pub fn translate(stores: &Stores) -> Result<Vec<u8>, u64> {
         return Err(10);
     }
     check(stores)?;
-    Ok(text_of(&translated(stores)))
+    let plain = translated(stores);
+    Ok(text_of(&plain, rules(&plain)))
 }
 
 fn names(stores: &Stores) -> Vec<&[u8]> {
@@ -371,25 +451,38 @@ fn names(stores: &Stores) -> Vec<&[u8]> {
     names
 }
 
-/// Calls `each` with the three lists of each rule.
-fn each_rule<'s>(stores: &'s Stores, mut each: impl FnMut([&'s [u16]; 3])) {
-    let words = &stores.rules;
-    let mut at = if words[0] == 1 {
-        4 + usize::from(words[1])
-    } else {
-        4
-    };
-    for _ in 0..words[3] {
-        let head = at + 3 + usize::from(words[at]);
-        let body = head + usize::from(words[at + 1]);
-        let not = body + usize::from(words[at + 2]);
-        each([&words[at + 3..head], &words[head..body], &words[body..not]]);
-        at = not;
+/// Where the first rule's counts stand.
+fn first_rule(words: &[u16]) -> usize {
+    match words[0] {
+        1 => 4 + usize::from(words[1]),
+        _ => 4,
     }
 }
 
-/// The text of checked stores.
-fn text_of(stores: &Stores) -> Vec<u8> {
+/// The lists of the rule whose three counts stand here.
+fn lists_at(words: &[u16], at: usize) -> [&[u16]; 3] {
+    let head = at + 3 + usize::from(words[at]);
+    let body = head + usize::from(words[at + 1]);
+    let not = body + usize::from(words[at + 2]);
+    [&words[at + 3..head], &words[head..body], &words[body..not]]
+}
+
+/// The three lists of each rule of checked stores.
+fn rules(stores: &Stores) -> impl Iterator<Item = [&[u16]; 3]> {
+    let words = &stores.rules;
+    let mut at = first_rule(words);
+    (0..words[3]).map(move |_| {
+        let head = at + 3 + usize::from(words[at]);
+        let body = head + usize::from(words[at + 1]);
+        let not = body + usize::from(words[at + 2]);
+        let lists = [&words[at + 3..head], &words[head..body], &words[body..not]];
+        at = not;
+        lists
+    })
+}
+
+/// The text of checked stores, with these rules.
+fn text_of<'r>(stores: &Stores, rules: impl Iterator<Item = [&'r [u16]; 3]>) -> Vec<u8> {
     let names = names(stores);
     let words = &stores.rules;
     let mut text = Vec::with_capacity(64 * 1024);
@@ -418,14 +511,83 @@ fn text_of(stores: &Stores) -> Vec<u8> {
             next = end;
         }
     }
-    each_rule(stores, |[head, body, not]| {
+    for [head, body, not] in rules {
         let number = |atom: &u16| usize::from(*atom);
         list(&mut text, b"(rule (head", &mut head.iter().map(number));
         list(&mut text, b") (body", &mut body.iter().map(number));
         list(&mut text, b") (not", &mut not.iter().map(number));
         text.extend_from_slice(b"))\n");
-    });
+    }
     text
+}
+
+/// The first four words of a rule's lists: an atom is its number plus one, and each list ends with 0,
+/// so that one which ends first stands before.
+fn key(lists: [&[u16]; 3]) -> u64 {
+    let mut words = [0; 4];
+    let mut next = 0;
+    for list in lists {
+        for (word, atom) in words[next.min(4)..].iter_mut().zip(list) {
+            *word = *atom + 1;
+        }
+        next += list.len() + 1;
+    }
+    words
+        .into_iter()
+        .fold(0, |key, word| key << 16 | u64::from(word))
+}
+
+/// A rule whose lists are sorted: its key, and where its words are.
+struct Keyed {
+    key: u64,
+    start: u32,
+    end: u32,
+}
+
+impl Keyed {
+    fn words<'w>(&self, words: &'w [u16]) -> &'w [u16] {
+        &words[self.start as usize..self.end as usize]
+    }
+
+    fn lists<'w>(&self, words: &'w [u16]) -> [&'w [u16]; 3] {
+        lists_at(words, self.start as usize)
+    }
+
+    /// By the keys and, where these are the same, by the lists; mostly the rules are the same then.
+    fn compare(&self, other: &Keyed, words: &[u16]) -> Ordering {
+        if self.key != other.key {
+            return self.key.cmp(&other.key);
+        }
+        if self.words(words) == other.words(words) {
+            return Ordering::Equal;
+        }
+        self.lists(words).cmp(&other.lists(words))
+    }
+}
+
+/// The canonical text of checked stores: lists sorted in a copy of the words, then the rules.
+fn canonical_text_of(stores: &Stores) -> Vec<u8> {
+    let mut words = stores.rules.clone();
+    let mut keyed = Vec::with_capacity(usize::from(words[3]));
+    let mut start = first_rule(&words);
+    for _ in 0..words[3] {
+        let counts = [words[start], words[start + 1], words[start + 2]];
+        let mut end = start + 3;
+        for count in counts {
+            let list = end..end + usize::from(count);
+            end = list.end;
+            words[list].sort_unstable();
+        }
+        keyed.push(Keyed {
+            key: key(lists_at(&words, start)),
+            start: start as u32,
+            end: end as u32,
+        });
+        start = end;
+    }
+    keyed.sort_unstable_by(|one, other| one.compare(other, &words));
+    keyed.dedup_by(|one, other| one.words(&words) == other.words(&words));
+    text_of(stores, keyed.iter().map(|rule| rule.lists(&words)))
 }
 
 /// The plain program's stores of the checked stores of a preference file.
@@ -460,9 +622,9 @@ fn translated(stores: &Stores) -> Stores {
         name(b"E.", j.to_string().as_bytes());
     }
     name(b"U", b"");
-    let mut rules = 0;
+    let mut written = 0;
     let mut rule = |head: &[u16], body: &[u16], not: &[u16]| {
-        rules += 1;
+        written += 1;
         out.rules
             .extend([head.len() as u16, body.len() as u16, not.len() as u16]);
         out.rules.extend_from_slice(head);
@@ -476,7 +638,7 @@ fn translated(stores: &Stores) -> Stores {
         rule(&[big_n(a)], &[], &[a]);
     }
     let (mut head_part, mut body_part, mut not_part) = (Vec::new(), Vec::new(), Vec::new());
-    each_rule(stores, |[head, body, _]| {
+    for [head, body, _] in rules(stores) {
         head_part.clear();
         body_part.clear();
         not_part.clear();
@@ -495,8 +657,8 @@ fn translated(stores: &Stores) -> Stores {
             }
         }
         rule(&head_part, &body_part, &not_part);
-    });
-    each_rule(stores, |[head, body, _]| {
+    }
+    for [head, body, _] in rules(stores) {
         let free = |a: &&u16| **a < unfixed;
         let fixed = |a: &&u16| **a >= unfixed;
         head_part.clear();
@@ -508,7 +670,7 @@ fn translated(stores: &Stores) -> Stores {
         not_part.clear();
         not_part.extend(head.iter().filter(fixed));
         rule(&head_part, &body_part, &not_part);
-    });
+    }
     rule(&[e(0), u], &[], &[]);
     for i in 1..=k {
         head_part.clear();
@@ -528,6 +690,6 @@ fn translated(stores: &Stores) -> Stores {
     (0..=k).for_each(|j| rule(&[e(j)], &[u], &[]));
     rule(&[u], &[e(k)], &[]);
     rule(&[], &[], &[u]);
-    out.rules[3] = rules;
+    out.rules[3] = written;
     out
 }

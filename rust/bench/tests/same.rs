@@ -5,13 +5,46 @@ use compare::clause_files::{self, damage, damage_text, soup};
 use compare::clause_kit;
 use compare::engine::{Engine, Reference, VerdictAnswer};
 use compare::generate::{either, partly_used, plain, preference, Size};
+use compare::hand_typed;
 use compare::random::Random;
 use compare::spoil;
+use reference::program::{Names, Program};
 use reference::stores::{name_store, rule_store};
 use reference::{lent, reader, writer};
 
+/// Holds the fast reader to the second implementation; gives its stores, if it has some.
+fn hold_reading(text: &[u8]) -> Option<twin::Stores> {
+    let expected = reader::read(text)
+        .map(|(program, names)| twin::Stores {
+            rules: rule_store(&program),
+            names: name_store(&names),
+        })
+        .map_err(|refusal| (refusal.number(), refusal.line));
+    let read = twin::read(text);
+    assert_eq!(read, expected, "{}", String::from_utf8_lossy(text));
+    read.ok()
+}
+
+/// Holds the fast writers and the fast translator to the second implementation.
+fn hold_writing(stores: &twin::Stores) {
+    type Slow = fn(&[u16], &[u8], &mut [u8]) -> Result<usize, reference::refusal::Reason>;
+    type Fast = fn(&twin::Stores) -> Result<Vec<u8>, u64>;
+    let pairs: [(Slow, Fast); 3] = [
+        (lent::write, twin::write),
+        (lent::write_canonical, twin::write_canonical),
+        (lent::translate, twin::translate),
+    ];
+    let mut out = vec![0; 917_504];
+    for (slow, fast) in pairs {
+        let expected = slow(&stores.rules, &stores.names, &mut out)
+            .map(|length| out[..length].to_vec())
+            .map_err(|reason| reason as u64);
+        assert_eq!(fast(stores), expected, "{stores:?}");
+    }
+}
+
 #[test]
-fn the_fast_reader_writer_and_translator() {
+fn the_fast_reader_writers_and_translator() {
     let mut random = Random::new(3);
     for turn in 0..6_000 {
         let (program, names) = match turn / 6 % 3 {
@@ -26,15 +59,8 @@ fn the_fast_reader_writer_and_translator() {
                 spoil::names_of_text(&mut random, &mut text);
             }
         }
-        let expected = reader::read(&text)
-            .map(|(program, names)| twin::Stores {
-                rules: rule_store(&program),
-                names: name_store(&names),
-            })
-            .map_err(|refusal| (refusal.number(), refusal.line));
-        let read = twin::read(&text);
-        assert_eq!(read, expected, "{}", String::from_utf8_lossy(&text));
-        let mut stores = read.unwrap_or_else(|_| twin::Stores {
+        let read = hold_reading(&text);
+        let mut stores = read.unwrap_or_else(|| twin::Stores {
             rules: rule_store(&program),
             names: name_store(&names),
         });
@@ -42,19 +68,100 @@ fn the_fast_reader_writer_and_translator() {
             spoil::rules(&mut random, &mut stores.rules);
             spoil::names(&mut random, &mut stores.names);
         }
-        let mut out = vec![0; 100_000];
-        type Slow = fn(&[u16], &[u8], &mut [u8]) -> Result<usize, reference::refusal::Reason>;
-        type Fast = fn(&twin::Stores) -> Result<Vec<u8>, u64>;
-        let pairs: [(Slow, Fast); 2] = [
-            (lent::write, twin::write),
-            (lent::translate, twin::translate),
-        ];
-        for (slow, fast) in pairs {
-            let expected = slow(&stores.rules, &stores.names, &mut out)
-                .map(|length| out[..length].to_vec())
-                .map_err(|reason| reason as u64);
-            assert_eq!(fast(&stores), expected, "{stores:?}");
+        hold_writing(&stores);
+    }
+}
+
+#[test]
+fn the_fast_reader_of_hand_typed_files() {
+    let mut random = Random::new(7);
+    for turn in 0..20_000 {
+        let (program, names) = either(&mut random, Size::SMALL);
+        let mut text = writer::write(&program, &names);
+        if turn % 4 == 1 {
+            spoil::text(&mut random, &mut text);
         }
+        text = match turn % 50 {
+            0 => spoil::soup(&mut random, 20),
+            _ => hand_typed::loosened(&mut random, &text),
+        };
+        for _ in 0..turn % 3 {
+            hand_typed::damage(&mut random, &mut text);
+        }
+        hold_reading(&text);
+    }
+    let mut texts = vec![String::new()];
+    for _ in 0..=5 {
+        texts.iter().for_each(|text| {
+            hold_reading(text.as_bytes());
+        });
+        let longer = |text: &String| {
+            let text = text.clone();
+            let pieces = ["(", ")", "atoms", "a", " ", ";", "\n"];
+            pieces.map(move |piece| format!("{text}{piece}"))
+        };
+        texts = texts.iter().flat_map(longer).collect();
+    }
+}
+
+/// Rules of which many repeat or begin alike, past the words that the key has.
+#[test]
+fn the_fast_canonical_writer() {
+    let mut random = Random::new(8);
+    for (atoms, list) in [(1, 1), (2, 2), (3, 3), (9, 9), (1_100, 3)] {
+        for _ in 0..300 {
+            let size = Size {
+                atoms,
+                rules: 200,
+                list,
+            };
+            let (program, names) = either_of(&mut random, size);
+            let rules = rule_store(&program);
+            let names = name_store(&names);
+            hold_writing(&twin::Stores { rules, names });
+        }
+    }
+}
+
+fn either_of(random: &mut Random, size: Size) -> (Program, Names) {
+    match random.once_in(2) {
+        true => plain(random, size),
+        false => preference(
+            random,
+            Size {
+                atoms: size.atoms.min(256),
+                ..size
+            },
+        ),
+    }
+}
+
+/// The inputs of the canonical writer's rows have as many rules as they say.
+#[test]
+fn the_many_rules() {
+    for atoms in [1_100, 60, 3] {
+        let stores = inputs::many_rules(atoms);
+        assert_eq!((stores.rules[1], stores.rules[3]), (atoms as u16, 4_200));
+        hold_writing(&stores);
+    }
+}
+
+/// A typed file says what the strict one says, with much that says nothing.
+#[test]
+fn the_typed_file() {
+    let strict = inputs::long_file(1);
+    let typed = inputs::typed(&strict);
+    assert!(typed.len() > strict.len() * 4 / 3);
+    assert_eq!(hold_reading(&typed), hold_reading(&strict));
+}
+
+/// The longest texts are as long as the limit, and refused as is said.
+#[test]
+fn the_longest_texts() {
+    for (what, text, refused) in inputs::longest_texts() {
+        assert_eq!(text.len(), 917_504, "{what}");
+        assert_eq!(hold_reading(&text), None, "{what}");
+        assert_eq!(twin::read(&text), Err(refused), "{what}");
     }
 }
 

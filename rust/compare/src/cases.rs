@@ -17,7 +17,7 @@ use reference::verdicts::{self, holds, is_model, place, Next, Verdict};
 use reference::writer;
 
 /// The lengths of outputs worth lending where the result has this length.
-fn lengths(random: &mut Random, length: usize) -> Vec<usize> {
+pub fn lengths(random: &mut Random, length: usize) -> Vec<usize> {
     let mut all = vec![length, length + random.within(1, 40)];
     if length > 0 {
         all.push(length - 1);
@@ -48,7 +48,7 @@ pub fn read(check: &mut Checker, random: &mut Random, text: &[u8]) -> Checked {
     Ok(())
 }
 
-/// Writes and translates the stores with outputs exact, short and long.
+/// Writes the stores in both ways and translates them, with outputs exact, short and long.
 pub fn texts_of_stores(
     check: &mut Checker,
     random: &mut Random,
@@ -61,6 +61,12 @@ pub fn texts_of_stores(
         Err(_) => vec![random.below(300)],
     } {
         check.write(rules, names, out_len)?;
+    }
+    for out_len in match lent::write_canonical(rules, names, &mut most) {
+        Ok(length) => lengths(random, length),
+        Err(_) => vec![random.below(300)],
+    } {
+        check.write_canonical(rules, names, out_len)?;
     }
     for out_len in match lent::translate(rules, names, &mut most) {
         Ok(length) => lengths(random, length),
@@ -348,6 +354,7 @@ pub fn every_word(check: &mut Checker, random: &mut Random) -> Checked {
             let mut spoiled = names.clone();
             spoiled[place] = byte;
             check.write(&rules, &spoiled, 400)?;
+            check.write_canonical(&rules, &spoiled, 400)?;
             check.translate(&rules, &spoiled, 4_000)?;
         }
     }
@@ -609,6 +616,7 @@ pub fn long(check: &mut Checker, random: &mut Random) -> Checked {
             spoil::names(random, &mut names);
         }
         check.write(&rules, &names, TEXT_LIMIT)?;
+        check.write_canonical(&rules, &names, TEXT_LIMIT)?;
         check.translate(&rules, &names, TEXT_LIMIT)?;
         check.preferred(&rules, random.any(), 5)?;
         check.stable(&rules, random.any(), 5)?;

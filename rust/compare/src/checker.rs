@@ -199,6 +199,16 @@ impl<'e> Checker<'e> {
         )
     }
 
+    pub fn write_canonical(&mut self, rules: &[u16], names: &[u8], out_len: usize) -> Checked {
+        self.text_call(
+            "write_canonical",
+            rules,
+            names,
+            out_len,
+            |engine, rules, names, out| engine.write_canonical(rules, names, out),
+        )
+    }
+
     pub fn translate(&mut self, rules: &[u16], names: &[u8], out_len: usize) -> Checked {
         self.text_call(
             "translate",

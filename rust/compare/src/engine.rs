@@ -37,6 +37,7 @@ pub trait Engine {
     fn read(&self, text: &[u8], rules: &mut [u16], names: &mut [u8]) -> ReadAnswer;
     fn read_clauses(&self, text: &[u8], rules: &mut [u16], names: &mut [u8]) -> ReadAnswer;
     fn write(&self, rules: &[u16], names: &[u8], out: &mut [u8]) -> TextAnswer;
+    fn write_canonical(&self, rules: &[u16], names: &[u8], out: &mut [u8]) -> TextAnswer;
     fn translate(&self, rules: &[u16], names: &[u8], out: &mut [u8]) -> TextAnswer;
     fn preferred(&self, rules: &[u16], set: u64, budget: u64) -> VerdictAnswer;
     fn stable(&self, rules: &[u16], set: u64, budget: u64) -> VerdictAnswer;
@@ -106,6 +107,10 @@ impl Engine for Reference {
 
     fn write(&self, rules: &[u16], names: &[u8], out: &mut [u8]) -> TextAnswer {
         text_answer(lent::write(rules, names, out))
+    }
+
+    fn write_canonical(&self, rules: &[u16], names: &[u8], out: &mut [u8]) -> TextAnswer {
+        text_answer(lent::write_canonical(rules, names, out))
     }
 
     fn translate(&self, rules: &[u16], names: &[u8], out: &mut [u8]) -> TextAnswer {

@@ -3,6 +3,7 @@
 //! `cargo test -p compare` does the gate's share; `cargo run --release -p compare -- --help` tells
 //! how to run longer or to repeat a run.
 
+pub mod canonical_cases;
 pub mod cases;
 pub mod checker;
 pub mod clause_cases;
@@ -10,6 +11,8 @@ pub mod clause_files;
 pub mod clause_kit;
 pub mod engine;
 pub mod generate;
+pub mod hand_typed;
+pub mod hand_typed_cases;
 #[cfg(feature = "engine")]
 pub mod library;
 pub mod programs;

@@ -79,6 +79,20 @@ impl Engine for Library {
         })
     }
 
+    fn write_canonical(&self, rules: &[u16], names: &[u8], out: &mut [u8]) -> TextAnswer {
+        let (out_at, out_len) = (out.as_mut_ptr(), out.len());
+        text_answer(unsafe {
+            sys::rigtomato_write_canonical(
+                rules.as_ptr(),
+                rules.len(),
+                names.as_ptr(),
+                names.len(),
+                out_at,
+                out_len,
+            )
+        })
+    }
+
     fn translate(&self, rules: &[u16], names: &[u8], out: &mut [u8]) -> TextAnswer {
         let (out_at, out_len) = (out.as_mut_ptr(), out.len());
         text_answer(unsafe {
@@ -173,6 +187,10 @@ impl Engine for Binding {
 
     fn write(&self, rules: &[u16], names: &[u8], out: &mut [u8]) -> TextAnswer {
         text_result(lent::write(rules, names, out))
+    }
+
+    fn write_canonical(&self, rules: &[u16], names: &[u8], out: &mut [u8]) -> TextAnswer {
+        text_result(lent::write_canonical(rules, names, out))
     }
 
     fn translate(&self, rules: &[u16], names: &[u8], out: &mut [u8]) -> TextAnswer {

@@ -2,6 +2,7 @@
 
 use crate::checker::Difference;
 use crate::generate::{either, preference, Size};
+use crate::hand_typed::{damage, loosened};
 use crate::random::Random;
 use crate::spoil;
 use reference::limits::Kind;
@@ -81,11 +82,15 @@ fn inputs(random: &mut Random) -> Vec<u8> {
             writer::write(&program, &names)
         }
     };
-    match random.below(8) {
+    if random.once_in(2) {
+        text = loosened(random, &text);
+    }
+    match random.below(9) {
         0..=3 => {}
-        4 => {
+        4 => damage(random, &mut text),
+        5 => {
             let length = random.within(65_534, 65_538);
-            text.resize(length, *random.pick(b"a\n "));
+            text.resize(length, *random.pick(b"a\n ;"));
         }
         _ => spoil::text(random, &mut text),
     }

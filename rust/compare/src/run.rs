@@ -1,9 +1,11 @@
 //! A run: the families in turn, from one seed, until enough is compared.
 
+use crate::canonical_cases;
 use crate::cases;
 use crate::checker::{Checked, Checker, Difference, Outcome};
 use crate::clause_cases;
 use crate::engine::Engine;
+use crate::hand_typed_cases;
 use crate::random::Random;
 use std::collections::BTreeMap;
 use std::time::{Duration, Instant};
@@ -11,7 +13,7 @@ use std::time::{Duration, Instant};
 type Family = fn(&mut Checker, &mut Random) -> Checked;
 
 /// The families with how often each has its turn in a round.
-const FAMILIES: [(&str, Family, usize); 18] = [
+const FAMILIES: [(&str, Family, usize); 22] = [
     ("valid files", cases::valid, 60),
     ("damaged texts", cases::damaged_text, 40),
     ("no files", cases::soup, 20),
@@ -30,6 +32,18 @@ const FAMILIES: [(&str, Family, usize); 18] = [
     ("unused atoms", cases::unused_atoms, 20),
     ("clause files", clause_cases::clause_files, 40),
     ("large clause files", clause_cases::large_clause_files, 1),
+    ("typed files", hand_typed_cases::hand_typed_files, 40),
+    (
+        "large typed files",
+        hand_typed_cases::large_hand_typed_files,
+        1,
+    ),
+    ("canonical texts", canonical_cases::canonical_texts, 20),
+    (
+        "many canonical rules",
+        canonical_cases::many_canonical_rules,
+        1,
+    ),
 ];
 
 /// When a run ends: when both are reached.
@@ -83,10 +97,19 @@ pub fn run_families(
     let before = check.comparisons;
     cases::limits(&mut check, &mut Random::new(seed))?;
     clause_cases::limits(&mut check)?;
+    hand_typed_cases::limits(&mut check)?;
+    canonical_cases::limits(&mut check)?;
     let limits = check.comparisons - before;
     clause_cases::short_texts(&mut check)?;
-    let short = check.comparisons - before - limits;
-    let mut families = vec![("limits", limits), ("short clause files", short)];
+    let clauses = check.comparisons - before - limits;
+    hand_typed_cases::short_texts(&mut check)?;
+    hand_typed_cases::block_edges(&mut check)?;
+    let typed = check.comparisons - before - limits - clauses;
+    let mut families = vec![
+        ("limits", limits),
+        ("short clause files", clauses),
+        ("short typed files", typed),
+    ];
     families.extend(
         FAMILIES
             .iter()
@@ -114,6 +137,7 @@ pub fn wanted_outcomes() -> Vec<(&'static str, Outcome)> {
     refusals("read", &[1, 2, 3, 4, 5, 6, 7, 8, 9]);
     refusals("read_clauses", &[1, 7, 9, 15, 16]);
     refusals("write", &[10, 14, 9]);
+    refusals("write_canonical", &[10, 14, 9]);
     refusals("translate", &[10, 14, 9]);
     refusals("preferred", &[10, 11, 12, 13]);
     refusals("stable", &[10, 11, 12, 13]);
@@ -123,6 +147,7 @@ pub fn wanted_outcomes() -> Vec<(&'static str, Outcome)> {
         "read",
         "read_clauses",
         "write",
+        "write_canonical",
         "translate",
         "place",
         "listing",

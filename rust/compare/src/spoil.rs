@@ -113,7 +113,7 @@ pub fn names_of_text(random: &mut Random, text: &mut Vec<u8>) {
 }
 
 fn text_in_way(random: &mut Random, text: &mut Vec<u8>, way: usize) {
-    const BYTES: &[u8] = b"() \n\tab zAZ09_.NSDEU-\r\0\x7f\xff";
+    const BYTES: &[u8] = b"() \n\t;ab zAZ09_.NSDEU-\r\0\x7f\xff";
     const WORDS: [&str; 11] = [
         "min", "vary", "fix", "atoms", "rule", "head", "body", "not", "mi", "atomsx", "",
     ];
@@ -245,11 +245,14 @@ fn random_declared(random: &mut Random, text: &[u8]) -> Option<Vec<u8>> {
 
 /// Bytes that look like pieces of a file, without any order.
 pub fn soup(random: &mut Random, pieces: usize) -> Vec<u8> {
-    const PIECES: [&str; 30] = [
+    const PIECES: [&str; 33] = [
         "(",
         ")",
         " ",
         "\n",
+        ";",
+        "; x\n",
+        "  ",
         "(min",
         "(vary",
         "(fix",

@@ -1,7 +1,9 @@
 //! Wrong engines: the harness has to notice each of them.
 
+mod wrong_canonical;
 mod wrong_clauses;
 mod wrong_readings;
+mod wrong_typing;
 mod wrong_walks;
 
 use compare::engine::{Engine, ReadAnswer, Reference, TextAnswer, ValueAnswer, VerdictAnswer};
@@ -13,8 +15,10 @@ use reference::used_atoms::{restricted, used_atoms, without_unused};
 use reference::verdicts::{self, beats, is_model, place, reduct, Next, Verdict};
 use reference::{translator, writer};
 use std::time::Duration;
+use wrong_canonical::{CanonicalSlip, CANONICAL_SLIPS};
 use wrong_clauses::{ClauseSlip, CLAUSE_SLIPS};
 use wrong_readings::{ReadSlip, READ_SLIPS};
+use wrong_typing::{TypingSlip, TYPING_SLIPS};
 use wrong_walks::{WalkSlip, WALK_SLIPS};
 
 /// What is wrong with an engine.
@@ -57,6 +61,8 @@ enum Slip {
     ListsWhatRemains,
     Read(ReadSlip),
     Clauses(ClauseSlip),
+    Typing(TypingSlip),
+    Canonical(CanonicalSlip),
     Walk(WalkSlip),
 }
 
@@ -282,8 +288,10 @@ impl Engine for Wrong {
     }
 
     fn read(&self, text: &[u8], rules: &mut [u16], names: &mut [u8]) -> ReadAnswer {
-        if let Slip::Read(slip) = self.0 {
-            return wrong_readings::read(slip, text, rules, names);
+        match self.0 {
+            Slip::Read(slip) => return wrong_readings::read(slip, text, rules, names),
+            Slip::Typing(slip) => return wrong_typing::read(slip, text, rules, names),
+            _ => {}
         }
         let mut answer = Reference.read(text, rules, names);
         match self.0 {
@@ -311,6 +319,13 @@ impl Engine for Wrong {
         }
         let answer = Reference.write(rules, names, out);
         self.text(answer, out)
+    }
+
+    fn write_canonical(&self, rules: &[u16], names: &[u8], out: &mut [u8]) -> TextAnswer {
+        match self.0 {
+            Slip::Canonical(slip) => wrong_canonical::write(slip, rules, names, out),
+            _ => Reference.write_canonical(rules, names, out),
+        }
     }
 
     fn translate(&self, rules: &[u16], names: &[u8], out: &mut [u8]) -> TextAnswer {
@@ -457,6 +472,12 @@ const UNTIL: Until = Until {
     time: Duration::ZERO,
 };
 
+/// For slips that the families of their own notice soon.
+const SOON: Until = Until {
+    comparisons: 4_000,
+    ..UNTIL
+};
+
 #[test]
 fn each_slip_is_noticed() {
     let walks = WALK_SLIPS.map(Slip::Walk);
@@ -477,13 +498,32 @@ fn each_slip_of_clauses_is_noticed() {
     }
 }
 
-/// What is noticed of a wrong walk or reading is its slip.
+#[test]
+fn each_slip_of_typing_is_noticed() {
+    for slip in TYPING_SLIPS.map(Slip::Typing) {
+        let noticed = run_families(&Wrong(slip), 7, SOON, |family| family.contains("typed"));
+        assert!(noticed.is_err(), "{slip:?} was not noticed");
+    }
+}
+
+#[test]
+fn each_slip_of_canonical_texts_is_noticed() {
+    for slip in CANONICAL_SLIPS.map(Slip::Canonical) {
+        let families = |family: &str| family.contains("canonical");
+        let noticed = run_families(&Wrong(slip), 7, SOON, families);
+        assert!(noticed.is_err(), "{slip:?} was not noticed");
+    }
+}
+
+/// What is noticed of a wrong walk, reading or writing is its slip.
 #[test]
 fn without_a_slip_they_are_right() {
     for nothing in [
         Slip::Walk(WalkSlip::Nothing),
         Slip::Read(ReadSlip::Nothing),
         Slip::Clauses(ClauseSlip::Nothing),
+        Slip::Typing(TypingSlip::Nothing),
+        Slip::Canonical(CanonicalSlip::Nothing),
     ] {
         let report = run(&Wrong(nothing), 7, UNTIL);
         assert!(report.is_ok(), "{nothing:?}");

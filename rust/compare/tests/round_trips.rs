@@ -1,11 +1,16 @@
 //! What documents 01 and 02 say of every file, held against the second implementation itself: the
 //! text comes back from the stores, the stores from the text, both without the atoms that no rule of
-//! a preference file has; these atoms change no state; the three sums count the delivered text, its
+//! a preference file has; these atoms change no state; of hand-typed texts only strict ones come back;
+//! canonical texts are equal where the files say the same; the three sums count the delivered text, its
 //! stable sets pair with the file's states, and a class cut in two brings in no state.
 
+use compare::canonical_cases::rearranged;
 use compare::generate::{either, mixed, partly_used, preference, Size};
+use compare::hand_typed::{damage, loosened};
 use compare::random::Random;
+use reference::canonical::canonical;
 use reference::limits::{Kind, BUDGET_LIMIT};
+use reference::pieces::strict;
 use reference::program::{Program, Role};
 use reference::stores::{check_names, check_rules, name_store, rule_store};
 use reference::used_atoms::{restricted, used_atoms, without_unused};
@@ -46,6 +51,115 @@ fn texts_and_stores() {
         assert_eq!(again == text, nothing_left_out);
         assert_eq!(reader::read(&again), Ok(read));
     }
+}
+
+/// A typed text says what its strict form says. It comes back exactly where it is strict and, in a
+/// preference file, every declared atom stands in a rule.
+#[test]
+fn hand_typed_texts() {
+    let mut random = Random::new(18);
+    let mut back = 0;
+    for turn in 0..9_000 {
+        let size = if turn % 60 == 0 { LARGE } else { Size::SMALL };
+        let (program, names) = match turn % 3 {
+            0 => partly_used(&mut random, size),
+            _ => either(&mut random, size),
+        };
+        let mut text = writer::write(&program, &names);
+        if turn % 4 > 0 {
+            text = loosened(&mut random, &text);
+        }
+        if turn % 4 > 1 {
+            damage(&mut random, &mut text);
+        }
+        let Ok((read, read_names)) = reader::read(&text) else {
+            continue;
+        };
+        assert_eq!(
+            reader::read(&strict(&text)).as_ref(),
+            Ok(&(read.clone(), read_names.clone()))
+        );
+        let (typed, _) = reader::read_lines(&text).expect("an accepted text");
+        let all_stay = read.atoms == typed.atoms;
+        let comes_back = writer::write(&read, &read_names) == text;
+        assert_eq!(comes_back, strict(&text) == text && all_stay);
+        back += usize::from(comes_back);
+    }
+    assert!(back > 500, "{back} texts come back");
+}
+
+/// Another program: with a rule less, a rule more or an atom more or less in a list.
+fn changed(random: &mut Random, program: &Program) -> Program {
+    let mut other = program.clone();
+    if other.rules.is_empty() || random.once_in(4) {
+        other.rules.push(Default::default());
+        return other;
+    }
+    let place = random.below(other.rules.len());
+    match (random.below(3), other.atoms) {
+        (0, _) | (_, 0) => {
+            other.rules.remove(place);
+        }
+        (1, _) => {
+            other.rules[place].head.pop();
+        }
+        (_, atoms) => {
+            let (atom, body) = (random.below(atoms), &mut other.rules[place].body);
+            match body.iter().position(|known| *known == atom) {
+                Some(known) => {
+                    body.remove(known);
+                }
+                None => body.push(atom),
+            }
+        }
+    }
+    other
+}
+
+/// The rules as sets of triples of sets, as sorted lists without repetitions.
+fn as_sets(program: &Program) -> Vec<[Vec<usize>; 3]> {
+    let set = |list: &[usize]| {
+        let mut list = list.to_vec();
+        list.sort_unstable();
+        list
+    };
+    let mut rules: Vec<_> = program
+        .rules
+        .iter()
+        .map(|rule| rule.lists().map(set))
+        .collect();
+    rules.sort_unstable();
+    rules.dedup();
+    rules
+}
+
+/// Equal exactly where the rules are the same as sets; the same when read and written again.
+#[test]
+fn canonical_texts() {
+    let mut random = Random::new(19);
+    let mut equal = 0;
+    for turn in 0..3_000 {
+        let size = if turn % 60 == 0 { LARGE } else { Size::SMALL };
+        let (program, names) = either(&mut random, size);
+        let text = |program: &Program| writer::write(&canonical(program), &names);
+        let other = rearranged(&mut random, &program);
+        assert_eq!(text(&other), text(&program));
+        let other = changed(&mut random, &other);
+        let same = as_sets(&other) == as_sets(&program);
+        assert_eq!(
+            text(&other) == text(&program),
+            same,
+            "{program:?} {other:?}"
+        );
+        equal += usize::from(same);
+        let (read, read_names) = reader::read(&text(&program)).expect("a written text");
+        let again = writer::write(&canonical(&read), &read_names);
+        assert_eq!(again, writer::write(&read, &read_names));
+        if read.atoms == program.atoms {
+            assert_eq!(again, text(&program));
+        }
+    }
+    assert!(equal > 10, "{equal} changes change nothing");
 }
 
 #[test]

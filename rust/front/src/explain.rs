@@ -1,6 +1,6 @@
 //! What is allowed where a text was refused.
 
-use crate::file::File;
+use crate::file::{words, File};
 use crate::numbers::grouped;
 use crate::refused::Refused;
 use rigtomato::{Kind, Limits, Refusal, HOUSE_NAME_LIMIT, TEXT_LIMIT};
@@ -9,24 +9,33 @@ const FORMS: &str = "\
 A preference file has (min ..) lines, one (vary ..) line, one (fix ..) line and then rules of the
 form
     (rule (head a b) (body c) (not))
-with one space between items, no other spacing, no blank line and no comment; a name is a letter
-a to z or a digit and then letters, digits or _.";
+each on a line of its own. Spaces may stand around words and brackets, a comment goes from ; to the
+line's end, and lines may be blank. A name is a letter a to z or a digit and then letters, digits
+or _.";
 
 const PLAIN_FORMS: &str = "\
 A plain program has one (atoms ..) line and then rules of the form
     (rule (head a b) (body c) (not d))
-with one space between items, no other spacing, no blank line and no comment; a name is a letter
-a to z or a digit and then letters, digits or _, also after N., S. or D.; E.0 to E.16 and U are
-names too.";
+each on a line of its own. Spaces may stand around words and brackets, a comment goes from ; to the
+line's end, and lines may be blank. A name is a letter a to z or a digit and then letters, digits
+or _, also after N., S. or D.; E.0 to E.16 and U are names too.";
 
 const LINE_ENDS: &str = "Each line ends with a line feed (byte 10), the last one too.";
 
-/// The kind that a text has by its first bytes, also where it is refused.
+const TABS_AND_RETURNS: &str = "\
+A tab or a carriage return is no space: spaces stand between words, and a line feed (byte 10) alone
+ends a line.";
+
+/// The kind that a text has by its first word, also where it is refused.
 fn kind(file: &File) -> Kind {
-    match file.text.starts_with(b"(atoms") {
-        true => Kind::Plain,
-        false => Kind::Preference,
+    match file.first_word() {
+        Some(b"atoms") => Kind::Plain,
+        _ => Kind::Preference,
     }
+}
+
+fn has_tab_or_return(word: &[u8]) -> bool {
+    word.iter().any(|byte| matches!(byte, b'\t' | b'\r'))
 }
 
 fn form(file: &File, line: u64) -> &'static str {
@@ -38,6 +47,7 @@ fn form(file: &File, line: u64) -> &'static str {
             "The text ends too early: it needs one (vary ..) line and then one (fix ..) line."
         }
         (Some(line), _) if !line.ends_with(b"\n") => LINE_ENDS,
+        (Some(line), _) if words(line).any(has_tab_or_return) => TABS_AND_RETURNS,
         (_, Kind::Preference) => FORMS,
         (_, Kind::Plain) => PLAIN_FORMS,
     }

@@ -12,6 +12,28 @@ pub struct File {
     pub text: Vec<u8>,
 }
 
+/// What a line says: without its byte 10, its comment, and the spaces before and behind.
+fn form(line: &[u8]) -> &[u8] {
+    let line = line.strip_suffix(b"\n").unwrap_or(line);
+    let comment = line.iter().position(|byte| *byte == b';');
+    let line = &line[..comment.unwrap_or(line.len())];
+    let said = |byte: &u8| *byte != b' ';
+    let start = line.iter().position(said).unwrap_or(line.len());
+    let end = line.iter().rposition(said).map_or(start, |last| last + 1);
+    &line[start..end]
+}
+
+/// The words of a line: what its spaces and brackets part.
+pub fn words(line: &[u8]) -> impl Iterator<Item = &[u8]> {
+    let parts = form(line).split(|byte| matches!(byte, b' ' | b'(' | b')'));
+    parts.filter(|part| !part.is_empty())
+}
+
+/// Is it a rule's line, in an accepted text?
+fn is_rule(line: &[u8]) -> bool {
+    words(line).next() == Some(b"rule")
+}
+
 /// Past the limit one byte is as good as all of them: the text is refused.
 fn bytes_of(input: impl Read) -> io::Result<Vec<u8>> {
     let mut text = Vec::new();
@@ -52,29 +74,26 @@ impl File {
         first.is_some_and(|line| line.starts_with(b"p cnf "))
     }
 
-    /// The names on the declaring lines of an accepted text, in declared order.
-    pub fn declared(&self) -> impl Iterator<Item = &str> {
-        let declaring = self.lines().take_while(|line| !line.starts_with(b"(rule"));
-        declaring.flat_map(|line| {
-            let line = std::str::from_utf8(line).expect("names are letters, digits, `_` and `.`");
-            let line = line.trim_end_matches(['\n', ')']);
-            line.split(' ').skip(1)
-        })
+    /// The first word of the text, which tells its kind.
+    pub fn first_word(&self) -> Option<&[u8]> {
+        self.lines().flat_map(words).next()
     }
 
-    /// The line of the rule with this number from 0, in an accepted text.
+    /// The names on the declaring lines of an accepted text, in declared order.
+    pub fn declared(&self) -> impl Iterator<Item = &str> {
+        let declaring = self.lines().take_while(|line| !is_rule(line));
+        let names = declaring.flat_map(|line| words(line).skip(1));
+        names.map(|name| std::str::from_utf8(name).expect("names are letters, digits, `_` and `.`"))
+    }
+
+    /// The rule with this number from 0, in an accepted text: its line, and the rule as it is typed
+    /// there, without what stands around it.
     pub fn rule(&self, rule: u64) -> (u64, String) {
-        let mut numbered = (1..).zip(self.lines());
-        let mut rules = numbered
-            .by_ref()
-            .filter(|(_, line)| line.starts_with(b"(rule"));
+        let mut rules = (1..).zip(self.lines()).filter(|(_, line)| is_rule(line));
         let (number, line) = rules
             .nth(rule as usize)
             .expect("the engine names a rule of the file");
-        (
-            number,
-            String::from_utf8_lossy(line.trim_ascii_end()).into(),
-        )
+        (number, String::from_utf8_lossy(form(line)).into())
     }
 }
 
@@ -99,6 +118,12 @@ mod tests {
                 &["b", "c", "a", "7"],
             ),
             ("(atoms a N.a U)\n", &["a", "N.a", "U"]),
+            (
+                "; (min x)\n\n( min  b )\n  (vary a )\n(fix); x\n;\n",
+                &["b", "a"],
+            ),
+            ("\n ( atoms  a )\n\n", &["a"]),
+            ("(vary rule a)\n(fix head)\n", &["rule", "a", "head"]),
         ] {
             let text = format!("{text}{rule}");
             assert!(file(&text).declared().eq(names.iter().copied()), "{text}");
@@ -132,5 +157,35 @@ mod tests {
             file.rule(1),
             (4, "(rule (head) (body a) (not))".to_string())
         );
+    }
+
+    /// Comments and blank lines count as lines; what is shown of a rule is the rule alone.
+    #[test]
+    fn rules_as_typed() {
+        let text = "; (rule (head x) (body) (not))\n\n(vary rule)\n(fix) ; none\n   \n\
+            ( rule (head rule)(body) (not ) );(rule\n  (rule (head) (body   rule) (not))  \n";
+        let file = file(text);
+        assert_eq!(
+            file.rule(0),
+            (6, "( rule (head rule)(body) (not ) )".to_string())
+        );
+        assert_eq!(
+            file.rule(1),
+            (7, "(rule (head) (body   rule) (not))".to_string())
+        );
+    }
+
+    #[test]
+    fn first_words() {
+        for (text, word) in [
+            ("(atoms a)\n", Some("atoms")),
+            ("\n; (vary)\n  ( atoms)\n", Some("atoms")),
+            ("; (atoms)\n(min atoms)\n", Some("min")),
+            ("(atomsx)\n", Some("atomsx")),
+            ("\n;\n  ()\n", None),
+        ] {
+            let first = file(text);
+            assert_eq!(first.first_word(), word.map(str::as_bytes), "{text}");
+        }
     }
 }

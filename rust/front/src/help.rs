@@ -4,15 +4,16 @@ use crate::arguments::Choice;
 use crate::commands::{Command, COMMANDS};
 
 const FORMAT: &str = "\
-FILE may be - for standard input. A preference file has one bracket form a line
-and one space between items:
+FILE may be - for standard input. A preference file has one bracket form a line.
+Spaces may stand around words and brackets, a comment goes from ; to the line's
+end, and lines may be blank:
 
-    (min sensor)                              faults, the gravest class first
-    (min lamp)                                .. up to 16 classes
-    (vary dark)                               what nobody knows
-    (fix)                                     what is known and stays as it is
-    (rule (head sensor lamp) (body) (not))    the sensor or the lamp is at fault
-    (rule (head dark) (body lamp) (not))      a lamp at fault means dark
+    (min sensor)                            ; faults, the gravest class first
+    (min lamp)                              ; .. up to 16 classes
+    (vary dark)                             ; what nobody knows
+    (fix)                                   ; what is known and stays as it is
+    (rule (head sensor lamp) (body) (not))  ; the sensor or the lamp is at fault
+    (rule (head dark) (body lamp) (not))    ; a lamp at fault means dark
 
 A rule says: if all of the body, then some of the head. A name is 1 to 24 bytes,
 letters a to z, digits or _, the first no _. A declared atom that stands in no

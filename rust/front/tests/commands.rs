@@ -11,6 +11,7 @@ use common::{
 fn states_of_the_examples() {
     for (name, states) in [
         ("file_a", "(state lamp dark)\n(total 1)\n"),
+        ("file_a_typed", "(state lamp dark)\n(total 1)\n"),
         (
             "inverters",
             "(state ab3 b)\n(state ab2 b c)\n(state ab1 c)\n(total 3)\n",
@@ -407,11 +408,15 @@ fn files_with_unused_atoms() {
         &["states", "--json"],
         &["translate"],
         &["translate", "--asp"],
-        &["preferred", "--json"],
+        &["canonical"],
     ] {
         let [whole, part] = [&whole, &part].map(|file| run(front().args(words).arg(file), ""));
         assert_eq!(whole, part);
     }
+    let set = ["1999_12", "1999_12_lamp"];
+    let [whole, part] =
+        [&whole, &part].map(|file| run(front().args(["preferred", "--json", file]).args(set), ""));
+    assert_eq!(whole, part);
 }
 
 #[test]
@@ -457,6 +462,7 @@ fn unreadable_files() {
             "preferred",
             "stable",
             "clauses",
+            "canonical",
             "solve",
         ] {
             let ran = run(front().args([command, path]), "");
@@ -487,6 +493,7 @@ fn help() {
         "preferred FILE [--budget N] [--json] ATOM..",
         "stable FILE [--budget N] [--json] ATOM..",
         "clauses FILE",
+        "canonical FILE",
         "solve FILE [--solver PATH] [--first N] [--check] [--json]",
     ] {
         assert!(page.out.contains(&format!("  {usage}\n")), "{usage}");

@@ -6,6 +6,7 @@ mod common;
 use common::{example, front, proved, run_bytes, tautology, varying};
 use compare::fresh_seed;
 use compare::generate::{either, names, partly_used, preference, Size};
+use compare::hand_typed::{damage, loosened};
 use compare::random::Random;
 use compare::spoil;
 use reference::limits::{Kind, BUDGET_LIMIT, PROGRAM_LIMIT, VERDICT_ATOM_LIMIT};
@@ -88,6 +89,7 @@ fn compare_both(text: &[u8]) {
 fn examples() {
     for name in [
         "file_a",
+        "file_a_typed",
         "inverters",
         "inverters_by_rank",
         "touch",
@@ -111,7 +113,9 @@ fn each_refusal() {
     let texts = [
         (1, many("a", 917_505)),
         (2, String::new()),
-        (2, "(vary  a)\n".to_string()),
+        (2, "(vary a) (fix)\n".to_string()),
+        (2, "; nothing\n\n".to_string()),
+        (2, "(vary)\n(fix)\n; the end".to_string()),
         (2, "(vary)\n(fix)".to_string()),
         (2, "(vary)\r\n(fix)\r\n".to_string()),
         (2, "(min a)\n".to_string()),
@@ -134,6 +138,7 @@ fn each_refusal() {
             "(vary)\n(fix a)\n(rule (head) (body) (not a))\n".to_string(),
         ),
         (10, "(atoms a)\n".to_string()),
+        (10, "; plain\n\n ( atoms a )\n".to_string()),
     ];
     for (number, text) in texts {
         compare_both(text.as_bytes());
@@ -204,10 +209,16 @@ fn random_files() {
     let mut random = Random::new(seed);
     for round in 0..400 {
         let mut text = random_text(&mut random);
-        match round % 3 {
+        match round % 4 {
             1 => spoil::text(&mut random, &mut text),
             2 => spoil::names_of_text(&mut random, &mut text),
             _ => {}
+        }
+        if random.once_in(2) {
+            text = loosened(&mut random, &text);
+        }
+        if round % 4 == 3 {
+            damage(&mut random, &mut text);
         }
         compare_both(&text);
     }

@@ -36,9 +36,33 @@ fn refusals() -> Vec<(u64, u64, &'static str, String, &'static str, String)> {
             2,
             1,
             FORM,
-            "(vary  a)".to_string(),
-            "(rule (head a b) (body c) (not))",
-            "(vary  a)\n(fix)\n".to_string(),
+            "(vary a) (fix)".to_string(),
+            "(rule (head a b) (body c) (not))\neach on a line of its own.",
+            "(vary a) (fix)\n".to_string(),
+        ),
+        (
+            2,
+            4,
+            FORM,
+            "(rule (head a) (body)  ; two lines".to_string(),
+            "a comment goes from ; to the",
+            "(vary a)\n\n(fix)\n(rule (head a) (body)  ; two lines\n(not))\n".to_string(),
+        ),
+        (
+            2,
+            3,
+            FORM,
+            none(),
+            "ends too early",
+            "; a comment\n\n".to_string(),
+        ),
+        (
+            2,
+            3,
+            FORM,
+            "; the end".to_string(),
+            "the last one too",
+            "(vary)\n(fix)\n; the end".to_string(),
         ),
         (
             2,
@@ -53,8 +77,24 @@ fn refusals() -> Vec<(u64, u64, &'static str, String, &'static str, String)> {
             1,
             FORM,
             "(vary\\x09\\xc3\\xa9)\\x0d".to_string(),
-            "no other spacing",
+            "A tab or a carriage return is no space",
             "(vary\t\u{e9})\r\n(fix)\r\n".to_string(),
+        ),
+        (
+            2,
+            3,
+            FORM,
+            "(rule (head) (body) (not))\\x0d".to_string(),
+            "a line feed (byte 10) alone",
+            "(vary) ;\t\r\n(fix)\n(rule (head) (body) (not))\r\n".to_string(),
+        ),
+        (
+            2,
+            3,
+            FORM,
+            "(vary) ; \\x09".to_string(),
+            "(min ..) lines",
+            "(vary)\n(fix)\n(vary) ; \t\n".to_string(),
         ),
         (
             2,
@@ -63,6 +103,14 @@ fn refusals() -> Vec<(u64, u64, &'static str, String, &'static str, String)> {
             "(rules)".to_string(),
             "(rule (head a b) (body c) (not d))",
             "(atoms a)\n(rules)\n".to_string(),
+        ),
+        (
+            2,
+            4,
+            FORM,
+            "(fix)".to_string(),
+            "A plain program has one (atoms ..) line",
+            "; plain\n\n ( atoms a )\n(fix)\n".to_string(),
         ),
         (
             3,
@@ -95,6 +143,14 @@ fn refusals() -> Vec<(u64, u64, &'static str, String, &'static str, String)> {
             rule.to_string(),
             "must stand on the (atoms ..) line",
             format!("(atoms b)\n{rule}\n"),
+        ),
+        (
+            5,
+            6,
+            "an atom is not declared",
+            format!("  {rule}  ; a typed line"),
+            "must stand on the (atoms ..) line",
+            format!("; plain\n\n( atoms  b )\n;\n\n  {rule}  ; a typed line\n"),
         ),
         (
             6,
@@ -149,7 +205,13 @@ fn of_the_text() {
     for (number, line, words, shown, help, text) in refusals() {
         let message = message(number, line, words, &shown);
         let printed = format!("(refused {number} {line})\n");
-        for command in ["states -", "translate -", "translate - --asp", "solve -"] {
+        for command in [
+            "states -",
+            "translate -",
+            "translate - --asp",
+            "canonical -",
+            "solve -",
+        ] {
             assert_eq!(rigtomato(command, &text), ran(1, &printed, &message));
         }
         for command in ["preferred -", "stable - a"] {

@@ -3,6 +3,7 @@
 //! Nothing is written on a refusal; after success, what lies past the written part keeps its
 //! content.
 
+use crate::canonical::canonical;
 use crate::clauses;
 use crate::limits::{Kind, BUDGET_LIMIT, VERDICT_ATOM_LIMIT};
 use crate::program::{Names, Program};
@@ -61,6 +62,13 @@ pub fn write(rules: &[u16], names: &[u8], out: &mut [u8]) -> Result<usize, Reaso
     let program = check_rules(rules)?;
     let names = check_names(&program, names)?;
     deliver(&writer::write(&program, &names), out)
+}
+
+/// Writes the text of the canonical form of the stores' program; gives its length.
+pub fn write_canonical(rules: &[u16], names: &[u8], out: &mut [u8]) -> Result<usize, Reason> {
+    let program = check_rules(rules)?;
+    let names = check_names(&program, names)?;
+    deliver(&writer::write(&canonical(&program), &names), out)
 }
 
 /// Writes the text of a preference file's plain program; gives its length.

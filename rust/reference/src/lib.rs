@@ -5,11 +5,13 @@
 //! names are found by looking at each of them. Where the documents have a word of their own, the
 //! code uses that word.
 
+pub mod canonical;
 pub mod choices;
 pub mod clauses;
 pub mod lent;
 pub mod limits;
 pub mod names;
+pub mod pieces;
 pub mod program;
 pub mod programs;
 pub mod reader;

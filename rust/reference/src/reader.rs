@@ -6,6 +6,7 @@
 
 use crate::limits::{Kind, TEXT_LIMIT};
 use crate::names::name_fault;
+use crate::pieces::{pieces, Piece};
 use crate::program::{Names, Program, Role, Rule};
 use crate::refusal::{Reason, Refusal};
 use crate::used_atoms::without_unused;
@@ -16,36 +17,6 @@ type Items<'a> = Vec<&'a [u8]>;
 enum Line<'a> {
     Declaration { word: &'a [u8], items: Items<'a> },
     Rule { lists: [Items<'a>; 3] },
-}
-
-/// The pieces of a line: brackets, single spaces, and runs of any other bytes.
-#[derive(Clone, Copy, PartialEq, Eq)]
-enum Piece<'a> {
-    Open,
-    Close,
-    Space,
-    Item(&'a [u8]),
-}
-
-fn pieces(line: &[u8]) -> Vec<Piece<'_>> {
-    let mut found = Vec::new();
-    let mut at = 0;
-    while at < line.len() {
-        match line[at] {
-            b'(' => found.push(Piece::Open),
-            b')' => found.push(Piece::Close),
-            b' ' => found.push(Piece::Space),
-            _ => {
-                let start = at;
-                while at + 1 < line.len() && !matches!(line[at + 1], b'(' | b')' | b' ') {
-                    at += 1;
-                }
-                found.push(Piece::Item(&line[start..=at]));
-            }
-        }
-        at += 1;
-    }
-    found
 }
 
 /// Takes pieces from the front of a line, in the order that the form asks for.
@@ -64,36 +35,31 @@ impl<'a> Form<'a, '_> {
         (self.take()? == piece).then_some(())
     }
 
-    fn item(&mut self) -> Option<&'a [u8]> {
-        match self.take()? {
-            Piece::Item(item) => Some(item),
-            _ => None,
-        }
-    }
-
-    /// Items with a space before each, up to the closing bracket, which is taken too.
+    /// Words up to the closing bracket, which is taken too.
     fn items(&mut self) -> Option<Items<'a>> {
         let mut items = Items::new();
         loop {
             match self.take()? {
                 Piece::Close => return Some(items),
-                Piece::Space => items.push(self.item()?),
-                _ => return None,
+                Piece::Word(item) => items.push(item),
+                Piece::Open => return None,
             }
         }
     }
 
-    /// ` (word a b)`.
+    /// `(word a b)`.
     fn list(&mut self, word: &[u8]) -> Option<Items<'a>> {
-        self.expect(Piece::Space)?;
         self.expect(Piece::Open)?;
-        self.expect(Piece::Item(word))?;
+        self.expect(Piece::Word(word))?;
         self.items()
     }
 
+    /// The one form of a line.
     fn line(&mut self) -> Option<Line<'a>> {
         self.expect(Piece::Open)?;
-        let word = self.item()?;
+        let Piece::Word(word) = self.take()? else {
+            return None;
+        };
         let line = if word == b"rule" {
             let lists = [self.list(b"head")?, self.list(b"body")?, self.list(b"not")?];
             self.expect(Piece::Close)?;
@@ -134,9 +100,12 @@ impl Reader {
         );
     }
 
-    /// Takes one line without its byte 10, and gives its faults.
+    /// Takes one line without its byte 10, and gives its faults. A blank line has none.
     fn take(&mut self, line: &[u8]) -> Vec<Reason> {
         let pieces = pieces(line);
+        if pieces.is_empty() {
+            return Vec::new();
+        }
         match (Form { left: &pieces }).line() {
             None => vec![Reason::Form],
             Some(Line::Declaration { word, items }) => self.take_declaration(word, &items),
@@ -214,6 +183,15 @@ impl Reader {
     }
 }
 
+/// The kind is plain exactly when the first form's first word is `atoms`.
+fn kind(text: &[u8]) -> Kind {
+    let mut lines = text.split(|byte| *byte == b'\n').map(pieces);
+    match lines.find(|pieces| !pieces.is_empty()).as_deref() {
+        Some([Piece::Open, Piece::Word(b"atoms"), ..]) => Kind::Plain,
+        _ => Kind::Preference,
+    }
+}
+
 /// Reads a text of either kind.
 pub fn read(text: &[u8]) -> Result<(Program, Names), Refusal> {
     let (program, names) = read_lines(text)?;
@@ -228,15 +206,14 @@ pub fn read_lines(text: &[u8]) -> Result<(Program, Names), Refusal> {
     if text.len() > TEXT_LIMIT {
         return Err(Refusal::without_line(Reason::TextTooLong));
     }
-    let (kind, expected) = if text.starts_with(b"(atoms") {
-        (Kind::Plain, Expected::Atoms)
-    } else {
-        (Kind::Preference, Expected::MinOrVary)
-    };
+    let kind = kind(text);
     let mut reader = Reader {
         program: Program::empty(kind),
         names: Names::new(),
-        expected,
+        expected: match kind {
+            Kind::Plain => Expected::Atoms,
+            Kind::Preference => Expected::MinOrVary,
+        },
     };
     let mut line_number = 0;
     for line in text.split_inclusive(|byte| *byte == b'\n') {

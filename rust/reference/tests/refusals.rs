@@ -9,19 +9,12 @@ use reference::refusal::Reason;
 #[test]
 fn form_of_a_line() {
     let lines = [
-        "",
-        " ",
         "(",
         ")",
         "()",
         "(vary",
         "vary)",
-        "(vary )",
-        "( vary)",
-        "(vary  a)",
-        "(vary a )",
-        "(vary a) ",
-        " (vary a)",
+        "( )",
         "(vary a))",
         "((vary a)",
         "(vary (a))",
@@ -50,6 +43,7 @@ fn form_of_a_line() {
         "(vary \u{e9})",
         "(vary a\0)",
         "(vary a) (fix)",
+        "(vary a)(fix)",
         "(atom)",
     ];
     for line in lines {
@@ -60,21 +54,14 @@ fn form_of_a_line() {
         );
     }
     let rules = [
-        "",
         "(rule)",
         "(rule (head) (body))",
         "(rule (head) (body) (not)",
         "(rule (head) (body) (not)))",
-        "(rule  (head) (body) (not))",
-        "(rule (head)(body) (not))",
         "(rule (head) (not) (body))",
         "(rule (body) (head) (not))",
-        "(rule (head) (body) (not) )",
-        "(rule (head a ) (body) (not))",
-        "(rule (head a) (body) (not)) ",
         "(rules (head) (body) (not))",
         "(rule (head) (body) (not) (not))",
-        "(rule(head) (body) (not))",
         "(fact a)",
         "(rule a (head) (body) (not))",
         "(rule (heads) (body) (not))",
@@ -100,11 +87,10 @@ fn line_order_and_missing_lines() {
     assert_eq!(refused(b"(vary)\n(min)\n(fix)\n"), (2, 2));
     assert_eq!(refused(b"(vary)\n(fix)\n(fix)\n"), (2, 3));
     assert_eq!(refused(b"(vary)\n(fix)\n(min)\n"), (2, 3));
-    assert_eq!(refused(b"(vary)\n(fix)\n\n"), (2, 3));
     assert_eq!(refused(b"(rule (head) (body) (not))\n"), (2, 1));
     assert_eq!(refused(b"(vary)\n(rule (head) (body) (not))\n"), (2, 2));
     assert_eq!(refused(b"(vary)\n(atoms)\n"), (2, 2));
-    // The kind is plain exactly when the text starts with `(atoms`.
+    // The kind is plain exactly when the first form's first word is `atoms`.
     assert_eq!(refused(b"(atoms"), (2, 1));
     assert_eq!(refused(b"(atomsx)\n"), (2, 1));
     assert_eq!(refused(b"(atoms)"), (2, 1));

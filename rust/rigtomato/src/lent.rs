@@ -38,10 +38,13 @@ pub enum Next {
     Spent,
 }
 
-/// Reads a text of either kind into a rule store and a name store. A preference file's atoms that
-/// stand in no rule are checked with the others and then left out of both: atoms are numbered among
-/// those that remain, and the outputs need room for these alone. Classes stay, emptied ones too. A
-/// plain program keeps all its atoms.
+/// Reads a text of either kind into a rule store and a name store. One bracket form stands on a line;
+/// spaces may stand around its words and brackets, a comment goes from `;` to the line's end, and
+/// lines may be blank.
+///
+/// A preference file's atoms that stand in no rule are checked with the others and then left out of
+/// both stores: atoms are numbered among those that remain, and the outputs need room for these
+/// alone. Classes stay, emptied ones too. A plain program keeps all its atoms.
 ///
 /// The other functions take stores as they stand, atoms that no rule has included.
 pub fn read(text: &[u8], rules: &mut [u16], names: &mut [u8]) -> Result<Accepted, TextRefusal> {
@@ -100,11 +103,30 @@ fn written(answer: sys::TextAnswer) -> Result<usize, Refusal> {
     }
 }
 
-/// Writes the text of the stores; gives its length.
+/// Writes the text of the stores in its strict form, one space between items and no other spacing;
+/// gives its length.
 pub fn write(rules: &[u16], names: &[u8], out: &mut [u8]) -> Result<usize, Refusal> {
     // SAFETY: as in `read`.
     written(unsafe {
         sys::rigtomato_write(
+            rules.as_ptr(),
+            rules.len(),
+            names.as_ptr(),
+            names.len(),
+            out.as_mut_ptr(),
+            out.len(),
+        )
+    })
+}
+
+/// Writes the canonical text of the stores; gives its length. The atoms inside each list are sorted by
+/// number, then the rules by the first difference of their heads, bodies and `not` lists, a list that
+/// ends first before those that go on, and one of equal rules is kept. The declarations stay, atoms
+/// that no rule has included.
+pub fn write_canonical(rules: &[u16], names: &[u8], out: &mut [u8]) -> Result<usize, Refusal> {
+    // SAFETY: as in `read`.
+    written(unsafe {
+        sys::rigtomato_write_canonical(
             rules.as_ptr(),
             rules.len(),
             names.as_ptr(),

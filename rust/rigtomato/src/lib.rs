@@ -43,6 +43,7 @@ const RULES_LIMIT: usize = 4 + 3 * 4_200 + 24_000;
 const NAMES_LIMIT: usize = 1_100 * (HOUSE_NAME_LIMIT + 3);
 
 type ReadLent = fn(&[u8], &mut [u16], &mut [u8]) -> Result<lent::Accepted, TextRefusal>;
+type WriteLent = fn(&[u16], &[u8], &mut [u8]) -> Result<usize, Refusal>;
 
 #[derive(Clone, Copy, Debug, PartialEq, Eq)]
 pub enum Kind {
@@ -59,12 +60,13 @@ pub struct Program {
 }
 
 impl Program {
-    /// Reads a text of either kind. A preference file's atoms that stand in no rule are checked with
+    /// Reads a text of either kind, with any spaces around words and brackets, comments from `;` to a
+    /// line's end and blank lines. A preference file's atoms that stand in no rule are checked with
     /// the others and then left out.
     ///
     /// ```
     /// # use rigtomato::Program;
-    /// let text = "(min)\n(vary a b c)\n(fix)\n(rule (head c) (body a) (not))\n";
+    /// let text = "(min)\n(vary a b c)\n(fix)\n\n(rule (head c)(body a)(not)) ; c if a\n";
     /// let file = Program::read(text.as_bytes())?;
     /// assert_eq!(file.names().collect::<Vec<_>>(), ["a", "c"]);
     /// # Ok::<(), rigtomato::TextRefusal>(())
@@ -140,10 +142,31 @@ impl Program {
             .map(|(_, name)| name)
     }
 
-    /// The text; it is the text that was read, but for the names that were left out.
+    /// The text in its strict form, one space between items and no other spacing. A strict text that
+    /// was read comes back, but for the names that were left out.
     pub fn write(&self) -> Vec<u8> {
+        self.written_by(lent::write)
+    }
+
+    /// The canonical text: the atoms inside each list sorted by number, then the rules by the first
+    /// difference of their heads, bodies and `not` lists, one of equal rules kept. Programs with the
+    /// same declarations in the same order and the same rules as sets have the same one, others have
+    /// another.
+    ///
+    /// ```
+    /// # use rigtomato::Program;
+    /// let one = Program::read(b"(vary a b)\n(fix)\n(rule (head b a) (body) (not))\n")?;
+    /// let other = Program::read(b"(vary a b) ; a or b\n(fix)\n(rule(head a b)(body)(not))\n")?;
+    /// assert_eq!(one.write_canonical(), other.write_canonical());
+    /// # Ok::<(), rigtomato::TextRefusal>(())
+    /// ```
+    pub fn write_canonical(&self) -> Vec<u8> {
+        self.written_by(lent::write_canonical)
+    }
+
+    fn written_by(&self, write: WriteLent) -> Vec<u8> {
         let mut out = vec![0; TEXT_LIMIT];
-        let length = lent::write(&self.rules, &self.names, &mut out);
+        let length = write(&self.rules, &self.names, &mut out);
         out.truncate(length.expect("the stores of an accepted text have a text"));
         out
     }

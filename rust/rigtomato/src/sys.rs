@@ -56,6 +56,14 @@ extern "C" {
         out: *mut u8,
         out_len: usize,
     ) -> TextAnswer;
+    pub fn rigtomato_write_canonical(
+        rules: *const u16,
+        rules_len: usize,
+        names: *const u8,
+        names_len: usize,
+        out: *mut u8,
+        out_len: usize,
+    ) -> TextAnswer;
     pub fn rigtomato_translate(
         rules: *const u16,
         rules_len: usize,

@@ -1,6 +1,8 @@
-//! Writes random preference files: `random_files DIRECTORY COUNT SEED`.
+//! Writes random preference files, every other one as a person types it: `random_files DIRECTORY COUNT
+//! SEED`.
 
 use compare::generate::{mixed, partly_used, preference, Size};
+use compare::hand_typed::loosened;
 use compare::random::Random;
 use reference::writer::write;
 use std::path::Path;
@@ -23,8 +25,12 @@ fn main() -> ExitCode {
             1 => mixed(&mut random, 3),
             _ => partly_used(&mut random, Size::SMALL),
         };
+        let mut text = write(&program, &names);
+        if i % 2 == 1 {
+            text = loosened(&mut random, &text);
+        }
         let path = Path::new(directory).join(format!("random_{i:04}.pref"));
-        if let Err(error) = std::fs::write(&path, write(&program, &names)) {
+        if let Err(error) = std::fs::write(&path, text) {
             eprintln!("random_files: {}: {error}", path.display());
             return ExitCode::FAILURE;
         }

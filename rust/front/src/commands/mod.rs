@@ -1,5 +1,6 @@
 //! The table of commands. Help and dispatch are made from it.
 
+mod canonical;
 mod check;
 mod clauses;
 mod solve;
@@ -69,6 +70,14 @@ pub const COMMANDS: &[Command] = &[
         takes_atoms: false,
         more: clauses::MORE,
         run: clauses::run,
+    },
+    Command {
+        name: "canonical",
+        does: "print the text that all files with the same declarations and rules share",
+        options: &[],
+        takes_atoms: false,
+        more: canonical::MORE,
+        run: canonical::run,
     },
     Command {
         name: "solve",
