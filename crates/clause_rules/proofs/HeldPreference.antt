@@ -47,7 +47,7 @@ module _ {g : Gathered} {c : ClauseCounts} {words bodies : List ℕ} (h : HeldCl
         counts-are = λ i. record { atoms = sym (names-count (c .atoms)) i; rules = h .rules-are i; occurrences = occurrences i };
         class-words = length-replicate (c .atoms) 1;
         stored = h .stored;
-        names-allowed = names-form (c .atoms) .all-allowed;
+        names-allowed = names-form (c .atoms) (h .atoms-fit) .all-allowed;
         names-stored = ap (λ b. names ++ drop (length names) b) is ∙ ap (λ l. names ++ l) (drop-append-seam names (drop (0 + length names) before)) ∙ sym is;
         bytes-is = w .place ∙ zero-add (length names);
         short = omega (arith, w .place);

@@ -10,7 +10,7 @@ use Rattle.name_store.specs.NameStore.{NamesOf, encodeNames}
 use Rattle.text.specs.Text.{textOf}
 use Rattle.faults.specs.EarliestFault.{Accepts}
 use Rattle.clauses.specs.Sentences.{AcceptsClauses}
-use Rattle.reader.specs.WrittenText.{WrittenText}
+use Rattle.reader.specs.WrittenText.{TypedText}
 use Rattle.reader.specs.RoundTrips.{RoundTrips}
 use Rattle.canonical_text.specs.CanonicalTexts.{CanonicalTexts}
 use Rattle.answers.specs.Writing.{storesText}
@@ -25,8 +25,8 @@ pub record PreferenceStores (p : Program) (names : List (List ℕ)) : Type 0 whe
 
 pub record Demand1 : Type 0 where
   pub read : (text rules names : List ℕ) → ReadRefuses text rules names
-  -- a text is accepted exactly when it is the text of a program of the form
-  pub accepted : (text : List ℕ) → ((p : Program) × (names : List (List ℕ)) × Accepts text p names) ↔ WrittenText text
+  -- a text is accepted exactly when its lines are ended and its strict text is the text of a program of the form
+  pub accepted : (text : List ℕ) → ((p : Program) × (names : List (List ℕ)) × Accepts text p names) ↔ TypedText text
   -- what the writer gives for it, and the reader for that
   pub texts : RoundTrips
   pub clauses : (text rules names : List ℕ) → ClausesRefuse text rules names

@@ -5,13 +5,14 @@ use mathlib.Core.List.{List, [], _∷_, _++_}
 use lib.ListN.{length}
 use Rattle.kinds.specs.Limits.{budgetLimit}
 use Rattle.kinds.specs.Words.{bytes}
-use Rattle.kinds.specs.declared.refusals.Refusal.the-variants.{Name, DeclaredTwice, Limit, BrokenClauses, LiteralBeyond}
+use Rattle.kinds.specs.declared.refusals.Refusal.the-variants.{BrokenForm, Name, DeclaredTwice, Undeclared, Limit, BrokenClauses, LiteralBeyond}
 use Rattle.rules.specs.Lists.{sum, flat, from}
 use Rattle.rules.specs.Rules.{occurrences}
 use Rattle.stores.specs.RuleStore.{encode}
 use Rattle.name_store.specs.NameStore.{encodeNames}
 use Rattle.text.specs.Text.{textOf}
 use Rattle.lines.specs.Said.{Said, accepted, refused, typed, said}
+use Rattle.lines.specs.Strict.{strictText}
 use Rattle.clauses.specs.ClausesSaid.{clausesSaid}
 use Rattle.walks.specs.declared.answers.Verdict.{Verdict}
 use Rattle.walks.specs.declared.answers.Verdict.the-variants.{Yes, Broken, Beaten, Spent, Refused}
@@ -34,6 +35,10 @@ rulesA = bytes "(rule (head sensor lamp) (body) (not))\n(rule (head dark) (body 
 -- file A
 unfoldable pub fileA : List ℕ
 fileA = bytes "(min sensor)\n(min lamp)\n(vary dark)\n(fix)\n" ++ rulesA
+
+-- A as a person types it
+unfoldable pub typedA : List ℕ
+typedA = bytes "; two faults\n\n(min sensor)  ; the graver one\n  ( min lamp )\n(vary dark)\n(fix)\n\n(rule(head sensor lamp)(body)(not))\n(rule (head dark) (body   lamp) (not)) ; lamps\n"
 
 -- A with one class `sensor lamp`
 unfoldable pub oneClass : List ℕ
@@ -229,3 +234,17 @@ pub record Sheet : Type 0 where
   pub plain-sorted : canonical (said plainFalling) ≡ plainRising
   pub plain-again : canonical (said plainRising) ≡ plainRising
   pub handed-in-sorted : handedInCanonical (typed unused) ≡ unused
+  -- A as a person types it: comments, blank lines and spaces count for nothing but their lines, and the writer gives A
+  pub typed-listed : statesPrinted typedA ≡ bytes "(state lamp dark)\n(total 1)\n"
+  pub typed-written : written (said typedA) ≡ fileA
+  pub typed-strict : strictText typedA ≡ fileA
+  pub typed-plain : written (said (bytes "; first\n\n ( atoms a b)\n(rule(head b a)(body)(not)) ; or\n")) ≡ bytes "(atoms a b)\n(rule (head b a) (body) (not))\n"
+  pub typed-fault : said (bytes "; a\n\n(vary a)\n (fix)\n\n(rule (head b) (body) (not)) ; b\n") ≡ refused Undeclared 6
+  -- two forms on a line, a form over two lines, a tab, a comment within a form, no byte 10 behind the last comment, no line at all
+  pub two-forms : said (bytes "(vary) (fix)\n") ≡ refused BrokenForm 1
+  pub form-over-lines : said (bytes "(vary\na)\n") ≡ refused BrokenForm 1
+  pub tab-typed : said (bytes "(vary\ta)\n(fix)\n") ≡ refused BrokenForm 1
+  pub comment-within : said (bytes "(vary a ; b)\n(fix)\n") ≡ refused BrokenForm 1
+  pub comment-unended : said (bytes "(vary)\n(fix)\n; end") ≡ refused BrokenForm 3
+  pub blank-alone : said (bytes "\n  ; nothing\n") ≡ refused BrokenForm 3
+  pub typed-sorted : canonical (said typedA) ≡ fileA
