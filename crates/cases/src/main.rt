@@ -51,7 +51,7 @@ fn first_states() {
     states(b"catalogue.pref");
     states(b"no_state.pref");
     states(b"too_long.pref");
-    states(b"spacing.pref");
+    states(b"two_forms.pref");
     states(b"missing_line.pref");
     states(b"generated_name.pref");
     states(b"long_name.pref");
@@ -67,6 +67,7 @@ fn other_states() {
     states(b"plain.plain");
     states(b"atoms_61.pref");
     states(b"unused.pref");
+    states(b"hand_typed.pref");
 }
 
 fn translations() {
