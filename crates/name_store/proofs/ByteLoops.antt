@@ -1,21 +1,17 @@
 -- Loops over the bytes of names: comparing two, and taking the hash of one.
-use Prim.Native.Nat.{ℕ, suc, _+_, _*_, _%_, _≤_, _<_, zero-le}
+use Prim.Native.Nat.{ℕ, zero, suc, _+_, _-_, _*_, _%_, _≤_, _<_, zero-le}
 use native.Mathlib.Numerals.{add-one}
 use native.Mathlib.Omega.{arith}
 use mathlib.Core.Path.{_≡_, refl, sym, ap, ap₂, _∙_}
 use mathlib.Core.List.{List, [], _∷_}
-use mathlib.Core.Bool.{Bool, true, false, _&&_}
+use mathlib.Core.Bool.{Bool, true, false, not, _&&_}
 use lib.Dec.{eqb}
-use lib.ListN.{length, getD, drop, drop-of-length-le}
-use lib.Seq.{drop-cons}
-use borrow.Author.Tests.{eq-eqb, ne-eqb}
+use lib.ListN.{length, getD, take, drop, length-take, length-drop, drop-of-length-le}
+use lib.Seq.{drop-cons, drop-drop}
+use borrow.Author.Tests.{eq-eqb, ne-eqb, not-true, not-false}
+use Rattle.rules.proofs.Booleans.{and-false}
 use Rattle.name_store.specs.NameStore.{sameBytes}
 use Rattle.name_store.specs.NameIndex.{buckets, hashFrom, nameHash}
-
-pub record Same (a b : List ℕ) (i : ℕ) : Type 0 where
-  pub long : length a ≡ length b
-  pub inside : i ≤ length a
-  pub left : sameBytes (drop i a) (drop i b) ≡ sameBytes a b
 
 pub other-length : (a b : List ℕ) → (length a ≡ length b → ⊥) → false ≡ sameBytes a b
 unfolding sameBytes
@@ -28,15 +24,37 @@ other-length (x ∷ a) (y ∷ b) h = go (eqb x y) (other-length a b (λ e. h (ap
     go true e = e
     go false e = refl
 
-pub same-begins : (a b : List ℕ) → length a ≡ length b → Same a b 0
-same-begins a b e = record { long = e; inside = zero-le; left = refl }
+kept-true : (b : Bool) → (b && true) ≡ b
+kept-true true = refl
+kept-true false = refl
 
-module _ {a b : List ℕ} {i : ℕ} (h : Same a b i) where
-  pub same-passed : length a ≤ i → true ≡ sameBytes a b
+-- the first bytes of two lists, and the others
+same-split : (n : ℕ) (a b : List ℕ) → length a ≡ length b → n ≤ length a → sameBytes a b ≡ sameBytes (take n a) (take n b) && sameBytes (drop n a) (drop n b)
+unfolding sameBytes
+same-split zero a b e l = refl
+same-split (suc n) [] b e l = absurd (omega arith)
+same-split (suc n) (x ∷ a) [] e l = absurd (omega arith)
+same-split (suc n) (x ∷ a) (y ∷ b) e l = go (eqb x y) (same-split n a b (omega arith) (omega arith))
+  where
+    go : (t : Bool) → sameBytes a b ≡ sameBytes (take n a) (take n b) && sameBytes (drop n a) (drop n b) → t && sameBytes a b ≡ (t && sameBytes (take n a) (take n b)) && sameBytes (drop n a) (drop n b)
+    go true r = r
+    go false r = refl
+
+-- a walk that has come to i and has met no difference, or that goes on whatever it met
+pub record Same (a b : List ℕ) (from i : ℕ) (flag : Bool) : Type 0 where
+  pub long : length a ≡ length b
+  pub inside : i ≤ length a
+  pub left : flag && sameBytes (drop i a) (drop i b) ≡ sameBytes (drop from a) (drop from b)
+
+pub same-begins : (a b : List ℕ) (from : ℕ) → length a ≡ length b → from ≤ length a → Same a b from from true
+same-begins a b from e l = record { long = e; inside = l; left = refl }
+
+module _ {a b : List ℕ} {from i : ℕ} {flag : Bool} (h : Same a b from i flag) where
+  pub same-passed : length a ≤ i → flag ≡ sameBytes (drop from a) (drop from b)
   unfolding sameBytes
   same-passed e =
       let l : length b ≤ i = omega (arith, h .long) in
-      ap₂ sameBytes (sym (drop-of-length-le a e)) (sym (drop-of-length-le b l)) ∙ h .left
+      sym (kept-true flag) ∙ ap (λ t. flag && t) (ap₂ sameBytes (sym (drop-of-length-le a e)) (sym (drop-of-length-le b l))) ∙ h .left
 
   module _ (lt : i < length a) where
     same-step : sameBytes (drop i a) (drop i b) ≡ eqb (getD a i 0) (getD b i 0) && sameBytes (drop (i + 1) a) (drop (i + 1) b)
@@ -45,11 +63,31 @@ module _ {a b : List ℕ} {i : ℕ} (h : Same a b i) where
         let l : i < length b = omega (arith, h .long) in
         rw (add-one, drop-cons a i 0, drop-cons b i 0)
 
-    pub same-differs : (getD a i 0 ≡ getD b i 0 → ⊥) → false ≡ sameBytes a b
-    same-differs e = sym (rw (ne-eqb _ _ e) at same-step) ∙ h .left
+    pub same-differs : (getD a i 0 ≡ getD b i 0 → ⊥) → false ≡ sameBytes (drop from a) (drop from b)
+    same-differs e = sym (and-false flag) ∙ ap (λ t. flag && t) (sym (rw (ne-eqb _ _ e) at same-step)) ∙ h .left
 
-    pub same-again : getD a i 0 ≡ getD b i 0 → Same a b (i + 1)
-    same-again e = record { long = h .long; inside = omega arith; left = sym (rw (eq-eqb _ _ e) at same-step) ∙ h .left }
+    pub same-not : (getD a i 0 ≡ getD b i 0 → ⊥) → {flag′ : Bool} → flag′ ≡ false → Same a b from (i + 1) flag′
+    same-not e d = record { long = h .long; inside = omega arith; left = ap (λ t. t && sameBytes (drop (i + 1) a) (drop (i + 1) b)) d ∙ same-differs e }
+
+    pub same-again : getD a i 0 ≡ getD b i 0 → {flag′ : Bool} → flag′ ≡ flag → Same a b from (i + 1) flag′
+    same-again e d = record { long = h .long; inside = omega arith; left = ap₂ _&&_ d (sym (rw (eq-eqb _ _ e) at same-step)) ∙ h .left }
+
+-- a block of bytes, as the code takes it
+module _ {a b : List ℕ} {i : ℕ} (h : Same a b 0 i true) (l : i + 8 ≤ length a) {q : Bool} (f : q ≡ sameBytes (take (i + 8 - i) (drop i a)) (take (i + 8 - i) (drop i b))) where
+  block-split : sameBytes (drop i a) (drop i b) ≡ q && sameBytes (drop (i + 8) a) (drop (i + 8) b)
+  block-split =
+      let n : i + 8 - i ≡ 8 = omega arith in
+      same-split 8 (drop i a) (drop i b) (omega (arith, length-drop i a, length-drop i b, h .long)) (omega (arith, length-drop i a))
+      ∙ ap₂ _&&_ (ap (λ (k : ℕ). sameBytes (take k (drop i a)) (take k (drop i b))) (sym n) ∙ sym f) (ap₂ sameBytes (drop-drop 8 i a) (drop-drop 8 i b))
+
+  pub block-same : not q ≡ false → Same a b 0 (i + 8) true
+  block-same d = record { long = h .long; inside = l; left = ap (λ t. t && sameBytes (drop (i + 8) a) (drop (i + 8) b)) (sym (not-false q d)) ∙ sym block-split ∙ h .left }
+
+  pub block-differs : not q ≡ true → false ≡ sameBytes a b
+  block-differs d = ap (λ t. t && sameBytes (drop (i + 8) a) (drop (i + 8) b)) (sym (not-true q d)) ∙ sym block-split ∙ h .left
+
+pub blocks-as-long : (a b : List ℕ) (i : ℕ) → length a ≡ length b → i + 8 ≤ length a → length (take (i + 8 - i) (drop i a)) ≡ length (take (i + 8 - i) (drop i b))
+blocks-as-long a b i e l = omega (arith, length-take (i + 8 - i) (drop i a), length-take (i + 8 - i) (drop i b), length-drop i a, length-drop i b)
 
 pub record Hashing (x : List ℕ) (i h : ℕ) : Type 0 where
   pub inside : i ≤ length x

@@ -3,7 +3,7 @@ ghost use mathlib.Core.Bool.{cond, not};
 ghost use mathlib.Core.Path.{_≡_};
 ghost use Prim.Native.Nat.{_+_, _*_, _%_, _≤_, _<_};
 ghost use mathlib.Core.List.{[]};
-ghost use lib.ListN.{length, getD, set};
+ghost use lib.ListN.{length, getD, drop, set};
 ghost use Rattle.name_store.specs.NameStore.{decodeNames, sameBytes, among};
 ghost use Rattle.name_store.specs.NameIndex.{found, nameEnd, nameHash, buckets, Placed, Indexed};
 
@@ -15,13 +15,12 @@ pub enum Found {
     Missing,
 }
 
-pub fn same_bytes(a: &[u8], b: &[u8]) -> bool
-    ensures { λ r. ⌜ r ≡ sameBytes (now (a .entry)) (now (b .entry)) ⌝ }
+// Whether the bytes from `from` on are the same.
+fn same_from(a: &[u8], b: &[u8], from: usize) -> bool
+    requires { ⌜ (length (now a) ≡ length (now b)) × (from ≤ length (now a)) ⌝ }
+    ensures { λ r. ⌜ r ≡ sameBytes (drop from (now (a .entry))) (drop from (now (b .entry))) ⌝ }
 {
-    if a.len() != b.len() {
-        return false;
-    }
-    let mut i: usize = 0;
+    let mut i = from;
     while i < a.len() {
         if a[i] != b[i] {
             return false;
@@ -29,6 +28,40 @@ pub fn same_bytes(a: &[u8], b: &[u8]) -> bool
         i += 1;
     }
     true
+}
+
+// The same of all bytes. No byte ends the walk, so that many are compared at once.
+fn same_block(a: &[u8], b: &[u8]) -> bool
+    requires { ⌜ length (now a) ≡ length (now b) ⌝ }
+    ensures { λ r. ⌜ r ≡ sameBytes (now (a .entry)) (now (b .entry)) ⌝ }
+{
+    let mut same = true;
+    let mut i: usize = 0;
+    while i < a.len() {
+        if a[i] != b[i] {
+            same = false;
+        }
+        i += 1;
+    }
+    same
+}
+
+pub fn same_bytes(a: &[u8], b: &[u8]) -> bool
+    ensures { λ r. ⌜ r ≡ sameBytes (now (a .entry)) (now (b .entry)) ⌝ }
+{
+    if a.len() != b.len() {
+        return false;
+    }
+    let mut i: usize = 0;
+    while 8 <= a.len() - i {
+        let to = i + 8;
+        let same = same_block(&a[i..to], &b[i..to]);
+        if !same {
+            return false;
+        }
+        i = to;
+    }
+    same_from(a, b, i)
 }
 
 // The hash with one byte more.
