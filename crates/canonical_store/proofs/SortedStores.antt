@@ -134,7 +134,7 @@ module _ {ws : List ℕ} {p : Program} (s : StoreOf ws p) {start count : ℕ} (e
   as-many = f ∙ sym (length-map (p .rules) tidy)
 
   -- what `sort_rules` requires
-  pub stored : StoredRules (getD ws 1 0) count (drop start words) × (length words ≤ 65536) × (count ≤ 65536)
+  pub stored : StoredRules (getD ws 1 0) count (drop start words) × (length words ≤ 65536) × (count ≤ 65535)
   stored = (
     subst (StoredRules (getD ws 1 0) count) (ap (λ (n : ℕ). drop n words) (sym (same-start ∙ ap (λ (n : ℕ). 4 + n) (class-count t)))) (rw (atoms-at s, as-many) (stored-rules t)),
     let k = short t in omega arith,

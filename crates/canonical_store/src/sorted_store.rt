@@ -1,5 +1,5 @@
 // The lists of a store's rules sorted, and the rules put in order.
-use rule_sort::sorting::sort_rules;
+use entry_sort::sort_rules;
 use tidying::rule_lists::tidy_rules;
 ghost use mathlib.Core.Path.{_≡_};
 ghost use Prim.Native.Nat.{_+_, _≤_};
