@@ -2,10 +2,10 @@
 use Prim.Native.Nat.{ℕ, suc, _+_, _-_, _<_, _≤_}
 use mathlib.Core.Path.{_≡_, refl, sym, ap, ap₂, _∙_, subst}
 use mathlib.Core.Bool.{Bool, true, false}
-use mathlib.Core.List.{List, [], _∷_, _++_, append-assoc, map}
+use mathlib.Core.List.{List, [], _∷_, _++_, map}
 use native.Mathlib.Omega.{arith}
 use native.Mathlib.Numerals.{add-one}
-use lib.ListN.{length, getD, take, drop, drop-of-length-le, length-append, length-map, length-drop}
+use lib.ListN.{length, getD, take, drop, drop-of-length-le, length-append, length-drop}
 use lib.Seq.{drop-cons, drop-drop, take-add, length-take-le}
 use Rattle.rules.specs.Lists.{keep, flat}
 use Rattle.rules.specs.Rules.{Rule}
@@ -19,7 +19,6 @@ use Rattle.canonical.specs.declared.comparison.Comparison.the-variants.{Less, S
 use Rattle.rule_sort.specs.declared.comparing.Parts.{Parts}
 use Rattle.rule_sort.specs.RuleOrder.{entryRule, partsRule, PartsOf}
 use Rattle.canonical_store.specs.KeptRules.{keptRules, kept?, differs, WrittenRules}
-use Rattle.canonical_store.specs.declared.written_rules.Written.{Written}
 
 -- one entry
 

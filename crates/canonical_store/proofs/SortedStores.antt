@@ -1,5 +1,5 @@
 -- A store whose lists are sorted, with its rules in order, has the words of the canonical store.
-use Prim.Native.Nat.{ℕ, _+_, _-_, _^_, _≤_, _<_}
+use Prim.Native.Nat.{ℕ, _+_, _-_, _≤_}
 use mathlib.Core.Path.{_≡_, refl, sym, ap, ap₂, _∙_, subst}
 use mathlib.Core.List.{List, [], _∷_, _++_, append-nil, append-assoc, map}
 use native.Mathlib.Omega.{arith}
@@ -13,8 +13,8 @@ use Rattle.kinds.specs.declared.limits.Kind.the-variants.{Plain}
 use Rattle.rules.specs.Lists.{All, sum, flat}
 use Rattle.rules.specs.Rules.{Rule, occurrences}
 use Rattle.rules.proofs.Lists.{part-rest}
-use Rattle.stores.specs.Program.{Program, ProgramForm, RuleForm}
-use Rattle.stores.specs.RuleStore.{kindWord, ruleWords, encode, StoreOf, decode, kindOf, wordCount, places, ruleAt, rulesFrom}
+use Rattle.stores.specs.Program.{Program, RuleForm}
+use Rattle.stores.specs.RuleStore.{kindWord, ruleWords, encode, StoreOf, decode, wordCount, ruleAt, rulesFrom}
 use Rattle.stores.specs.StoredRules.{StoredRules}
 use Rattle.stores.proofs.RuleTests.{rule-front, past-front}
 use Rattle.stores.proofs.RuleStores.{words-count, words-fit, only-decoded, rules-front}
@@ -25,7 +25,7 @@ use Rattle.canonical.specs.Canonical.{compareRules, tidy, canonical}
 use Rattle.canonical.specs.CanonicalProgram.{tidyProgram, canonicalProgram}
 use Rattle.canonical.proofs.CanonicalForm.{tidy-program-form, canonical-form}
 use Rattle.rule_sort.specs.RuleOrder.{entryRule}
-use Rattle.tidying.specs.TidyWords.{ListedRule, ListedRules, tidyWords}
+use Rattle.tidying.specs.TidyWords.{ListedRules, tidyWords}
 use Rattle.output.specs.Emitted.{Emitted, InRange}
 use Rattle.output.proofs.Emitting.{renamed, same-length}
 use Rattle.canonical_store.specs.KeptRules.{keptRules, keptWords, classCount, Header, SortedStore}

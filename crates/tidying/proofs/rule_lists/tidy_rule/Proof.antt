@@ -1,4 +1,4 @@
-use Rattle.tidying.proofs.ListParts.{part-inside, head-part, body-part, nots-part, head-ready, body-ready, nots-ready, all-tidy}
+use Rattle.tidying.proofs.ListParts.{head-ready, body-ready, nots-ready, all-tidy}
 use native.Mathlib.Omega.{arith}
 use borrow.Author.Needs.{needs}
 use Rattle.tidying.proofs.rule_lists.tidy_rule.Statement.{statement}
