@@ -1,17 +1,17 @@
 -- The canonical program of a program of the form is of the form.
-use Prim.Native.Nat.{ℕ, suc, _+_, _<_, _≤_}
-use mathlib.Core.Path.{_≡_, refl, ap, _∙_}
+use Prim.Native.Nat.{ℕ, _+_, _<_, _≤_}
+use mathlib.Core.Path.{_≡_, refl, ap}
 use mathlib.Core.Logic.{_≢_}
 use mathlib.Core.List.{List, [], _∷_, map}
 use native.Mathlib.Omega.{arith}
 use lib.ListN.{length, length-map}
 use Rattle.kinds.specs.declared.limits.Kind.{Kind}
 use Rattle.kinds.specs.declared.limits.Kind.the-variants.{Plain, Preference}
-use Rattle.rules.specs.Lists.{All, Distinct, sum}
-use Rattle.rules.specs.Rules.{Rule, rule, occurrences}
+use Rattle.rules.specs.Lists.{Distinct, sum}
+use Rattle.rules.specs.Rules.{Rule, occurrences}
 use Rattle.rules.proofs.Lists.{all-imp, all-map}
 use Rattle.stores.specs.Program.{Program, ProgramForm, RuleForm, ListForm, NotForm}
-use Rattle.canonical.specs.Order.{Order, numbers, place, insert, ordered, Ascending}
+use Rattle.canonical.specs.Order.{numbers, place, insert, ordered, Ascending}
 use Rattle.canonical.specs.Canonical.{compareRules, tidy, canonical}
 use Rattle.canonical.specs.CanonicalProgram.{tidyProgram, canonicalProgram}
 use Rattle.canonical.specs.declared.comparison.Comparison.{Comparison}

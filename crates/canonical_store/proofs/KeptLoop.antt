@@ -2,13 +2,14 @@
 use Prim.Native.Nat.{ℕ, suc, _+_, _-_, _<_, _≤_}
 use mathlib.Core.Path.{_≡_, refl, sym, ap, ap₂, _∙_, subst}
 use mathlib.Core.Bool.{Bool, true, false}
-use mathlib.Core.List.{List, [], _∷_, _++_, append-assoc, map}
+use mathlib.Core.List.{List, [], _∷_, _++_, map}
 use native.Mathlib.Omega.{arith}
 use native.Mathlib.Numerals.{add-one}
-use lib.ListN.{length, getD, take, drop, drop-of-length-le, length-append, length-map, length-drop}
+use lib.ListN.{length, getD, take, drop, drop-of-length-le, length-append, length-drop}
 use lib.Seq.{drop-cons, drop-drop, take-add, length-take-le}
 use Rattle.rules.specs.Lists.{keep, flat}
 use Rattle.rules.specs.Rules.{Rule}
+use Rattle.rules.proofs.Lists.{all-at}
 use Rattle.stores.specs.RuleStore.{ruleWords}
 use Rattle.output.specs.Emitted.{Emitted, InRange}
 use Rattle.output.proofs.Emitting.{Ahead, Emitting, start, then, renamed, turn, finish, range-here}
@@ -18,8 +19,11 @@ use Rattle.canonical.specs.declared.comparison.Comparison.{Comparison}
 use Rattle.canonical.specs.declared.comparison.Comparison.the-variants.{Less, Same, More}
 use Rattle.rule_sort.specs.declared.comparing.Parts.{Parts}
 use Rattle.rule_sort.specs.RuleOrder.{entryRule, partsRule, PartsOf}
+use Rattle.digit_sort.specs.Digits.{keyOf}
+use Rattle.rule_keys.specs.RuleKey.{Keyed}
+use Rattle.entry_sort.specs.EqualKeys.{KeyedEntries}
+use Rattle.entry_sort.proofs.EqualRuns.{keys-tell}
 use Rattle.canonical_store.specs.KeptRules.{keptRules, kept?, differs, WrittenRules}
-use Rattle.canonical_store.specs.declared.written_rules.Written.{Written}
 
 -- one entry
 
@@ -51,13 +55,30 @@ module _ (ws order : List ℕ) (i : ℕ) where
       let l : length order ≤ suc i = omega arith in
       sym (ap (kept? ws) (drop-cons order i 0 h ∙ ap (λ (r : List ℕ). getD order i 0 ∷ r) (drop-of-length-le order l)))
 
-  pub told : i + 1 < length order → {c : Comparison} → c ≡ compareRules (entryRule ws (getD order i 0)) (entryRule ws (getD order (i + 1) 0)) → (d : Comparison) → c ≡ d → differs d ≡ kept? ws (drop i order)
-  unfolding kept?
-  told h e d f =
-      let l : i < length order = omega arith in
-      let k : suc i < length order = omega arith in
-      let two : drop i order ≡ getD order i 0 ∷ getD order (suc i) 0 ∷ drop (suc (suc i)) order = drop-cons order i 0 l ∙ ap (λ (r : List ℕ). getD order i 0 ∷ r) (drop-cons order (suc i) 0 k) in
-      ap differs (sym f ∙ e ∙ ap (λ (n : ℕ). compareRules (entryRule ws (getD order i 0)) (entryRule ws (getD order n 0))) (add-one i)) ∙ sym (ap (kept? ws) two)
+  module _ (h : i + 1 < length order) where
+    two-left : drop i order ≡ getD order i 0 ∷ getD order (i + 1) 0 ∷ drop (suc (suc i)) order
+    two-left =
+        let l : i < length order = omega arith in
+        let k : suc i < length order = omega arith in
+        drop-cons order i 0 l
+        ∙ ap (λ (r : List ℕ). getD order i 0 ∷ r) (drop-cons order (suc i) 0 k)
+        ∙ ap (λ (n : ℕ). getD order i 0 ∷ getD order n 0 ∷ drop (suc (suc i)) order) (sym (add-one i))
+
+    pub told : {c : Comparison} → c ≡ compareRules (entryRule ws (getD order i 0)) (entryRule ws (getD order (i + 1) 0)) → (d : Comparison) → c ≡ d → differs d ≡ kept? ws (drop i order)
+    unfolding kept?
+    told e d f = ap differs (sym f ∙ e) ∙ sym (ap (kept? ws) two-left)
+
+    pub keys-differ : KeyedEntries ws order → (keyOf (getD order i 0) ≡ keyOf (getD order (i + 1) 0) → ⊥) → true ≡ kept? ws (drop i order)
+    unfolding kept?
+    keys-differ k f = sym (apart (compareRules (entryRule ws (getD order i 0)) (entryRule ws (getD order (i + 1) 0))) (keys-tell (at i (omega arith)) (at (i + 1) h) f)) ∙ sym (ap (kept? ws) two-left)
+      where
+        at : (j : ℕ) → j < length order → Keyed (k .digits) ws (getD order j 0)
+        at j l = all-at (Keyed (k .digits) ws) 0 order (k .all) j l
+
+        apart : (c : Comparison) → (c ≡ Same → ⊥) → differs c ≡ true
+        apart Less g = refl
+        apart Same g = absurd (g refl)
+        apart More g = refl
 
 -- the words of one rule: its counts and its lists
 pub rule-ahead : {ws : List ℕ} {r : Rule ℕ} {p : Parts} → PartsOf ws r p → Ahead (ruleWords r) (p .heads ∷ p .bodies ∷ p .nots ∷ []) (take (p .at + p .heads + p .bodies + p .nots - p .at) (drop (p .at) ws))

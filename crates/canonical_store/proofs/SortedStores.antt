@@ -1,5 +1,5 @@
 -- A store whose lists are sorted, with its rules in order, has the words of the canonical store.
-use Prim.Native.Nat.{ℕ, _+_, _-_, _^_, _≤_, _<_}
+use Prim.Native.Nat.{ℕ, _+_, _-_, _≤_}
 use mathlib.Core.Path.{_≡_, refl, sym, ap, ap₂, _∙_, subst}
 use mathlib.Core.List.{List, [], _∷_, _++_, append-nil, append-assoc, map}
 use native.Mathlib.Omega.{arith}
@@ -13,8 +13,8 @@ use Rattle.kinds.specs.declared.limits.Kind.the-variants.{Plain}
 use Rattle.rules.specs.Lists.{All, sum, flat}
 use Rattle.rules.specs.Rules.{Rule, occurrences}
 use Rattle.rules.proofs.Lists.{part-rest}
-use Rattle.stores.specs.Program.{Program, ProgramForm, RuleForm}
-use Rattle.stores.specs.RuleStore.{kindWord, ruleWords, encode, StoreOf, decode, kindOf, wordCount, places, ruleAt, rulesFrom}
+use Rattle.stores.specs.Program.{Program, RuleForm}
+use Rattle.stores.specs.RuleStore.{kindWord, ruleWords, encode, StoreOf, decode, wordCount, ruleAt, rulesFrom}
 use Rattle.stores.specs.StoredRules.{StoredRules}
 use Rattle.stores.proofs.RuleTests.{rule-front, past-front}
 use Rattle.stores.proofs.RuleStores.{words-count, words-fit, only-decoded, rules-front}
@@ -24,10 +24,10 @@ use Rattle.canonical.specs.Order.{once, ordered}
 use Rattle.canonical.specs.Canonical.{compareRules, tidy, canonical}
 use Rattle.canonical.specs.CanonicalProgram.{tidyProgram, canonicalProgram}
 use Rattle.canonical.proofs.CanonicalForm.{tidy-program-form, canonical-form}
-use Rattle.rule_sort.specs.RuleOrder.{entryRule}
-use Rattle.tidying.specs.TidyWords.{ListedRule, ListedRules, tidyWords}
+use Rattle.tidying.specs.TidyWords.{ListedRules, tidyWords}
 use Rattle.output.specs.Emitted.{Emitted, InRange}
 use Rattle.output.proofs.Emitting.{renamed, same-length}
+use Rattle.entry_sort.specs.EqualKeys.{KeyedEntries, InRuleOrder}
 use Rattle.canonical_store.specs.KeptRules.{keptRules, keptWords, classCount, Header, SortedStore}
 
 -- rules in front of other words
@@ -134,31 +134,32 @@ module _ {ws : List ℕ} {p : Program} (s : StoreOf ws p) {start count : ℕ} (e
   as-many = f ∙ sym (length-map (p .rules) tidy)
 
   -- what `sort_rules` requires
-  pub stored : StoredRules (getD ws 1 0) count (drop start words) × (length words ≤ 65536) × (count ≤ 65536)
+  pub stored : StoredRules (getD ws 1 0) count (drop start words) × (length words ≤ 65536) × (count ≤ 65535)
   stored = (
     subst (StoredRules (getD ws 1 0) count) (ap (λ (n : ℕ). drop n words) (sym (same-start ∙ ap (λ (n : ℕ). 4 + n) (class-count t)))) (rw (atoms-at s, as-many) (stored-rules t)),
     let k = short t in omega arith,
     let k = few-rules t in let m = as-many in omega arith,
   )
 
-  pub in-order : (order : List ℕ) → length order ≡ count → once compareRules (map (entryRule words) order) ≡ ordered compareRules (rulesFrom count (drop start words)) → SortedStore p words order
+  pub in-order : (order : List ℕ) → length order ≡ count → InRuleOrder words (rulesFrom count (drop start words)) order → SortedStore p words order
   unfolding keptRules keptWords canonicalProgram canonical encode
   in-order order l h =
       let rs = map tidy (p .rules) in
       let rules : keptRules words order ≡ ordered compareRules rs =
-      h ∙ ap (ordered compareRules) (ap₂ rulesFrom as-many (ap (λ (k : ℕ). drop k words) same-start ∙ rules-from t ∙ sym (append-nil (flat ruleWords rs))) ∙ rules-front rs []) in
+      h .rules ∙ ap (ordered compareRules) (ap₂ rulesFrom as-many (ap (λ (k : ℕ). drop k words) same-start ∙ rules-from t ∙ sym (append-nil (flat ruleWords rs))) ∙ rules-front rs []) in
       let word : (k : ℕ) → getD words k 0 ≡ getD (encode (tidyProgram p)) k 0 = λ k. ap (λ (u : List ℕ). getD u k 0) (sym (t .words)) in
       let classes : take (classCount words) (drop 4 words) ≡ p .words =
       ap (λ (u : List ℕ). take (classCount words) (drop 4 u)) (sym (t .words)) ∙ take-at (p .words) (flat ruleWords rs) (classCount words) (words-length t) in
       record {
         header = header t;
+        keyed = h .keyed;
         few = let k = few-rules t in let m = as-many in omega arith;
         words = λ i. word 0 i ∷ word 1 i ∷ word 2 i ∷ length (rules i) ∷ (classes i ++ flat ruleWords (rules i));
       }
 
 -- what `emit_store` requires
-pub sorted-ready : {ws : List ℕ} {p : Program} → StoreOf ws p → {now order : List ℕ} → SortedStore p now order → Header now × (length order ≤ 65535) × InRange 0 (keptWords now order)
-sorted-ready {ws} {p} s {now} {order} t = (t .header, t .few, record { below = omega (arith, ap length (t .words), words-fit (canonicalProgram p) (canonical-form p (s .form))) })
+pub sorted-ready : {ws : List ℕ} {p : Program} → StoreOf ws p → {now order : List ℕ} → SortedStore p now order → Header now × KeyedEntries now order × (length order ≤ 65535) × InRange 0 (keptWords now order)
+sorted-ready {ws} {p} s {now} {order} t = (t .header, t .keyed, t .few, record { below = omega (arith, ap length (t .words), words-fit (canonicalProgram p) (canonical-form p (s .form))) })
 
 pub scratch-room : (n : ℕ) → n ≤ length {A = ℕ} (replicate n 0)
 scratch-room n = omega (arith, length-replicate {A = ℕ} n 0)

@@ -15,6 +15,7 @@ use Rattle.canonical.specs.CanonicalProgram.{canonicalProgram}
 use Rattle.canonical.specs.declared.comparison.Comparison.{Comparison}
 use Rattle.canonical.specs.declared.comparison.Comparison.the-variants.{Less, Same, More}
 use Rattle.rule_sort.specs.RuleOrder.{entryRule}
+use Rattle.entry_sort.specs.EqualKeys.{KeyedEntries}
 use Rattle.canonical_store.specs.declared.written_rules.Written.{Written}
 
 unfoldable pub keptRules : List ℕ → List ℕ → List (Rule ℕ)
@@ -50,5 +51,6 @@ pub record Header (ws : List ℕ) : Type 0 where
 
 pub record SortedStore (p : Program) (ws order : List ℕ) : Type 0 where
   pub header : Header ws
+  pub keyed : KeyedEntries ws order
   pub few : length order ≤ 65535
   pub words : keptWords ws order ≡ encode (canonicalProgram p)

@@ -16,11 +16,12 @@ ghost use Rattle.kinds.specs.declared.limits.Kind.the-variants.{Plain as PlainK
 ghost use Rattle.output.specs.Emitted.{Emitted, InRange};
 ghost use Rattle.stores.specs.RuleStore.{StoreOf, decode, encode};
 ghost use Rattle.canonical.specs.CanonicalProgram.{canonicalProgram};
+ghost use Rattle.entry_sort.specs.EqualKeys.{KeyedEntries};
 ghost use Rattle.canonical_store.specs.KeptRules.{Header, keptWords};
 
 // The header and the class words of `words`, and the rules of the entries, each once.
 fn emit_store(words: &[u16], order: &[u64], out: &mut [u16]) -> usize
-    requires { ⌜ Header (now words) × (length (now order) ≤ 65535) × InRange 0 (keptWords (now words) (now order)) ⌝ }
+    requires { ⌜ Header (now words) × KeyedEntries (now words) (now order) × (length (now order) ≤ 65535) × InRange 0 (keptWords (now words) (now order)) ⌝ }
     ensures { λ r. ⌜ Emitted (now (out .entry)) 0 (keptWords (now (words .entry)) (now (order .entry))) (now (out .exit)) r ⌝ }
 {
     let start = rules_start(words);

@@ -1,14 +1,13 @@
 // The lists of a store's rules sorted, and the rules put in order.
-use rule_sort::sorting::sort_rules;
+use entry_sort::sort_rules;
 use tidying::rule_lists::tidy_rules;
 ghost use mathlib.Core.Path.{_≡_};
 ghost use Prim.Native.Nat.{_+_, _≤_};
 ghost use lib.ListN.{length, getD};
 ghost use Rattle.kinds.specs.Limits.{occurrenceLimit};
 ghost use Rattle.kinds.specs.declared.limits.Kind.the-variants.{Plain};
-ghost use Rattle.stores.specs.RuleStore.{StoreOf, decode, encode, kindOf, wordCount};
-ghost use Rattle.canonical.specs.CanonicalProgram.{canonicalProgram};
-ghost use Rattle.canonical_store.specs.KeptRules.{Header, SortedStore};
+ghost use Rattle.stores.specs.RuleStore.{StoreOf, decode, kindOf, wordCount};
+ghost use Rattle.canonical_store.specs.KeptRules.{SortedStore};
 
 // The place of the first rule.
 pub fn rules_start(words: &[u16]) -> usize

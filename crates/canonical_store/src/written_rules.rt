@@ -1,5 +1,6 @@
 // The rules of sorted entries, one of equal ones.
 use canonical::comparison::Comparison;
+use entry_sort::equal_keys::key_of;
 use output::words::emit;
 use rule_sort::comparing::compare_entries;
 use rule_sort::comparing::parts_of;
@@ -10,6 +11,7 @@ ghost use Rattle.rules.specs.Lists.{flat};
 ghost use Rattle.stores.specs.RuleStore.{ruleWords};
 ghost use Rattle.output.specs.Emitted.{Emitted, InRange};
 ghost use Rattle.rule_sort.specs.RuleOrder.{entryRule};
+ghost use Rattle.entry_sort.specs.EqualKeys.{KeyedEntries};
 ghost use Rattle.canonical_store.specs.KeptRules.{kept?, keptRules, WrittenRules};
 
 // Where the words of the rules end, and how many rules these are.
@@ -20,14 +22,19 @@ pub struct Written {
 
 // Whether the next entry has another rule than entry i.
 fn kept(words: &[u16], order: &[u64], i: usize) -> bool
-    requires { ⌜ i < length (now order) ⌝ }
+    requires { ⌜ KeyedEntries (now words) (now order) × (i < length (now order)) ⌝ }
     ensures { λ r. ⌜ r ≡ kept? (now (words .entry)) (drop i (now (order .entry))) ⌝ }
 {
     let next = i + 1;
     if order.len() <= next {
         return true;
     }
-    let found = compare_entries(words, order[i], order[next]);
+    let x = order[i];
+    let y = order[next];
+    if key_of(x) != key_of(y) {
+        return true;
+    }
+    let found = compare_entries(words, x, y);
     match found {
         Comparison::Less => true,
         Comparison::Same => false,
@@ -48,7 +55,7 @@ fn emit_rule(words: &[u16], entry: u64, out: &mut [u16], at: usize) -> usize
 }
 
 pub fn emit_rules(words: &[u16], order: &[u64], out: &mut [u16], at: usize) -> Written
-    requires { ⌜ (length (now words) ≤ 65535) × InRange at (flat ruleWords (keptRules (now words) (now order))) ⌝ }
+    requires { ⌜ KeyedEntries (now words) (now order) × (length (now words) ≤ 65535) × InRange at (flat ruleWords (keptRules (now words) (now order))) ⌝ }
     ensures { λ r. ⌜ WrittenRules (now (out .entry)) at (keptRules (now (words .entry)) (now (order .entry))) (now (out .exit)) r ⌝ }
 {
     let mut next = at;

@@ -9,7 +9,7 @@ rules-start-requires : tie.Need-rules-start-requires
 rules-start-requires c κs = search needs
 
 emit-rules-requires : tie.Need-emit-rules-requires
-emit-rules-requires c κs = (search needs, rules-range _ _ (c .before .before .before .before .before .pre .0) (c .before .rules-start .ensures) (c .before .before .before .before .before .pre .2))
+emit-rules-requires c κs = (c .before .before .before .before .before .pre .1, search needs, rules-range _ _ (c .before .before .before .before .before .pre .0) (c .before .rules-start .ensures) (c .before .before .before .before .before .pre .3))
 
 shared-slice-read-t11 : tie.Need-shared-slice-read-t11
 shared-slice-read-t11 c = search needs
@@ -45,7 +45,7 @@ same-length : tie.Need-same-length
 same-length c = search needs
 
 returns : tie.Need-returns
-returns c = front-written _ _ (c .before .before .before .before .before .before .before .before .before .before .before .before .before .before .before .before .before .before .before .before .before .before .pre .0) (c .before .before .before .before .before .before .before .before .before .before .before .before .before .before .before .before .before .before .rules-start .ensures) (c .before .before .before .before .before .before .before .before .before .before .before .before .before .before .before .before .before .before .before .before .before .before .pre .2) (c .before .before .before .before .before .before .before .before .before .before .before .before .before .before .before .before .emit-rules .ensures) (c .before .before .before .before .before .before .before .emit .ensures) (c .before .before .emit2 .ensures)
+returns c = front-written _ _ (c .before .before .before .before .before .before .before .before .before .before .before .before .before .before .before .before .before .before .before .before .before .before .pre .0) (c .before .before .before .before .before .before .before .before .before .before .before .before .before .before .before .before .before .before .rules-start .ensures) (c .before .before .before .before .before .before .before .before .before .before .before .before .before .before .before .before .before .before .before .before .before .before .pre .3) (c .before .before .before .before .before .before .before .before .before .before .before .before .before .before .before .before .emit-rules .ensures) (c .before .before .before .before .before .before .before .emit .ensures) (c .before .before .emit2 .ensures)
 
 pub emit-store-spec : {M : Type 1} → statement M
 emit-store-spec =

@@ -1,5 +1,6 @@
 use Prim.Native.Nat.{_-_, _≤_}
 use lib.ListN.{length}
+use Rattle.entry_sort.specs.EqualKeys.{KeyedEntries}
 use Rattle.output.proofs.Emitting.{length-kept}
 use Rattle.canonical_store.proofs.KeptLoop.{Keeping, begins, range, keeps, skips, counted, ended}
 use borrow.Author.Needs.{needs}
@@ -8,16 +9,16 @@ use Rattle.canonical_store.proofs.written_rules.emit_rules.Statement.{s
 use Rattle.canonical_store.proofs.written_rules.emit_rules.Tie as tie
 
 abbrev Inv-loop : tie.InvT-loop
-Inv-loop words order out₀ at next₀ rules₀ i₀ out next rules i = Keeping words order out₀ at out next rules i × (length words ≤ 65535)
+Inv-loop words order out₀ at next₀ rules₀ i₀ out next rules i = Keeping words order out₀ at out next rules i × (length words ≤ 65535) × KeyedEntries words order
 
 abbrev μ-loop : tie.MeasureT-loop
 μ-loop words order out₀ at next₀ rules₀ i₀ out next rules i = length order - i
 
 loop-holds : tie.Need-loop-holds Inv-loop μ-loop
-loop-holds c = (begins _ _ _ _ (c .before .before .before .pre .1), c .before .before .before .pre .0)
+loop-holds c = (begins _ _ _ _ (c .before .before .before .pre .2), c .before .before .before .pre .1, c .before .before .before .pre .0)
 
 kept-requires : tie.Need-kept-requires Inv-loop μ-loop
-kept-requires c κs = search needs
+kept-requires c κs = (c .before .loop .inv .2, search needs)
 
 mul-emit-rule : tie.Need-mul-emit-rule Inv-loop μ-loop
 mul-emit-rule c = search needs
@@ -38,7 +39,7 @@ loop-less : tie.Need-loop-less Inv-loop μ-loop
 loop-less c = search needs
 
 loop-again : tie.Need-loop-again Inv-loop μ-loop
-loop-again c = (keeps (c .before .before .before .before .before .before .before .before .loop .inv .0) (c .before .before .before .before .before .before .before .loop-test .taken) (c .before .before .before .before .before .before .kept .ensures) (c .before .before .before .before .before .if1 .taken) (c .before .before .emit-rule .ensures), search needs)
+loop-again c = (keeps (c .before .before .before .before .before .before .before .before .loop .inv .0) (c .before .before .before .before .before .before .before .loop-test .taken) (c .before .before .before .before .before .before .kept .ensures) (c .before .before .before .before .before .if1 .taken) (c .before .before .emit-rule .ensures), search needs, c .before .before .before .before .before .before .before .before .loop .inv .2)
 
 add-i-2 : tie.Need-add-i-2 Inv-loop μ-loop
 add-i-2 c = search needs
@@ -47,7 +48,7 @@ loop-less-2 : tie.Need-loop-less-2 Inv-loop μ-loop
 loop-less-2 c = search needs
 
 loop-again-2 : tie.Need-loop-again-2 Inv-loop μ-loop
-loop-again-2 c = (skips (c .before .before .before .loop .inv .0) (c .before .before .loop-test .taken) (c .before .kept .ensures) (c .if1 .left), search needs)
+loop-again-2 c = (skips (c .before .before .before .loop .inv .0) (c .before .before .loop-test .taken) (c .before .kept .ensures) (c .if1 .left), search needs, c .before .before .before .loop .inv .2)
 
 same-length : tie.Need-same-length Inv-loop μ-loop
 same-length c = length-kept (c .before .loop .inv .0 .so)

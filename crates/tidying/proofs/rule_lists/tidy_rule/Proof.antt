@@ -1,11 +1,8 @@
-use Rattle.tidying.proofs.ListParts.{part-inside, head-part, body-part, nots-part, head-ready, body-ready, nots-ready, all-tidy}
+use Rattle.tidying.proofs.ListParts.{head-ready, body-ready, nots-ready, all-tidy}
 use native.Mathlib.Omega.{arith}
 use borrow.Author.Needs.{needs}
 use Rattle.tidying.proofs.rule_lists.tidy_rule.Statement.{statement}
 use Rattle.tidying.proofs.rule_lists.tidy_rule.Tie as tie
-use Rattle.tidying.proofs.rule_lists.tidy_rule.Reads as reads
-use Rattle.tidying.proofs.rule_lists.tidy_rule.Lts as lts
-use Rattle.tidying.proofs.atom_list.tidy_list.Reads as tidy-list-reads
 
 slice-read-body : tie.Need-slice-read-body
 slice-read-body c = search needs

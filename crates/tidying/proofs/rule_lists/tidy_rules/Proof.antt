@@ -8,10 +8,6 @@ use borrow.Author.Needs.{needs}
 use native.Mathlib.Omega.{arith}
 use Rattle.tidying.proofs.rule_lists.tidy_rules.Statement.{statement}
 use Rattle.tidying.proofs.rule_lists.tidy_rules.Tie as tie
-use Rattle.tidying.proofs.rule_lists.tidy_rules.Reads as reads
-use Rattle.tidying.proofs.rule_lists.tidy_rules.Lts as lts
-use Rattle.stores.proofs.rule_words.rule_size.Reads as rule-size-reads
-use Rattle.tidying.proofs.rule_lists.tidy_rule.Reads as tidy-rule-reads
 
 abbrev Inv-loop : tie.InvT-loop
 Inv-loop words₀ count scratch₀ from₀ i₀ words scratch from i = Tidying words₀ count words from i × (occurrenceLimit Plain ≤ length scratch) × (length scratch ≡ length scratch₀)

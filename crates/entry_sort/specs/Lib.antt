@@ -1,0 +1,2 @@
+-- Entries sorted by their keys, and runs of equal ones.
+pub mod EqualKeys

@@ -1,0 +1,2 @@
+-- The key of a rule, and entries by it.
+pub mod RuleKey
