@@ -20,7 +20,7 @@ use Rattle.stores.proofs.RuleTests.{rule-front, past-front}
 use Rattle.stores.proofs.RuleStores.{words-count, words-fit, only-decoded, rules-front}
 use Rattle.stores.proofs.RulePlace.{limit-small, rules-small}
 use Rattle.stores.proofs.StoredRules.{rule-part, stored-rules}
-use Rattle.canonical.specs.Order.{once, ordered}
+use Rattle.canonical.specs.Order.{ordered}
 use Rattle.canonical.specs.Canonical.{compareRules, tidy, canonical}
 use Rattle.canonical.specs.CanonicalProgram.{tidyProgram, canonicalProgram}
 use Rattle.canonical.proofs.CanonicalForm.{tidy-program-form, canonical-form}

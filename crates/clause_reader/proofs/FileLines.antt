@@ -1,5 +1,5 @@
 -- What a line of a clause file gives: its end, a comment, a blank line, the header.
-use Prim.Native.Nat.{ℕ, zero, suc, _+_, _-_, _≤_, _<_, zero-le}
+use Prim.Native.Nat.{ℕ, suc, _+_, _-_, _≤_, _<_, zero-le}
 use native.Mathlib.Omega.{arith}
 use mathlib.Core.Path.{_≡_, refl, sym, ap, ap₂, _∙_, subst}
 use mathlib.Core.Bool.{true, false}
@@ -9,7 +9,7 @@ use lib.ListN.{length, getD, drop, drop-of-length-le}
 use lib.Seq.{drop-cons}
 use borrow.Author.Tests.{eq-eqb, ne-eqb}
 use Rattle.kinds.specs.Limits.{atomLimit, ruleLimit}
-use Rattle.kinds.specs.Words.{byte, line-end}
+use Rattle.kinds.specs.Words.{byte}
 use Rattle.kinds.specs.declared.limits.Kind.the-variants.{Preference}
 use Rattle.kinds.specs.declared.refusals.Refusal.the-variants.{BrokenClauses, Limit}
 use Rattle.clauses.specs.Items.{items, itemsFrom, comment?}

@@ -23,7 +23,7 @@ use Rattle.stores.specs.RuleStore.{ruleWords, wordCount}
 use Rattle.stores.proofs.RuleStores.{rules-length}
 use Rattle.gathering.specs.declared.gathered.Gathered.{Gathered}
 use Rattle.gathering.specs.declared.gathered.Line.{Line}
-use Rattle.gathering.specs.declared.gathered.Line.the-variants.{Next, Fault}
+use Rattle.gathering.specs.declared.gathered.Line.the-variants.{Next}
 use Rattle.numbering.specs.declared.numbers.RuleCounts.{RuleCounts}
 use Rattle.numbering.specs.declared.numbers.RuleNumbers.{RuleNumbers}
 use Rattle.numbering.specs.declared.numbers.RuleNumbers.the-variants as Lists

@@ -1,5 +1,5 @@
 -- Brackets, and the word behind one, by their places.
-use Prim.Native.Nat.{ℕ, zero, suc, _+_, _-_, _<_, _≤_}
+use Prim.Native.Nat.{ℕ, suc, _+_, _-_, _<_, _≤_}
 use native.Mathlib.Numerals.{add-one}
 use native.Mathlib.Omega.{arith}
 use mathlib.Core.Path.{_≡_, refl, sym, ap, ap₂, _∙_, subst}
@@ -7,7 +7,7 @@ use mathlib.Core.List.{List, [], _∷_}
 use mathlib.Core.Bool.{Bool, true, false, cond, not, _||_}
 use lib.Dec.{T, eqb}
 use lib.ListN.{length, getD, take, drop, length-drop, drop-of-length-le}
-use lib.Seq.{drop-cons, drop-drop, length-take-le, take-all}
+use lib.Seq.{drop-cons, drop-drop, length-take-le}
 use borrow.Author.Tests.{not-true, not-false}
 use Rattle.kinds.specs.Words.{space, open-bracket, close-bracket}
 use Rattle.rules.specs.Lists.{empty?}
@@ -17,8 +17,8 @@ use Rattle.name_store.proofs.NameStores.{same-law}
 use Rattle.rules.proofs.Booleans.{is-true}
 use Rattle.lines.specs.declared.scan.Item.the-variants.{At, Stop}
 use Rattle.lines.specs.declared.scan.Place.the-variants as Place
-use Rattle.lines.specs.Tokens.{Token, opening, closing, word, ends?, delimiter?, run, tokens, tokensFrom}
-use Rattle.lines.specs.Forms.{Opened, opened, unopened, openedBy, openedOf}
+use Rattle.lines.specs.Tokens.{word, ends?, delimiter?, run, tokens, tokensFrom}
+use Rattle.lines.specs.Forms.{unopened, openedBy, openedOf}
 use Rattle.lines.specs.Shapes.{begins, gap, wordBehind, itemOf, closes?, opensWith, Onward, ClosedIs, OpenedIs}
 use Rattle.lines.proofs.Scanning.{run-goes-on, run-ends, run-out, run-le, gap-le}
 use Rattle.lines.proofs.TokenPlaces.{tokens-gap, past-gap, First, is-end, is-space, is-open, is-close, is-other, first-of, end-tokens, open-tokens, close-tokens, word-tokens}

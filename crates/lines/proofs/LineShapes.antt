@@ -4,23 +4,20 @@ use native.Mathlib.Omega.{arith}
 use mathlib.Core.Path.{_≡_, refl, sym, ap, _∙_, subst}
 use mathlib.Core.List.{List, [], _∷_}
 use mathlib.Core.Bool.{Bool, true, false, cond, not, _||_}
-use lib.Dec.{T}
 use lib.ListN.{length, drop}
 use borrow.Author.Tests.{not-true, not-false}
 use Rattle.kinds.specs.Words.{atomsWord, minWord, varyWord, fixWord, ruleWord, headWord, bodyWord, notWord}
 use Rattle.kinds.specs.declared.limits.Kind.{Kind}
-use Rattle.rules.specs.Lists.{some, empty?}
+use Rattle.rules.specs.Lists.{empty?}
 use Rattle.name_store.specs.NameStore.{sameBytes}
 use Rattle.lines.specs.declared.scan.Place.{Place}
 use Rattle.lines.specs.declared.scan.Place.the-variants as Place
 use Rattle.lines.specs.declared.forms.Keyword.{Keyword}
 use Rattle.lines.specs.declared.forms.Keyword.the-variants as Key
 use Rattle.lines.specs.declared.forms.Shape.{Shape}
-use Rattle.lines.specs.declared.forms.Shape.the-variants as Line
 use Rattle.lines.specs.Lines.{ended?}
 use Rattle.lines.specs.Tokens.{Token, opening, closing, word, run, tokens, items}
 use Rattle.lines.specs.Forms.{Word, wordBytes, atoms, min, vary, fix, LineForm, declares, rules, blank, broken, Opened, opened, unopened, openedOf, Split, split, none, splitNames, splitList, onSplit, lastly, closedLastly, declaredForm, ruleForm, openedForm, tokenForm, typedForm, names?, named, formOf}
-use Rattle.lines.specs.Faults.{refusedName, anyOf}
 use Rattle.lines.specs.Shapes.{WholeWord, closes?, closesLast?, opensWith, ClosedSays, ClosedIs, OpenedSays, OpenedIs, Listed, ListedBehind, wordOf, Declared, Ruled, ShapeIs}
 
 -- no keyword has a delimiter

@@ -2,10 +2,9 @@
 use Prim.Native.Nat.{ℕ, _+_, _≤_, zero-le}
 use native.Mathlib.Nat.{add-zero}
 use native.Mathlib.Omega.{arith}
-use mathlib.Core.Path.{_≡_, refl, sym, ap, ap₂, _∙_, subst}
+use mathlib.Core.Path.{_≡_, refl, sym, ap, _∙_, subst}
 use mathlib.Core.List.{List, [], _∷_}
 use mathlib.Core.Bool.{Bool, true, false, not, cond, _&&_, _||_}
-use lib.Dec.{T}
 use lib.ListN.{length, drop}
 use Rattle.kinds.specs.declared.limits.Kind.{Kind}
 use Rattle.kinds.specs.declared.limits.Kind.the-variants.{Plain, Preference}
@@ -25,10 +24,10 @@ use Rattle.lines.specs.declared.forms.NameFit.the-variants as Fit
 use Rattle.lines.specs.declared.forms.Names.{Names}
 use Rattle.lines.specs.declared.forms.Names.the-variants as Found
 use Rattle.lines.specs.Tokens.{Token, opening, closing, word, tokens, leading, behind, items}
-use Rattle.lines.specs.Forms.{Opened, opened, unopened, openedOf, Split, split, none, closedBy, splitNames, onOpened, splitList, isName, names?}
+use Rattle.lines.specs.Forms.{Opened, opened, unopened, openedOf, split, none, closedBy, splitNames, onOpened, splitList, isName, names?}
 use Rattle.lines.specs.Faults.{refusedName}
-use Rattle.lines.specs.Shapes.{itemOf, closes?, opensWith, Onward, ClosedSays, ClosedIs, OpenedSays, OpenedIs, classFit, nameFit, Listed, NamesSay, NamesAre, ListedBehind, ListSays, ListIs}
-use Rattle.lines.proofs.TokenPlaces.{items-end, behind-end, item-fits, item-long, item, later, item-is, behind-is, item-length}
+use Rattle.lines.specs.Shapes.{itemOf, closes?, opensWith, ClosedSays, ClosedIs, OpenedSays, OpenedIs, classFit, nameFit, Listed, NamesSay, NamesAre, ListedBehind, ListSays, ListIs}
+use Rattle.lines.proofs.TokenPlaces.{items-end, behind-end, item-fits, item-long, item, later, item-is, behind-is}
 
 -- what a name is to a kind
 

@@ -1,23 +1,19 @@
 -- Brackets and words by their places.
-use Prim.Native.Nat.{ℕ, zero, suc, _+_, _-_, _<_, _≤_, zero-le}
-use native.Mathlib.Numerals.{add-one}
+use Prim.Native.Nat.{ℕ, zero, suc, _+_, _-_, _≤_, zero-le}
 use native.Mathlib.Omega.{arith}
 use mathlib.Core.Path.{_≡_, refl, sym, ap, ap₂, _∙_, subst}
 use mathlib.Core.List.{List, [], _∷_}
 use mathlib.Core.Bool.{Bool, true, false, cond, _||_}
 use lib.Dec.{T, eqb, eqb→eq}
-use lib.ListN.{length, getD, take, drop, length-drop, drop-of-length-le}
-use lib.Seq.{drop-cons, drop-drop, length-take-le}
-use borrow.Author.Tests.{eq-eqb, ne-eqb}
-use Rattle.kinds.specs.Words.{space, open-bracket, close-bracket, line-end, comment-mark}
-use Rattle.rules.specs.Lists.{empty?}
+use lib.ListN.{length, getD, take, drop, length-drop}
+use lib.Seq.{drop-drop, length-take-le}
+use borrow.Author.Tests.{eq-eqb}
+use Rattle.kinds.specs.Words.{space, open-bracket, close-bracket}
 use Rattle.rules.proofs.Lists.{part-sized}
 use Rattle.lines.specs.declared.scan.Item.{Item}
 use Rattle.lines.specs.declared.scan.Item.the-variants.{At, Stop}
-use Rattle.lines.specs.declared.scan.Place.{Place}
-use Rattle.lines.specs.declared.scan.Place.the-variants as Place
 use Rattle.lines.specs.Tokens.{Token, opening, closing, word, ends?, delimiter?, run, tokensFrom, tokens, leading, behind, items}
-use Rattle.lines.specs.Shapes.{gap, wordBehind, itemOf, closes?, Onward, ClosedSays, ClosedIs}
+use Rattle.lines.specs.Shapes.{gap, wordBehind, itemOf}
 use Rattle.lines.proofs.Scanning.{run-le, gap-le}
 
 tokens-skip : (k : ℕ) (s : List ℕ) → tokensFrom k s ≡ tokens (drop k s)

@@ -27,7 +27,7 @@ use Rattle.lines.specs.declared.forms.DeclaredShape.{DeclaredShape}
 use Rattle.lines.specs.declared.forms.Shape.{Shape}
 use Rattle.lines.specs.declared.forms.Shape.the-variants as Line
 use Rattle.lines.specs.Tokens.{Token, opening, closing, word, delimiter?, run, tokens, items}
-use Rattle.lines.specs.Forms.{Word, atoms, min, vary, fix, LineForm, declares, rules, blank, broken, Opened, opened, unopened, openedOf, Split, split, none, splitNames, splitList, names?}
+use Rattle.lines.specs.Forms.{Word, atoms, min, vary, fix, LineForm, declares, rules, blank, broken, Opened, opened, unopened, openedOf, split, splitNames, splitList, names?}
 use Rattle.lines.specs.Faults.{refusedName, anyOf}
 
 -- the list begins with the tag

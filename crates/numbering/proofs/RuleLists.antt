@@ -15,7 +15,7 @@ use Rattle.lines.specs.declared.scan.Place.the-variants as Place
 use Rattle.lines.specs.Lines.{ended?}
 use Rattle.lines.specs.Tokens.{Token, tokens, items}
 use Rattle.lines.specs.Forms.{Word, atoms, min, vary, fix, LineForm, declares, rules, broken, Opened, opened, unopened, openedOf, Split, split, none, splitNames, splitList, onSplit, lastly, closedLastly, declaredForm, ruleForm, openedForm, tokenForm, typedForm}
-use Rattle.lines.specs.Faults.{nameNumber, anyOf}
+use Rattle.lines.specs.Faults.{nameNumber}
 use Rattle.lines.specs.Shapes.{closesLast?, opensWith, OpenedSays, OpenedIs}
 use Rattle.lines.proofs.TokenPlaces.{items-few}
 use Rattle.lines.proofs.NameLists.{opened-list, unopened-list}
@@ -25,7 +25,7 @@ use Rattle.numbering.specs.declared.numbers.Numbers.the-variants as Answ
 use Rattle.numbering.specs.declared.numbers.RuleCounts.{RuleCounts}
 use Rattle.numbering.specs.declared.numbers.RuleNumbers.{RuleNumbers}
 use Rattle.numbering.specs.declared.numbers.RuleNumbers.the-variants as Lists
-use Rattle.numbering.specs.Numbers.{undeclared, Numbered, ListNumbered, NumbersSay, NumbersAre, RuleNumbered, ListsNumbered, NoRule, ListsSay, ListsAre, LineNumbered, RuleIs}
+use Rattle.numbering.specs.Numbers.{undeclared, ListNumbered, NumbersSay, NumbersAre, ListsNumbered, NoRule, ListsSay, ListsAre, RuleIs}
 
 -- the answer for one list
 module _ {names : List (List ℕ)} {s : List ℕ} {from stamp : ℕ} {before : List ℕ} {at : ℕ} {marks after : List ℕ} {r : Numbers} (h : NumbersAre names s from stamp before at marks after r) where

@@ -1,23 +1,22 @@
 -- The two programs: from what the lines of a text say to what is printed.
-use Prim.Native.Nat.{ℕ, _+_, _-_, _*_, _≤_, _<_}
+use Prim.Native.Nat.{ℕ, _-_, _*_, _≤_, _<_}
 use native.Mathlib.Omega.{arith}
 use mathlib.Core.Path.{_≡_, refl, sym, ap, ap₂, _∙_, subst}
 use mathlib.Core.Bool.{Bool, true, false, cond}
-use mathlib.Core.List.{List, _++_}
+use mathlib.Core.List.{List}
 use lib.Dec.{T, leb}
 use lib.ListN.{length, getD, take, drop, length-append}
 use borrow.Author.Tests.{le-leb, lt-leb, leb-true, leb-false, eq-eqb, ne-eqb}
 use Rattle.kinds.specs.Sizes.{longestName, longestEntry, storeWords, storeBytes}
-use Rattle.kinds.specs.Limits.{streamLimit, walkAtoms, atomLimit, ruleLimit, occurrenceLimit}
+use Rattle.kinds.specs.Limits.{streamLimit, walkAtoms, atomLimit}
 use Rattle.kinds.specs.declared.limits.Kind.{Kind}
 use Rattle.kinds.specs.declared.limits.Kind.the-variants.{Plain, Preference}
 use Rattle.kinds.specs.declared.refusals.Refusal.{Refusal}
 use Rattle.kinds.specs.declared.refusals.Refusal.the-variants.{TextTooLong, Output, RuleStore, TooManyAtoms}
-use Rattle.rules.specs.Lists.{flat, sum, over}
-use Rattle.rules.specs.Rules.{occurrences}
+use Rattle.rules.specs.Lists.{over}
 use Rattle.rules.proofs.Lists.{all-imp}
 use Rattle.stores.specs.Program.{Program, ProgramForm}
-use Rattle.stores.specs.RuleStore.{StoreOf, encode, decode, ruleWords, wordCount}
+use Rattle.stores.specs.RuleStore.{StoreOf, encode, decode}
 use Rattle.names.specs.Names.{allowed}
 use Rattle.name_store.specs.NameStore.{encodeNames, decodeNames, NamesForm, NamesOf}
 use Rattle.stores.proofs.RuleStores.{decode-encode, words-fit}

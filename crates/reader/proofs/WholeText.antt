@@ -24,7 +24,7 @@ use Rattle.gathering.specs.declared.gathered.Gathered.{Gathered}
 use Rattle.lines.specs.Lines.{lines}
 use Rattle.stores.specs.Program.{Program, ProgramForm}
 use Rattle.restriction.specs.Remaining.{remaining, remainingNames}
-use Rattle.lines.specs.Said.{accepted, refused, kindOf, start, readLines, typed, whatRemains, said, programOf}
+use Rattle.lines.specs.Said.{kindOf, start, readLines, typed, whatRemains, said, programOf}
 use Rattle.answers.specs.Reading.{readAnswer, readRules, readNames}
 use Rattle.gathering.specs.Gathered.{stateOf, Held, HeldIndex, HeldMarks}
 use Rattle.delivery.specs.Delivered.{Delivered}

@@ -1,5 +1,5 @@
 use Prim.Native.Nat.{_+_, _*_, _^_, _≤_, _<_}
-use mathlib.Core.Path.{refl, sym, _∙_}
+use mathlib.Core.Path.{refl, sym}
 use lib.ListN.{length, take}
 use native.Mathlib.Omega.{arith}
 use Rattle.gathering.proofs.HeldState.{held-small, known-starts, known-index, known-names}
