@@ -3,10 +3,9 @@ use Prim.Native.Nat.{ℕ, suc, _+_, _-_, _<_, _≤_, zero-le}
 use native.Mathlib.Numerals.{add-one}
 use native.Mathlib.Nat.{add-zero}
 use native.Mathlib.Omega.{arith}
-use native.Mathlib.Decide.{decLe}
 use mathlib.Core.Path.{_≡_, sym, ap, ap₂, _∙_}
 use mathlib.Core.List.{List}
-use mathlib.Core.Bool.{Bool, true, false, _&&_}
+use mathlib.Core.Bool.{true, false, _&&_}
 use lib.Dec.{eqb}
 use lib.ListN.{length, getD, take, drop, length-drop, length-take, drop-of-length-le}
 use lib.Seq.{drop-cons}
@@ -51,15 +50,3 @@ module _ {s : List ℕ} {at : ℕ} {tag : List ℕ} {i : ℕ} (m : Matching s at
 
     pub tag-again : getD s (at + i) 0 ≡ getD tag i 0 → Matching s at tag (i + 1)
     tag-again e = record { fits = m .fits; passed = omega arith; left = sym (rw (eq-eqb _ _ e) at tag-step) ∙ m .left }
-
--- a tag that stands there is inside the list
-pub tag-inside : (s : List ℕ) (at : ℕ) (tag : List ℕ) → at ≤ length s → {r : Bool} → r ≡ begins tag (drop at s) → r ≡ true → at + length tag ≤ length s
-tag-inside s at tag h {r} e d = go (decLe (at + length tag) (length s))
-  where
-    go : Dec (at + length tag ≤ length s) → at + length tag ≤ length s
-    go (yes k) = k
-    go (no k) =
-        absurd
-        (let f = tag-short s at tag h (omega arith) in
-        let z : true ≡ false = sym d ∙ e ∙ sym f in
-        let t : _≡_ {A = ℕ} 0 1 = cc in omega arith)

@@ -1,7 +1,8 @@
 // The words of a rule store.
+ghost use mathlib.Core.Path.{_≡_};
 ghost use mathlib.Core.List.{[], _∷_};
 ghost use Prim.Native.Nat.{_+_, _^_, _<_};
-ghost use lib.ListN.{replicate};
+ghost use lib.ListN.{length, replicate};
 ghost use Rattle.output.specs.Emitted.{Emitted, InRange};
 
 pub fn push(word: u16, out: &mut [u16], at: usize) -> usize
@@ -15,7 +16,8 @@ pub fn push(word: u16, out: &mut [u16], at: usize) -> usize
     at + 1
 }
 
-pub fn emit(words: &[u16], out: &mut [u16], at: usize) -> usize
+// Word by word, where the output has room for some.
+fn emit_each(words: &[u16], out: &mut [u16], at: usize) -> usize
     requires { ⌜ InRange at (now words) ⌝ }
     ensures { λ r. ⌜ Emitted (now (out .entry)) at (now (words .entry)) (now (out .exit)) r ⌝ }
 {
@@ -26,6 +28,33 @@ pub fn emit(words: &[u16], out: &mut [u16], at: usize) -> usize
         i += 1;
     }
     next
+}
+
+// To a part of the output that has the length of the words.
+fn copy(words: &[u16], part: &mut [u16])
+    requires { ⌜ length (now part) ≡ length (now words) ⌝ }
+    ensures { λ r. ⌜ now (part .exit) ≡ now (words .entry) ⌝ }
+{
+    let mut i: usize = 0;
+    while i < words.len() {
+        part[i] = words[i];
+        i += 1;
+    }
+}
+
+pub fn emit(words: &[u16], out: &mut [u16], at: usize) -> usize
+    requires { ⌜ InRange at (now words) ⌝ }
+    ensures { λ r. ⌜ Emitted (now (out .entry)) at (now (words .entry)) (now (out .exit)) r ⌝ }
+{
+    let end = at + words.len();
+    if end <= out.len() {
+        copy(words, &mut out[at..end]);
+        return end;
+    }
+    if out.len() <= at {
+        return end;
+    }
+    emit_each(words, out, at)
 }
 
 // A word so many times.

@@ -33,9 +33,6 @@ module _ {ws : List ℕ} {a e : ℕ} {front list rest : List ℕ} (p : Part ws a
   pub part-list : midOf a (e - a) ws ≡ list
   part-list = ap (take (e - a)) from-list ∙ take-at list rest (e - a) size
 
-  pub part-inside : e ≤ length ws
-  part-inside = omega (arith, ap length (p .is), length-append front (list ++ rest), length-append list rest, p .start, p .end)
-
   -- what `tidy_list` requires
   ready : Distinct list → length list ≤ occurrenceLimit Plain → {s : ℕ} → occurrenceLimit Plain ≤ s → Distinct (midOf a (e - a) ws) × (length (midOf a (e - a) ws) ≤ s) × (length (midOf a (e - a) ws) ≤ 65536)
   ready d l m = rw part-list (d, omega arith, omega arith)

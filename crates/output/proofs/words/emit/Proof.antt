@@ -1,55 +1,57 @@
-use Rattle.output.proofs.Emitting.{Emitting, start, turn, finish, range-here, length-kept, byte-next}
-use lib.ListN.{length, drop, drop-of-length-le}
-use Prim.Native.Nat.{_≤_, _-_}
+use Rattle.output.proofs.Emitting.{counted, copied}
 use borrow.Author.Needs.{needs}
 use Rattle.output.proofs.words.emit.Statement.{statement}
 use Rattle.output.proofs.words.emit.Tie as tie
 
-abbrev Inv-loop : tie.InvT-loop
-Inv-loop words out₀ at next₀ i₀ out next i = (i ≤ length words) × Emitting words out₀ at (drop i words) out next
+add-end : tie.Need-add-end
+add-end c = search needs
 
-abbrev μ-loop : tie.MeasureT-loop
-μ-loop words out₀ at next₀ i₀ out next i = length words - i
+mul-copy : tie.Need-mul-copy
+mul-copy c = search needs
 
-loop-holds : tie.Need-loop-holds Inv-loop μ-loop
-loop-holds c = (search needs, start (c .before .before .pre))
+sub-copy : tie.Need-sub-copy
+sub-copy c = search needs
 
-mul-push : tie.Need-mul-push Inv-loop μ-loop
-mul-push c = search needs
+part-copy-start : tie.Need-part-copy-start
+part-copy-start c = search needs
 
-shared-slice-read-push : tie.Need-shared-slice-read-push Inv-loop μ-loop
-shared-slice-read-push c = search needs
+part-copy-end : tie.Need-part-copy-end
+part-copy-end c = search needs
 
-push-requires : tie.Need-push-requires Inv-loop μ-loop
-push-requires c κs = range-here (c .before .before .before .loop .inv .1) (byte-next _ _ (c .before .before .loop-test .taken))
+copy-requires : tie.Need-copy-requires
+copy-requires c κs = search needs
 
-add-i : tie.Need-add-i Inv-loop μ-loop
-add-i c = search needs
+same-length : tie.Need-same-length
+same-length c = search needs
 
-loop-less : tie.Need-loop-less Inv-loop μ-loop
-loop-less c = search needs
+returns : tie.Need-returns
+returns c = copied (c .before .before .before .before .if1 .taken) (c .before .before .copy .ensures)
 
-loop-again : tie.Need-loop-again Inv-loop μ-loop
-loop-again c = (search needs, turn (c .before .before .before .before .before .before .loop .inv .1) (byte-next _ _ (c .before .before .before .before .before .loop-test .taken)) (c .before .before .push .ensures))
+returns-2 : tie.Need-returns-2
+returns-2 c = counted (c .if2 .taken)
 
-same-length : tie.Need-same-length Inv-loop μ-loop
-same-length c = length-kept (c .before .loop .inv .1)
+emit-each-requires : tie.Need-emit-each-requires
+emit-each-requires c κs = search needs
 
-returns : tie.Need-returns Inv-loop μ-loop
-returns c = finish (c .before .loop .inv .1) (drop-of-length-le (c .before .before .before .before .args .words .now) (c .loop-test .left))
+same-length-2 : tie.Need-same-length-2
+same-length-2 c = search needs
+
+returns-3 : tie.Need-returns-3
+returns-3 c = search needs
 
 pub emit-spec : {M : Type 1} → statement M
 emit-spec =
     tie.close
     (tie.spec
-    Inv-loop
-    μ-loop
-    loop-holds
-    mul-push
-    shared-slice-read-push
-    push-requires
-    add-i
-    loop-less
-    loop-again
+    add-end
+    mul-copy
+    sub-copy
+    part-copy-start
+    part-copy-end
+    copy-requires
     same-length
-    returns)
+    returns
+    returns-2
+    emit-each-requires
+    same-length-2
+    returns-3)
