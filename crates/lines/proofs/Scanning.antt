@@ -2,16 +2,16 @@
 use Prim.Native.Nat.{ℕ, zero, suc, _+_, _-_, _<_, _≤_, zero-le}
 use native.Mathlib.Numerals.{add-one}
 use native.Mathlib.Omega.{arith}
-use mathlib.Core.Path.{_≡_, refl}
+use mathlib.Core.Path.{_≡_, refl, sym, ap, subst}
 use mathlib.Core.List.{List, [], _∷_}
-use mathlib.Core.Bool.{Bool, true, false, cond}
+use mathlib.Core.Bool.{Bool, true, false, cond, _||_}
 use lib.Dec.{eqb}
 use lib.ListN.{length, getD, drop, drop-of-length-le}
 use lib.Seq.{drop-cons}
 use borrow.Author.Tests.{eq-eqb, ne-eqb}
-use Rattle.kinds.specs.Words.{space, line-end}
+use Rattle.kinds.specs.Words.{space, line-end, comment-mark}
 use Rattle.lines.specs.Lines.{lineLength, ended?}
-use Rattle.lines.specs.Tokens.{delimiter?, run}
+use Rattle.lines.specs.Tokens.{ends?, delimiter?, run}
 use Rattle.lines.specs.Shapes.{gap}
 
 -- a line
@@ -85,3 +85,11 @@ last-byte (b ∷ (c ∷ l)) (suc i) e = last-byte (c ∷ l) i (omega arith)
 pub empty-unended : (l : List ℕ) → length l ≡ 0 → false ≡ ended? l
 empty-unended [] e = refl
 empty-unended (b ∷ l) e = absurd (omega arith)
+
+-- a byte behind which nothing counts
+
+pub mark-ends : (b : ℕ) → b ≡ comment-mark → eqb b comment-mark ≡ ends? b
+mark-ends b e = subst (λ c. eqb c comment-mark ≡ ends? c) (sym e) refl
+
+pub others-end : (b : ℕ) → (b ≡ comment-mark → ⊥) → eqb b line-end ≡ ends? b
+others-end b n = sym (ap (λ (t : Bool). t || eqb b line-end) (ne-eqb b comment-mark n))

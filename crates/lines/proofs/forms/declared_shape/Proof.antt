@@ -1,3 +1,4 @@
+use native.Mathlib.Omega.{arith}
 use Rattle.lines.proofs.NameLists.{listed, not-listed}
 use Rattle.lines.proofs.LineShapes.{no-names, more-behind, declaring}
 use borrow.Author.Needs.{needs}
@@ -17,7 +18,7 @@ returns : tie.Need-returns
 returns c = no-names (c .before .before .before .before .args .kind) (c .before .before .before .before .args .line .now) (c .before .before .before .before .args .from) (c .before .before .before .before .args .word) (not-listed (c .before .before .names-at .ensures) (c .enum-told .given .1))
 
 nothing-at-requires : tie.Need-nothing-at-requires
-nothing-at-requires c κs = listed (c .before .before .before .names-at .ensures) (c .before .end .given .1) .inside
+nothing-at-requires c κs = omega (arith, listed (c .before .before .before .names-at .ensures) (c .before .end .given .1) .inside)
 
 returns-2 : tie.Need-returns-2
 returns-2 c = declaring (c .before .before .before .before .before .before .before .args .kind) (c .before .before .before .before .before .before .before .args .line .now) (c .before .before .before .before .before .before .before .args .from) (c .before .before .before .before .before .before .before .args .word) (listed (c .before .before .before .before .before .names-at .ensures) (c .before .before .before .end .given .1)) (c .before .nothing-at .ensures) (c .if1 .taken) (c .before .before .before .before .before .before .before .pre)
