@@ -13,7 +13,8 @@ use Rattle.rules.proofs.Lists.{all-imp, all-map}
 use Rattle.stores.specs.Program.{Program, ProgramForm, RuleForm, ListForm, NotForm}
 use Rattle.canonical.specs.Order.{numbers, place, insert, ordered, Ascending}
 use Rattle.canonical.specs.Canonical.{compareRules, tidy, canonical}
-use Rattle.canonical.specs.CanonicalProgram.{tidyProgram, canonicalProgram}
+use Rattle.canonical.specs.CanonicalProgram.{canonicalProgram}
+use Rattle.canonical.specs.TidyProgram.{tidyProgram}
 use Rattle.canonical.specs.declared.comparison.Comparison.{Comparison}
 use Rattle.canonical.specs.declared.comparison.Comparison.the-variants.{Less, Same, More}
 use Rattle.canonical.proofs.Orders.{less-number, number-order, rule-order}

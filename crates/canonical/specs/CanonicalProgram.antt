@@ -1,13 +1,9 @@
 -- The canonical program: the same declarations, canonical rules (document 02, W-205).
 use mathlib.Core.Path.{_≡_}
-use mathlib.Core.List.{List, map}
+use mathlib.Core.List.{List}
 use Prim.Native.Nat.{ℕ}
 use Rattle.stores.specs.Program.{Program}
-use Rattle.canonical.specs.Canonical.{tidy, canonical, SameRules}
-
--- the same rules, each list of them sorted
-abbrev pub tidyProgram : Program → Program
-tidyProgram p = record { kind = p .kind; atoms = p .atoms; classes = p .classes; words = p .words; rules = map tidy (p .rules) }
+use Rattle.canonical.specs.Canonical.{canonical, SameRules}
 
 unfoldable pub canonicalProgram : Program → Program
 canonicalProgram p = record { kind = p .kind; atoms = p .atoms; classes = p .classes; words = p .words; rules = canonical (p .rules) }

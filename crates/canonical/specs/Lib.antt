@@ -2,3 +2,4 @@
 pub mod Order
 pub mod Canonical
 pub mod CanonicalProgram
+pub mod TidyProgram

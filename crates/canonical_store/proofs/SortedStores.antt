@@ -22,7 +22,8 @@ use Rattle.stores.proofs.RulePlace.{limit-small, rules-small}
 use Rattle.stores.proofs.StoredRules.{rule-part, stored-rules}
 use Rattle.canonical.specs.Order.{ordered}
 use Rattle.canonical.specs.Canonical.{compareRules, tidy, canonical}
-use Rattle.canonical.specs.CanonicalProgram.{tidyProgram, canonicalProgram}
+use Rattle.canonical.specs.CanonicalProgram.{canonicalProgram}
+use Rattle.canonical.specs.TidyProgram.{tidyProgram}
 use Rattle.canonical.proofs.CanonicalForm.{tidy-program-form, canonical-form}
 use Rattle.tidying.specs.TidyWords.{ListedRules, tidyWords}
 use Rattle.output.specs.Emitted.{Emitted, InRange}

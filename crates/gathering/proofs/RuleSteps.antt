@@ -1,14 +1,12 @@
 -- The step that a rule's line makes, one law for each answer.
-use Prim.Native.Nat.{ℕ, suc, _+_, _*_, _≤_, _<_}
-use native.Mathlib.Nat.{add-zero}
+use Prim.Native.Nat.{ℕ, suc, _+_, _*_, _≤_}
 use native.Mathlib.Omega.{arith}
 use mathlib.Core.Path.{_≡_, refl, sym, ap, _∙_, subst}
 use mathlib.Core.Bool.{Bool, true, false, not, cond, _||_}
 use mathlib.Core.List.{List, [], _∷_, _++_, map, append-assoc}
-use mathlib.Core.Logic.{_≢_}
 use lib.Dec.{T}
-use lib.ListN.{length, set, length-append, length-map}
-use lib.Seq.{sets, length-sets, set-comm}
+use lib.ListN.{length, length-append, length-map}
+use lib.Seq.{sets, length-sets}
 use borrow.Author.Tests.{lt-ltb}
 use Rattle.kinds.specs.Sizes.{storeWords}
 use Rattle.kinds.specs.Limits.{atomLimit, ruleLimit, occurrenceLimit, within}
@@ -19,6 +17,7 @@ use Rattle.kinds.specs.declared.refusals.Refusal.the-variants.{BrokenForm, Name
 use Rattle.rules.specs.Lists.{All, some, empty?, sum, flat}
 use Rattle.rules.specs.Rules.{Rule, occurrences}
 use Rattle.names.specs.Names.{allowed}
+use Rattle.output.proofs.Emitting.{sets-front}
 use Rattle.stores.specs.RuleStore.{ruleWords, wordCount}
 use Rattle.stores.proofs.RuleStores.{rules-length}
 use Rattle.gathering.specs.declared.gathered.Gathered.{Gathered}
@@ -42,21 +41,6 @@ use Rattle.numbering.specs.Numbers.{undeclared, ruleNumbers, NoRule, LineNumber
 use Rattle.gathering.specs.Gathered.{stateOf, storedWords, Filled, Held, HeldIndex, HeldMarks, LineSays, LineIs, MarksSay, MarksAre, filledCount, firstLine, ruleCounts, withRule, countsIf, keptRule, Kept, refusalOf, blankLine}
 use Rattle.gathering.proofs.DeclaredNames.{named-known, named-rules}
 use Rattle.gathering.proofs.HeldState.{fill-more, atoms-is, rules-is, occurrences-is, held-is, flat-last, sum-last, within-limits}
-
--- the counts are written after the numbers behind them
-
-set-sets : (d : List ℕ) (q : ℕ) (v : List ℕ) (p a : ℕ) → p < q → set (sets d q v) p a ≡ sets (set d p a) q v
-set-sets d q [] p a l = refl
-set-sets d q (b ∷ v) p a l =
-    let other : q ≢ p = λ e. omega arith in
-    set-sets (set d q b) (suc q) v p a (omega arith) ∙ ap (λ x. sets x (suc q) v) (set-comm d q p b a other)
-
-sets-under : (d : List ℕ) (p : ℕ) (u v : List ℕ) → sets (sets d (p + length u) v) p u ≡ sets d p (u ++ v)
-sets-under d p [] v = ap (λ k. sets d k v) (add-zero p)
-sets-under d p (a ∷ u) v =
-    let k : p + suc (length u) ≡ suc p + length u = omega arith in
-    ap (λ x. sets x (suc p) u) (set-sets d (p + suc (length u)) v p a (omega arith) ∙ ap (λ j. sets (set d p a) j v) k)
-    ∙ sets-under (set d p a) (suc p) u v
 
 pub store-fits : (kind : Kind) (n r places : ℕ) → n ≤ atomLimit kind → r ≤ ruleLimit kind → places ≤ occurrenceLimit kind → 4 + wordCount kind n + 3 * r + places ≤ storeWords
 store-fits Plain n r places a b c = omega arith
@@ -200,7 +184,7 @@ module _ {kind : Kind} {st : SoFar} {g : Gathered} {words bytes : List ℕ} (h :
         after-counts q =
             q
             ∙ ap (λ x. sets x (g .words) counts) (w .numbered .written .bytes)
-            ∙ sets-under words (g .words) counts (ruleNumbers names hs bs ns)
+            ∙ sets-front words (g .words) counts (g .words + 3) (ruleNumbers names hs bs ns) refl
             ∙ ap (sets words (g .words)) rule-words
 
         is-end : (c .end) ≡ g .words + length (ruleWords new-rule)
