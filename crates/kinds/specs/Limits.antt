@@ -22,6 +22,10 @@ occurrenceLimit Preference = 8192
 abbrev pub classLimit : ℕ
 classLimit = 16
 
+-- brackets of a condition, one in another (document 02, W-208)
+abbrev pub bracketLimit : ℕ
+bracketLimit = 32
+
 -- class words past the classes
 abbrev pub varying : ℕ
 varying = 17

@@ -56,6 +56,20 @@ bodyWord = bytes "body"
 abbrev pub notWord : List ℕ
 notWord = bytes "not"
 
+-- the words of a condition, beside `not` (document 02, W-208)
+abbrev pub andWord : List ℕ
+andWord = bytes "and"
+
+abbrev pub orWord : List ℕ
+orWord = bytes "or"
+
+-- the words of its line
+abbrev pub whenWord : List ℕ
+whenWord = bytes "when"
+
+abbrev pub thenWord : List ℕ
+thenWord = bytes "then"
+
 -- a number in decimal digits, at most f of them
 unfoldable pub digits : ℕ → ℕ → List ℕ
 digits zero x = []

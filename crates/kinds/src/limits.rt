@@ -38,6 +38,9 @@ impl Preference {
     pub const OCCURRENCES: usize = 8192;
 
     pub const CLASSES: usize = 16;
+
+    // Brackets of a condition, one in another.
+    pub const BRACKETS: usize = 32;
 }
 
 impl Walk {

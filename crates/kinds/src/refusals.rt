@@ -19,6 +19,8 @@ pub enum Refusal {
     NameStore,
     BrokenClauses,
     LiteralBeyond,
+    BrokenCondition,
+    DeepBrackets,
 }
 
 impl Refusal {
@@ -42,6 +44,8 @@ impl Refusal {
             Refusal::NameStore => 14,
             Refusal::BrokenClauses => 15,
             Refusal::LiteralBeyond => 16,
+            Refusal::BrokenCondition => 17,
+            Refusal::DeepBrackets => 18,
         }
     }
 }

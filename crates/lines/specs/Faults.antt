@@ -1,22 +1,26 @@
 -- The faults of one line, the lowest number first (document 01, "Who can be turned back").
-use Prim.Native.Nat.{ℕ, suc}
+use Prim.Native.Nat.{ℕ, suc, _+_}
 use mathlib.Core.Bool.{Bool, true, false, cond, not, _&&_, _||_}
 use mathlib.Core.List.{List, [], _∷_, _++_, map}
 use lib.Dec.{leb}
 use lib.ListN.{length, replicate}
-use Rattle.kinds.specs.Limits.{classLimit, within, varying, fixed}
+use Rattle.kinds.specs.Limits.{bracketLimit, classLimit, within, varying, fixed}
 use Rattle.kinds.specs.declared.limits.Counts.{Counts}
 use Rattle.kinds.specs.declared.limits.Kind.{Kind}
 use Rattle.kinds.specs.declared.limits.Kind.the-variants.{Plain, Preference}
 use Rattle.kinds.specs.declared.refusals.Refusal.{Refusal}
-use Rattle.kinds.specs.declared.refusals.Refusal.the-variants.{BrokenForm, Name, DeclaredTwice, Undeclared, TwiceInList, Limit, FilledNot}
-use Rattle.rules.specs.Lists.{some, sum}
+use Rattle.kinds.specs.declared.refusals.Refusal.the-variants.{BrokenForm, Name, DeclaredTwice, Undeclared, TwiceInList, Limit, FilledNot, BrokenCondition, DeepBrackets}
+use Rattle.rules.specs.Lists.{some, sum, from}
 use Rattle.rules.specs.Rules.{Rule, rule, occurrences}
-use Rattle.names.specs.Names.{allowed}
+use Rattle.names.specs.Names.{allowed, madeName}
 use Rattle.name_store.specs.NameStore.{sameBytes, among}
+use Rattle.conditions.specs.Conditions.{Cond}
+use Rattle.conditions.specs.Numbers.{conditionRules}
 use Rattle.lines.specs.declared.stage.Stage.{Stage}
 use Rattle.lines.specs.declared.stage.Stage.the-variants.{Declaring, Fixing, Ruling}
-use Rattle.lines.specs.Forms.{Word, atoms, min, vary, fix, LineForm, declares, rules, blank, broken}
+use Rattle.lines.specs.Tokens.{Token}
+use Rattle.lines.specs.Conditions.{namesIn, connectivesIn, deeper, Parsed, parsed, unparsed, parse}
+use Rattle.lines.specs.Forms.{Word, atoms, min, vary, fix, LineForm, declares, rules, condition, blank, broken}
 
 -- what the lines so far say
 pub record SoFar : Type 0 where
@@ -26,8 +30,10 @@ pub record SoFar : Type 0 where
   pub words : List ℕ
   pub names : List (List ℕ)
   pub program-rules : List (Rule ℕ)
+  -- how many atoms the conditions made: they have the numbers behind the declared ones
+  pub made : ℕ
 
--- their counts
+-- their counts; the atoms that conditions made count on the lines that make them
 abbrev pub countsOf : SoFar → Counts
 countsOf st = record { atoms = length (st .names); rules = length (st .program-rules); occurrences = sum occurrences (st .program-rules) }
 
@@ -108,6 +114,7 @@ declared st w xs = record {
   words = st .words ++ classWords w (st .classes) (length xs);
   names = st .names ++ xs;
   program-rules = st .program-rules;
+  made = st .made;
 }
 
 -- a line that declares atoms: its order, then name lengths, then declared twice, then the counts
@@ -130,6 +137,7 @@ with-rule st r = record {
   words = st .words;
   names = st .names;
   program-rules = st .program-rules ++ (r ∷ []);
+  made = st .made;
 }
 
 abbrev pub filled : Kind → List (List ℕ) → Bool
@@ -147,8 +155,49 @@ addRule st hs bs ns =
     (first (not (within (st .kind) (countsOf (with-rule st (numbered (st .names) hs bs ns))))) Limit
     (first (filled (st .kind) ns) FilledNot (next (with-rule st (numbered (st .names) hs bs ns))))))))
 
+-- a condition with so many connectives, of the atom a
+abbrev pub with-condition : SoFar → Cond → ℕ → ℕ → SoFar
+with-condition st c count a = record {
+  kind = st .kind;
+  stage = st .stage;
+  classes = st .classes;
+  words = st .words;
+  names = st .names;
+  program-rules = st .program-rules ++ conditionRules (length (st .names)) c a;
+  made = st .made + count;
+}
+
+-- the counts with the atoms that conditions made
+abbrev pub allCounts : SoFar → Counts
+allCounts st = record { atoms = length (st .names) + st .made; rules = length (st .program-rules); occurrences = sum occurrences (st .program-rules) }
+
+-- one of so many atoms that are made next has a name that is declared
+abbrev pub taken : SoFar → ℕ → Bool
+taken st count = some (λ t. among (st .names) (madeName t)) (from (suc (st .made)) count)
+
+abbrev pub conditional? : Kind → Bool
+conditional? Plain = false
+conditional? Preference = true
+
+abbrev pub onParsed : Parsed → (Cond → Step) → Step
+onParsed (parsed c) f = f c
+onParsed unparsed f = fault BrokenCondition
+
+-- a condition: its order, whether it is one, its brackets, names, declared atoms that it makes, undeclared ones, the counts (document 02, W-208)
+unfoldable pub addCondition : SoFar → List Token → List ℕ → Step
+addCondition st ts a =
+    first (not (ruling? (st .stage) && conditional? (st .kind))) BrokenForm
+    (onParsed (parse (nameNumber (st .names)) (suc (st .made)) ts) (λ c.
+    first (deeper bracketLimit ts) DeepBrackets
+    (first (some (refusedName (st .kind)) (namesIn ts ++ (a ∷ []))) Name
+    (first (taken st (connectivesIn ts)) DeclaredTwice
+    (first (some (λ x. not (among (st .names) x)) (namesIn ts ++ (a ∷ []))) Undeclared
+    (first (not (within (st .kind) (allCounts (with-condition st c (connectivesIn ts) (nameNumber (st .names) a))))) Limit
+    (next (with-condition st c (connectivesIn ts) (nameNumber (st .names) a)))))))))
+
 abbrev pub stepForm : SoFar → LineForm → Step
 stepForm st (declares w xs) = declare st w xs
 stepForm st (rules hs bs ns) = addRule st hs bs ns
+stepForm st (condition ts a) = addCondition st ts a
 stepForm st blank = next st
 stepForm st broken = fault BrokenForm

@@ -1,7 +1,7 @@
 -- What a text says: a program with its names, or the earliest faulty line with its lowest fault. All lines are checked as they are typed; then what does not belong to the program is left out (document 02, W-203).
-use Prim.Native.Nat.{ℕ, suc}
+use Prim.Native.Nat.{ℕ, zero, suc}
 use mathlib.Core.Bool.{cond}
-use mathlib.Core.List.{List, [], _∷_}
+use mathlib.Core.List.{List, [], _∷_, map}
 use lib.Dec.{leb}
 use lib.ListN.{length}
 use Rattle.kinds.specs.Limits.{textLimit}
@@ -12,7 +12,10 @@ use Rattle.kinds.specs.declared.refusals.Refusal.the-variants.{TextTooLong, Bro
 use Rattle.kinds.specs.Words.{atomsWord}
 use Rattle.name_store.specs.NameStore.{sameBytes}
 use Rattle.stores.specs.Program.{Program}
+use Rattle.rules.specs.Rules.{rename}
 use Rattle.restriction.specs.Remaining.{remaining, remainingNames}
+use Rattle.conditions.specs.Numbers.{unfixed, placedWords, placing}
+use Rattle.conditions.specs.Left.{writtenNames}
 use Rattle.lines.specs.declared.stage.Stage.the-variants.{Declaring}
 use Rattle.lines.specs.Lines.{lines}
 use Rattle.lines.specs.Tokens.{Token, tokens}
@@ -45,7 +48,25 @@ start text = record {
   words = [];
   names = [];
   program-rules = [];
+  made = 0;
 }
+
+-- "Each connective .. gets a new varying atom .. after the file's varying atoms" (document 02, W-208), before the fixed ones
+abbrev pub placedBy : ℕ → SoFar → SoFar
+placedBy zero st = st
+placedBy (suc k) st = record {
+  kind = st .kind;
+  stage = st .stage;
+  classes = st .classes;
+  words = placedWords (unfixed (st .words)) (suc k) (st .words);
+  names = writtenNames (unfixed (st .words)) (suc k) (st .names);
+  program-rules = map (rename (placing (unfixed (st .words)) (length (st .names)) (suc k))) (st .program-rules);
+  made = 0;
+}
+
+-- the atoms that conditions made stand in their place
+unfoldable pub placed : SoFar → SoFar
+placed st = placedBy (st .made) st
 
 -- the program of the lines
 abbrev pub programOf : SoFar → Program
@@ -63,7 +84,7 @@ onStep (fault r) k f = refused r k
 
 -- the lines from number k on; a missing line stands one past the last
 unfoldable pub readLines : ℕ → SoFar → List (List ℕ) → Said
-readLines k st [] = cond (ruling? (st .stage)) (accepted (programOf st) (st .names)) (refused BrokenForm k)
+readLines k st [] = cond (ruling? (st .stage)) (accepted (programOf (placed st)) (placed st .names)) (refused BrokenForm k)
 readLines k st (l ∷ ls) = onStep (stepForm st (formOf l)) k (λ after. readLines (suc k) after ls)
 
 -- what the lines of a text say, with all atoms that they declare
