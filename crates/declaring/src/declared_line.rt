@@ -166,6 +166,6 @@ pub fn read_declared(
             links,
         ),
         Shape::Rule { refused: _ } => Line::Fault(Refusal::BrokenForm),
-        Shape::Broken => Line::Fault(Refusal::BrokenForm),
+        Shape::Other => Line::Fault(Refusal::BrokenForm),
     }
 }

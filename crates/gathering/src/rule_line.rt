@@ -106,7 +106,7 @@ fn rule_refusal(line: &[u8], kind: Kind) -> Refusal
         }
         Shape::Blank => Refusal::BrokenForm,
         Shape::Declares(_) => Refusal::BrokenForm,
-        Shape::Broken => Refusal::BrokenForm,
+        Shape::Other => Refusal::BrokenForm,
     }
 }
 

@@ -2,11 +2,11 @@
 use Prim.Native.Nat.{ℕ, _≤_}
 use native.Mathlib.Omega.{arith}
 use mathlib.Core.Path.{_≡_, refl, sym, ap, _∙_, subst}
-use mathlib.Core.List.{List, [], _∷_}
+use mathlib.Core.List.{List, [], _∷_, _++_}
 use mathlib.Core.Bool.{Bool, true, false, cond, not, _||_}
 use lib.ListN.{length, drop}
 use borrow.Author.Tests.{not-true, not-false}
-use Rattle.kinds.specs.Words.{atomsWord, minWord, varyWord, fixWord, ruleWord, headWord, bodyWord, notWord}
+use Rattle.kinds.specs.Words.{atomsWord, minWord, varyWord, fixWord, ruleWord, headWord, bodyWord, notWord, whenWord}
 use Rattle.kinds.specs.declared.limits.Kind.{Kind}
 use Rattle.rules.specs.Lists.{empty?}
 use Rattle.name_store.specs.NameStore.{sameBytes}
@@ -17,8 +17,12 @@ use Rattle.lines.specs.declared.forms.Keyword.the-variants as Key
 use Rattle.lines.specs.declared.forms.Shape.{Shape}
 use Rattle.lines.specs.Lines.{ended?}
 use Rattle.lines.specs.Tokens.{Token, opening, closing, word, run, tokens, items}
-use Rattle.lines.specs.Forms.{Word, wordBytes, atoms, min, vary, fix, LineForm, declares, rules, blank, broken, Opened, opened, unopened, openedOf, Split, split, none, splitNames, splitList, onSplit, lastly, closedLastly, declaredForm, ruleForm, openedForm, tokenForm, typedForm, names?, named, formOf}
-use Rattle.lines.specs.Shapes.{WholeWord, closes?, closesLast?, opensWith, ClosedSays, ClosedIs, OpenedSays, OpenedIs, Listed, ListedBehind, wordOf, Declared, Ruled, ShapeIs}
+use Rattle.lines.specs.Conditions.{wordsIn, pairs}
+use Rattle.lines.specs.Forms.{Word, wordBytes, atoms, min, vary, fix, LineForm, declares, rules, condition, blank, broken, Opened, opened, unopened, openedOf, Split, split, none, splitNames, splitList, onSplit, lastly, closedLastly, declaredForm, ruleForm, Conditional, conditional, unconditional, splitThen, pairedForm, whenForm, openedForm, tokenForm, typedForm, names?, named, formOf}
+use Rattle.lines.specs.Shapes.{WholeWord, closes?, closesLast?, opensWith, ClosedSays, ClosedIs, OpenedSays, OpenedIs, Listed, ListedBehind, wordOf, Declared, Ruled, Otherwise, ShapeIs}
+
+otherwise : {f : LineForm} → f ≡ broken → Otherwise f
+otherwise e = subst Otherwise (sym e) tt
 
 -- no keyword has a delimiter
 pub whole-rule : WholeWord ruleWord
@@ -73,9 +77,9 @@ closed-form (word x ∷ ts) f e = ap (λ (b : Bool). cond b f broken) (sym e)
 
 -- a line that declares atoms
 module _ (kind : Kind) (l : List ℕ) (from : ℕ) (w : Keyword) where
-  pub no-names : ((xs : List (List ℕ)) (rest : List Token) → splitNames (tokens (drop from l)) ≡ split xs rest → names? xs ≡ false) → named (declaredForm (wordOf w) (tokens (drop from l))) ≡ broken
+  pub no-names : ((xs : List (List ℕ)) (rest : List Token) → splitNames (tokens (drop from l)) ≡ split xs rest → names? xs ≡ false) → Otherwise (named (declaredForm (wordOf w) (tokens (drop from l))))
   unfolding declaredForm
-  no-names n = go (splitNames (tokens (drop from l))) n
+  no-names n = otherwise (go (splitNames (tokens (drop from l))) n)
     where
       ending : (xs : List (List ℕ)) (rest : List Token) → names? xs ≡ false → named (lastly rest (declares (wordOf w) xs)) ≡ broken
       ending xs [] e = ap (λ (b : Bool). cond b (declares (wordOf w) xs) broken) e
@@ -97,8 +101,8 @@ module _ (kind : Kind) (l : List ℕ) (from : ℕ) (w : Keyword) where
         go true = ap (λ (b : Bool). cond b (declares (wordOf w) (items (drop from l))) broken) (h .are-names)
         go false = refl
 
-    pub more-behind : r ≡ false → named (declaredForm (wordOf w) (tokens (drop from l))) ≡ broken
-    more-behind d = form-is ∙ ap (λ (b : Bool). cond b (declares (wordOf w) (items (drop from l))) broken) d
+    pub more-behind : r ≡ false → Otherwise (named (declaredForm (wordOf w) (tokens (drop from l))))
+    more-behind d = otherwise (form-is ∙ ap (λ (b : Bool). cond b (declares (wordOf w) (items (drop from l))) broken) d)
 
     pub declaring : r ≡ true → from ≤ length l → Declared kind l (named (declaredForm (wordOf w) (tokens (drop from l)))) (record { word = w; from = from; count = count; refused = refused })
     declaring d i = record { form = form-is ∙ ap (λ (b : Bool). cond b (declares (wordOf w) (items (drop from l))) broken) d; inside = i; is-count = h .is-count; is-refused = h .is-refused }
@@ -164,24 +168,24 @@ module _ (kind : Kind) (l : List ℕ) (from : ℕ) where
   abbrev form : LineForm
   form = named (ruleForm (tokens (drop from l)))
 
-  pub no-head : NoList headWord (tokens (drop from l)) → form ≡ broken
+  pub no-head : NoList headWord (tokens (drop from l)) → Otherwise form
   unfolding ruleForm
-  no-head n = broken-split (splitList headWord (tokens (drop from l))) behindHead (λ hs r e. head-wrong hs (n hs r e) r)
+  no-head n = otherwise (broken-split (splitList headWord (tokens (drop from l))) behindHead (λ hs r e. head-wrong hs (n hs r e) r))
 
   module _ {he : ℕ} {hr : Bool} (h : ListedBehind kind headWord l from he hr) where
     behind-head : form ≡ named (behindHead (h .names) (tokens (drop he l)))
     unfolding ruleForm
     behind-head = ap (λ p. named (onSplit p behindHead)) (h .cuts)
 
-    pub no-body : NoList bodyWord (tokens (drop he l)) → form ≡ broken
-    no-body n = behind-head ∙ broken-split (splitList bodyWord (tokens (drop he l))) (behindBody (h .names)) (λ bs s e. body-wrong (h .names) bs (λ ns. wrong-body (h .names) bs ns (n bs s e)) s)
+    pub no-body : NoList bodyWord (tokens (drop he l)) → Otherwise form
+    no-body n = otherwise (behind-head ∙ broken-split (splitList bodyWord (tokens (drop he l))) (behindBody (h .names)) (λ bs s e. body-wrong (h .names) bs (λ ns. wrong-body (h .names) bs ns (n bs s e)) s))
 
     module _ {be : ℕ} {br : Bool} (b : ListedBehind kind bodyWord l he be br) where
       behind-body : form ≡ named (behindBody (h .names) (b .names) (tokens (drop be l)))
       behind-body = behind-head ∙ ap (λ p. named (onSplit p (behindBody (h .names)))) (b .cuts)
 
-      pub no-not : NoList notWord (tokens (drop be l)) → form ≡ broken
-      no-not n = behind-body ∙ broken-split (splitList notWord (tokens (drop be l))) (λ ns rest. closedLastly rest (rules (h .names) (b .names) ns)) (λ ns rest e. closed-wrong (h .names) (b .names) ns (wrong-not (h .names) (b .names) ns (n ns rest e)) rest)
+      pub no-not : NoList notWord (tokens (drop be l)) → Otherwise form
+      no-not n = otherwise (behind-body ∙ broken-split (splitList notWord (tokens (drop be l))) (λ ns rest. closedLastly rest (rules (h .names) (b .names) ns)) (λ ns rest e. closed-wrong (h .names) (b .names) ns (wrong-not (h .names) (b .names) ns (n ns rest e)) rest))
 
       module _ {ne : ℕ} {nr : Bool} (n : ListedBehind kind notWord l be ne nr) {q : Bool} (e : q ≡ closesLast? (tokens (drop ne l))) where
         abbrev rule : LineForm
@@ -198,8 +202,8 @@ module _ (kind : Kind) (l : List ℕ) (from : ℕ) where
             go true = rw (h .are-names, b .are-names, n .are-names)
             go false = refl
 
-        pub not-ended : q ≡ false → form ≡ broken
-        not-ended d = form-ends ∙ ap (λ c. cond c rule broken) d
+        pub not-ended : q ≡ false → Otherwise form
+        not-ended d = otherwise (form-ends ∙ ap (λ c. cond c rule broken) d)
 
         pub ruling : q ≡ true → {refused : Bool} → refused ≡ (hr || (br || nr)) → Ruled kind form refused
         ruling d g =
@@ -210,6 +214,25 @@ module _ (kind : Kind) (l : List ℕ) (from : ℕ) where
               form = form-ends ∙ ap (λ c. cond c rule broken) d;
               is-refused = g ∙ (λ i. h .is-refused i || (b .is-refused i || n .is-refused i));
             }
+
+-- a condition
+
+on-cond : (b : Bool) (f : LineForm) → Otherwise f → Otherwise (cond b f broken)
+on-cond true f h = h
+on-cond false f h = tt
+
+when-otherwise : (b : Bool) (ts : List Token) → Otherwise (named (cond b (whenForm ts) broken))
+unfolding whenForm
+when-otherwise true ts = go (splitThen ts)
+  where
+    go : (p : Conditional) → Otherwise (named (pairedForm p))
+    go (conditional us a) = paired (pairs 0 us)
+      where
+        paired : (b : Bool) → Otherwise (named (cond b (condition us a) broken))
+        paired true = on-cond (names? (wordsIn us ++ (a ∷ []))) (condition us a) tt
+        paired false = tt
+    go unconditional = tt
+when-otherwise false ts = tt
 
 -- the word of a line
 
@@ -237,17 +260,20 @@ module _ (l : List ℕ) where
   unfolding sameBytes
   of-rule o e = ap (λ t. named (openedForm t)) (opened-at o e)
 
-  pub of-none : {a b c d f : Place} → OpenedIs l 0 ruleWord a → a ≡ Place.Absent → OpenedIs l 0 minWord b → b ≡ Place.Absent → OpenedIs l 0 varyWord c → c ≡ Place.Absent → OpenedIs l 0 fixWord d → d ≡ Place.Absent → OpenedIs l 0 atomsWord f → f ≡ Place.Absent → named (openedForm line) ≡ broken
-  of-none oa ea ob eb oc ec od ed of ef = ap named (go line (unlike oa ea) (unlike ob eb) (unlike oc ec) (unlike od ed) (unlike of ef))
+  pub of-none : {a b c d f : Place} → OpenedIs l 0 ruleWord a → a ≡ Place.Absent → OpenedIs l 0 minWord b → b ≡ Place.Absent → OpenedIs l 0 varyWord c → c ≡ Place.Absent → OpenedIs l 0 fixWord d → d ≡ Place.Absent → OpenedIs l 0 atomsWord f → f ≡ Place.Absent → Otherwise (named (openedForm line))
+  of-none oa ea ob eb oc ec od ed of ef = go line (unlike oa ea) (unlike ob eb) (unlike oc ec) (unlike od ed) (unlike of ef)
     where
-      go : (t : Opened) → opensWith ruleWord t ≡ false → opensWith minWord t ≡ false → opensWith varyWord t ≡ false → opensWith fixWord t ≡ false → opensWith atomsWord t ≡ false → openedForm t ≡ broken
-      go (opened x ts) r m v f a = rw (a, m, v, f, r)
-      go unopened r m v f a = refl
+      other : (x : List ℕ) (ts : List Token) → openedForm (opened x ts) ≡ cond (sameBytes x whenWord) (whenForm ts) broken → Otherwise (named (openedForm (opened x ts)))
+      other x ts e = subst (λ f. Otherwise (named f)) (sym e) (when-otherwise (sameBytes x whenWord) ts)
+
+      go : (t : Opened) → opensWith ruleWord t ≡ false → opensWith minWord t ≡ false → opensWith varyWord t ≡ false → opensWith fixWord t ≡ false → opensWith atomsWord t ≡ false → Otherwise (named (openedForm t))
+      go (opened x ts) r m v f a = other x ts (rw (a, m, v, f, r))
+      go unopened r m v f a = tt
 
   -- a line that is not ended, a blank one, and any other
-  pub of-unended : {r : Bool} → r ≡ ended? l → not r ≡ true → formOf l ≡ broken
+  pub of-unended : {r : Bool} → r ≡ ended? l → not r ≡ true → Otherwise (formOf l)
   unfolding formOf typedForm
-  of-unended e d = ap (λ b. named (cond b (tokenForm (tokens l)) broken)) (sym e ∙ not-true _ d)
+  of-unended e d = otherwise (ap (λ b. named (cond b (tokenForm (tokens l)) broken)) (sym e ∙ not-true _ d))
 
   module _ {r : Bool} (e : r ≡ ended? l) (d : not r ≡ false) where
     ended : formOf l ≡ named (tokenForm (tokens l))
@@ -292,16 +318,25 @@ rule-blank ts =
     (λ bs s. no-blank (splitList notWord s) (λ ns rest. closedLastly rest (rules hs bs ns))
     (λ ns rest e. closed-blank (closesLast? rest) (rules hs bs ns) (λ i. (let z : _≡_ {A = ℕ} 0 1 = cc in omega arith)) (sym (closed-form rest (rules hs bs ns) refl) ∙ e))))
 
-opened-blank : (t : Opened) → openedForm t ≡ blank → ⊥
-opened-blank (opened x ts) e = go (sameBytes x atomsWord) (sameBytes x minWord) (sameBytes x varyWord) (sameBytes x fixWord) (sameBytes x ruleWord) e
+when-blank : (ts : List Token) → whenForm ts ≡ blank → ⊥
+unfolding whenForm
+when-blank ts = go (splitThen ts)
   where
-    go : (a b c d f : Bool) → cond a (declaredForm atoms ts) (cond b (declaredForm min ts) (cond c (declaredForm vary ts) (cond d (declaredForm fix ts) (cond f (ruleForm ts) broken)))) ≡ blank → ⊥
-    go true b c d f e = declared-blank atoms ts e
-    go false true c d f e = declared-blank min ts e
-    go false false true d f e = declared-blank vary ts e
-    go false false false true f e = declared-blank fix ts e
-    go false false false false true e = rule-blank ts e
-    go false false false false false e = let z : _≡_ {A = ℕ} 0 1 = cc in omega arith
+    go : (p : Conditional) → pairedForm p ≡ blank → ⊥
+    go (conditional us a) e = closed-blank (pairs 0 us) (condition us a) (λ i. (let z : _≡_ {A = ℕ} 0 1 = cc in omega arith)) e
+    go unconditional e = let z : _≡_ {A = ℕ} 0 1 = cc in omega arith
+
+opened-blank : (t : Opened) → openedForm t ≡ blank → ⊥
+opened-blank (opened x ts) e = go (sameBytes x atomsWord) (sameBytes x minWord) (sameBytes x varyWord) (sameBytes x fixWord) (sameBytes x ruleWord) (sameBytes x whenWord) e
+  where
+    go : (a b c d f g : Bool) → cond a (declaredForm atoms ts) (cond b (declaredForm min ts) (cond c (declaredForm vary ts) (cond d (declaredForm fix ts) (cond f (ruleForm ts) (cond g (whenForm ts) broken))))) ≡ blank → ⊥
+    go true b c d f g e = declared-blank atoms ts e
+    go false true c d f g e = declared-blank min ts e
+    go false false true d f g e = declared-blank vary ts e
+    go false false false true f g e = declared-blank fix ts e
+    go false false false false true g e = rule-blank ts e
+    go false false false false false true e = when-blank ts e
+    go false false false false false false e = let z : _≡_ {A = ℕ} 0 1 = cc in omega arith
 opened-blank unopened e = let z : _≡_ {A = ℕ} 0 1 = cc in omega arith
 
 named-blank : (f : LineForm) → named f ≡ blank → f ≡ blank
@@ -313,6 +348,7 @@ named-blank (rules hs bs ns) e = absurd (go (names? hs) (names? bs) (names? ns) 
     go true true false e = let z : _≡_ {A = ℕ} 0 1 = cc in omega arith
     go true false c e = let z : _≡_ {A = ℕ} 0 1 = cc in omega arith
     go false b c e = let z : _≡_ {A = ℕ} 0 1 = cc in omega arith
+named-blank (condition ts a) e = absurd (closed-blank (names? (wordsIn ts ++ (a ∷ []))) (condition ts a) (λ i. (let z : _≡_ {A = ℕ} 0 1 = cc in omega arith)) e)
 named-blank blank e = refl
 named-blank broken e = e
 

@@ -27,7 +27,7 @@ use Rattle.lines.specs.declared.forms.DeclaredShape.{DeclaredShape}
 use Rattle.lines.specs.declared.forms.Shape.{Shape}
 use Rattle.lines.specs.declared.forms.Shape.the-variants as Line
 use Rattle.lines.specs.Tokens.{Token, opening, closing, word, delimiter?, run, tokens, items}
-use Rattle.lines.specs.Forms.{Word, atoms, min, vary, fix, LineForm, declares, rules, blank, broken, Opened, opened, unopened, openedOf, split, splitNames, splitList, names?}
+use Rattle.lines.specs.Forms.{Word, atoms, min, vary, fix, LineForm, declares, rules, condition, blank, broken, Opened, opened, unopened, openedOf, split, splitNames, splitList, names?}
 use Rattle.lines.specs.Faults.{refusedName, anyOf}
 
 -- the list begins with the tag
@@ -153,9 +153,17 @@ pub record Ruled (kind : Kind) (f : LineForm) (refused : Bool) : Type 0 where
   pub form : f ≡ rules heads bodies nots
   pub is-refused : refused ≡ anyOf (some (refusedName kind)) heads bodies nots
 
+-- a condition, or no form
+abbrev pub Otherwise : LineForm → Type 0
+Otherwise (declares w xs) = ⊥
+Otherwise (rules hs bs ns) = ⊥
+Otherwise (condition ts a) = Unit {0}
+Otherwise blank = ⊥
+Otherwise broken = Unit {0}
+
 -- what a shape says of a line and its form
 abbrev pub ShapeIs : Kind → List ℕ → LineForm → Shape → Type 0
 ShapeIs kind l f Line.Blank = f ≡ blank
 ShapeIs kind l f (Line.Declares d) = Declared kind l f d
 ShapeIs kind l f (Line.Rule refused) = Ruled kind f refused
-ShapeIs kind l f Line.Broken = f ≡ broken
+ShapeIs kind l f Line.Other = Otherwise f

@@ -42,7 +42,8 @@ pub enum Shape {
     Blank,
     Declares(DeclaredShape),
     Rule { refused: bool },
-    Broken,
+    // A condition, or no form.
+    Other,
 }
 
 // Where the names start, how many there are, and whether one of them is refused.
@@ -122,7 +123,7 @@ fn declared_shape(line: &[u8], from: usize, kind: Kind, word: Keyword) -> Shape
         refused,
     } = names_at(line, from, kind)
     else {
-        return Shape::Broken;
+        return Shape::Other;
     };
     if scan::nothing_at(line, end) {
         return Shape::Declares(DeclaredShape {
@@ -132,7 +133,7 @@ fn declared_shape(line: &[u8], from: usize, kind: Kind, word: Keyword) -> Shape
             refused,
         });
     }
-    Shape::Broken
+    Shape::Other
 }
 
 pub fn any(a: bool, b: bool, c: bool) -> bool
@@ -166,7 +167,7 @@ fn rule_shape(line: &[u8], from: usize, kind: Kind) -> Shape
         refused: in_head,
     } = list_at(line, from, b"head", kind)
     else {
-        return Shape::Broken;
+        return Shape::Other;
     };
     let Names::List {
         end: body_end,
@@ -174,7 +175,7 @@ fn rule_shape(line: &[u8], from: usize, kind: Kind) -> Shape
         refused: in_body,
     } = list_at(line, head_end, b"body", kind)
     else {
-        return Shape::Broken;
+        return Shape::Other;
     };
     let Names::List {
         end: not_end,
@@ -182,13 +183,13 @@ fn rule_shape(line: &[u8], from: usize, kind: Kind) -> Shape
         refused: in_not,
     } = list_at(line, body_end, b"not", kind)
     else {
-        return Shape::Broken;
+        return Shape::Other;
     };
     if closes_line(line, not_end) {
         let refused = any(in_head, in_body, in_not);
         return Shape::Rule { refused };
     }
-    Shape::Broken
+    Shape::Other
 }
 
 // A line that is ended and not blank.
@@ -210,7 +211,7 @@ fn opened_shape(line: &[u8], kind: Kind) -> Shape
     if let Place::At(from) = scan::opened_at(line, 0, b"atoms") {
         return declared_shape(line, from, kind, Keyword::Atoms);
     }
-    Shape::Broken
+    Shape::Other
 }
 
 pub fn shape_of(line: &[u8], kind: Kind) -> Shape
@@ -218,7 +219,7 @@ pub fn shape_of(line: &[u8], kind: Kind) -> Shape
 {
     let ended = scan::is_ended(line);
     if !ended {
-        return Shape::Broken;
+        return Shape::Other;
     }
     if scan::nothing_at(line, 0) {
         return Shape::Blank;
