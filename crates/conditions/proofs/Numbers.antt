@@ -16,14 +16,19 @@ use Rattle.rules.proofs.Lists.{all-imp, all-from, from-all, all-map, map-all}
 use Rattle.rules.proofs.Sets.{same-set, set-of}
 use Rattle.conditions.specs.Conditions.{Atom, planner, made, Statement, states, madeAtoms, statementNames}
 use Rattle.conditions.specs.Written.{written}
-use Rattle.conditions.specs.Readings.{BeatsOver, StatementHolds, DirectModel, DirectPreferred, WrittenClass, WrittenPreferred, cutDown, Valued}
-use Rattle.conditions.specs.Numbers.{unfixed, place, placedWords, placedRules, writtenWords, writtenRules, CutsTo, DirectSet, Taken}
+use Rattle.conditions.specs.Readings.{BeatsOver, StatementHolds, DirectModel, DirectPreferred, DirectSet, WrittenClass, WrittenPreferred, cutDown, Valued}
+use Rattle.conditions.specs.Numbers.{unfixed, place, placedWords, placedRules, writtenWords, writtenRules, Taken}
 use Rattle.conditions.proofs.Connectives.{written-law}
 use Rattle.conditions.proofs.Extended.{extended, extended-valued}
 use Rattle.conditions.proofs.Paired.{paired, only-one}
 use Rattle.conditions.proofs.Counts.{numbered-distinct}
-use Rattle.conditions.proofs.Placed.{unfixed-le, unplace, stands, place-unplace, unplace-planner, unplace-made, place-lt, low, mid, high, words-length, class-up, class-down, renamed-law}
+use Rattle.conditions.proofs.Placed.{unplace, stands, place-unplace, unplace-planner, unplace-made, place-lt, low, mid, high, words-length, class-up, class-down, renamed-law}
+use Rattle.conditions.proofs.Classes.{unfixed-le}
 use Rattle.conditions.proofs.Congruent.{direct-congr, preferred-congr, valued-congr, preferred-valued}
+
+-- set t, cut to the planner's atoms, has the members of s: n planner's atoms
+abbrev CutsTo : ℕ → ℕ → ℕ → ℕ → ℕ → Type 0
+CutsTo q k n t s = (a : ℕ) → a < n → has t (place q k (planner a)) ≡ has s a
 
 -- q planner's atoms stand before the T atoms
 module _ (ws : List ℕ) (ls : List Statement) (taken : Taken ws ls) (q : ℕ) (fits : q ≤ length ws) where

@@ -1,33 +1,23 @@
 -- The numbers of the written program's atoms: each number is one atom's, and the words are the atoms' classes.
-use Prim.Native.Nat.{ℕ, zero, suc, _+_, _-_, _^_, _≤_, _<_}
+use Prim.Native.Nat.{ℕ, suc, _+_, _-_, _≤_, _<_}
 use native.Mathlib.Omega.{arith}
 use native.Mathlib.Decide.{decLt}
 use mathlib.Core.Path.{_≡_, sym, ap, subst, _∙_}
-use mathlib.Core.List.{List, [], _∷_, _++_, map}
-use mathlib.Core.Bool.{Bool, true, false, not, cond}
+use mathlib.Core.List.{List, _++_, map}
+use mathlib.Core.Bool.{Bool, cond}
 use mathlib.Core.Logic.{_⊎_, inl, inr, _↔_}
-use lib.Dec.{eqb, ltb}
-use lib.ListN.{length, getD, take, drop, replicate, length-append, length-drop, length-replicate, getD-replicate, length-map, List·getD-append, List·getD-map}
+use lib.Dec.{ltb}
+use lib.ListN.{length, getD, take, drop, replicate, length-append, length-drop, length-replicate, getD-replicate, List·getD-append}
 use lib.Seq.{length-take-le, getD-append-add, getD-take, getD-drop}
 use borrow.Author.Tests.{lt-ltb, le-ltb}
-use Rattle.rules.specs.Lists.{keep, filter, from}
 use Rattle.rules.specs.Sets.{In, Out}
 use Rattle.rules.specs.Rules.{Rule, Holds, Model, rename}
-use Rattle.kinds.specs.Limits.{varying, fixed}
+use Rattle.kinds.specs.Limits.{varying}
 use Rattle.rules.specs.Preferred.{OfClass}
 use Rattle.rules.proofs.Lists.{all-imp, all-map, map-all, any-map, map-any}
 use Rattle.conditions.specs.Conditions.{Atom, planner, made}
 use Rattle.conditions.specs.Readings.{WrittenClass}
-use Rattle.conditions.specs.Numbers.{unfixed, place, placedWords}
-
-pub unfixed-le : (ws : List ℕ) → unfixed ws ≤ length ws
-unfolding unfixed
-unfixed-le [] = omega arith
-unfixed-le (w ∷ ws) = step (not (eqb w fixed)) (unfixed-le ws)
-  where
-    step : (b : Bool) → length (filter (λ w. not (eqb w fixed)) ws) ≤ length ws → length (keep b w (filter (λ w. not (eqb w fixed)) ws)) ≤ suc (length ws)
-    step true h = omega arith
-    step false h = omega arith
+use Rattle.conditions.specs.Numbers.{place, placedWords}
 
 module _ (q k : ℕ) where
   pub unplace : ℕ → Atom
