@@ -17,7 +17,7 @@ use Rattle.rules.specs.Preferred.{OfClass}
 use Rattle.rules.proofs.Lists.{all-imp, all-map, map-all, any-map, map-any}
 use Rattle.conditions.specs.Conditions.{Atom, planner, made}
 use Rattle.conditions.specs.Readings.{WrittenClass}
-use Rattle.conditions.specs.Numbers.{place, placedWords}
+use Rattle.conditions.specs.Numbers.{place, inserted, placedWords}
 
 module _ (q k : ℕ) where
   pub unplace : ℕ → Atom
@@ -77,39 +77,48 @@ module _ (q k : ℕ) where
       step (yes h) = subst (λ (i : ℕ). i < n + k) (sym (place-low a h)) (omega arith)
       step (no h) = subst (λ (i : ℕ). i < n + k) (sym (place-high a (omega arith))) (omega arith)
 
+  -- what a list with others between has for the atoms
+
+  module _ {A : Type 0} (d : A) (l others : List A) (fits : q ≤ length l) (size : length others ≡ k) where
+    pub inserted-length : length (inserted q others l) ≡ length l + k
+    inserted-length = omega (arith, length-append (take q l) (others ++ drop q l), length-append others (drop q l), length-take-le q l fits, size, length-drop q l)
+
+    past : (i : ℕ) → getD (inserted q others l) (q + i) d ≡ getD (others ++ drop q l) i d
+    past i = subst (λ (j : ℕ). getD (take q l ++ (others ++ drop q l)) (j + i) d ≡ getD (others ++ drop q l) i d) (length-take-le q l fits) (getD-append-add (take q l) (others ++ drop q l) i d)
+
+    inserted-high : (i : ℕ) → getD (inserted q others l) (q + (k + i)) d ≡ getD l (q + i) d
+    inserted-high i = past (k + i) ∙ (subst (λ (j : ℕ). getD (others ++ drop q l) (j + i) d ≡ getD (drop q l) i d) size (getD-append-add others (drop q l) i d) ∙ getD-drop q l i d)
+
+    pub inserted-made : (i : ℕ) → i < k → getD (inserted q others l) (q + i) d ≡ getD others i d
+    inserted-made i u = past i ∙ List·getD-append others (drop q l) d i (omega arith)
+
+    pub inserted-planner : (a : ℕ) → getD (inserted q others l) (place q k (planner a)) d ≡ getD l a d
+    inserted-planner a = step (decLt a q)
+      where
+        at : (i j : ℕ) → i ≡ j → getD (inserted q others l) i d ≡ getD (inserted q others l) j d
+        at i j e = ap (λ (x : ℕ). getD (inserted q others l) x d) e
+
+        step : Dec (a < q) → getD (inserted q others l) (place q k (planner a)) d ≡ getD l a d
+        step (yes h) = at (place q k (planner a)) a (place-low a h) ∙ (List·getD-append (take q l) (others ++ drop q l) d a (omega (arith, length-take-le q l fits)) ∙ getD-take q l a d h)
+        step (no h) =
+            let e : a + k ≡ q + (k + (a - q)) = omega arith in
+            let f : q + (a - q) ≡ a = omega arith in
+            at (place q k (planner a)) (q + (k + (a - q))) (place-high a (omega arith) ∙ e) ∙ (inserted-high (a - q) ∙ ap (λ (j : ℕ). getD l j d) f)
+
   -- the words are the atoms' classes
 
   module _ (ws : List ℕ) (fits : q ≤ length ws) where
     pub words-length : length (placedWords q k ws) ≡ length ws + k
     unfolding placedWords
-    words-length = omega (arith, length-append (take q ws) (replicate k varying ++ drop q ws), length-append (replicate k varying) (drop q ws), length-take-le q ws fits, length-replicate k varying, length-drop q ws)
-
-    word-low : (a : ℕ) → a < q → getD (placedWords q k ws) a 0 ≡ getD ws a 0
-    unfolding placedWords
-    word-low a l = List·getD-append (take q ws) (replicate k varying ++ drop q ws) 0 a (omega (arith, length-take-le q ws fits)) ∙ getD-take q ws a 0 l
-
-    past : (i : ℕ) → getD (placedWords q k ws) (q + i) 0 ≡ getD (replicate k varying ++ drop q ws) i 0
-    unfolding placedWords
-    past i = subst (λ (j : ℕ). getD (take q ws ++ (replicate k varying ++ drop q ws)) (j + i) 0 ≡ getD (replicate k varying ++ drop q ws) i 0) (length-take-le q ws fits) (getD-append-add (take q ws) (replicate k varying ++ drop q ws) i 0)
-
-    word-mid : (i : ℕ) → i < k → getD (placedWords q k ws) (q + i) 0 ≡ varying
-    word-mid i l = past i ∙ (List·getD-append (replicate k varying) (drop q ws) 0 i (omega (arith, length-replicate k varying)) ∙ getD-replicate k i varying 0 l)
-
-    word-high : (i : ℕ) → getD (placedWords q k ws) (q + (k + i)) 0 ≡ getD ws (q + i) 0
-    word-high i = past (k + i) ∙ (subst (λ (j : ℕ). getD (replicate k varying ++ drop q ws) (j + i) 0 ≡ getD (drop q ws) i 0) (length-replicate k varying) (getD-append-add (replicate k varying) (drop q ws) i 0) ∙ getD-drop q ws i 0)
-
-    at-number : (i j w : ℕ) → i ≡ j → getD (placedWords q k ws) i 0 ≡ w → getD (placedWords q k ws) j 0 ≡ w
-    at-number i j w e h = subst (λ (n : ℕ). getD (placedWords q k ws) n 0 ≡ w) e h
+    words-length = inserted-length 0 ws (replicate k varying) fits (length-replicate k varying)
 
     word-planner : (a : ℕ) → getD (placedWords q k ws) (place q k (planner a)) 0 ≡ getD ws a 0
-    word-planner a = step (decLt a q)
-      where
-        step : Dec (a < q) → getD (placedWords q k ws) (place q k (planner a)) 0 ≡ getD ws a 0
-        step (yes h) = at-number a (place q k (planner a)) (getD ws a 0) (sym (place-low a h)) (word-low a h)
-        step (no h) =
-            let e : q + (k + (a - q)) ≡ a + k = omega arith in
-            let f : q + (a - q) ≡ a = omega arith in
-            at-number (q + (k + (a - q))) (place q k (planner a)) (getD ws a 0) (e ∙ sym (place-high a (omega arith))) (word-high (a - q) ∙ ap (λ (j : ℕ). getD ws j 0) f)
+    unfolding placedWords
+    word-planner a = inserted-planner 0 ws (replicate k varying) fits (length-replicate k varying) a
+
+    word-made : (i : ℕ) → i < k → getD (placedWords q k ws) (q + i) 0 ≡ varying
+    unfolding placedWords
+    word-made i l = inserted-made 0 ws (replicate k varying) fits (length-replicate k varying) i l ∙ getD-replicate k i varying 0 l
 
     pub class-up : (w a : ℕ) → OfClass ws w a → OfClass (placedWords q k ws) w (place q k (planner a))
     class-up w a h = (subst (λ (n : ℕ). place q k (planner a) < n) (sym words-length) (place-lt (length ws) a (h .0)), word-planner a ∙ h .1)
@@ -127,7 +136,7 @@ module _ (q k : ℕ) where
         step (inl l) = of-planner i (omega arith) (place-low i l) (low i l)
         step (inr (inl l)) =
             let e : q + (i - q) ≡ i = omega (arith, l .0) in
-            subst (WrittenClass ws w) (sym (mid i (l .0) (l .1))) (sym (h .1) ∙ at-number (q + (i - q)) i varying e (word-mid (i - q) (omega (arith, l .0, l .1))))
+            subst (WrittenClass ws w) (sym (mid i (l .0) (l .1))) (sym (h .1) ∙ (ap (λ (j : ℕ). getD (placedWords q k ws) j 0) (sym e) ∙ word-made (i - q) (omega (arith, l .0, l .1))))
         step (inr (inr l)) = let e : i - k + k ≡ i = omega arith in of-planner (i - k) (omega (arith, below)) (place-high (i - k) (omega arith) ∙ e) (high i l)
 
 -- the rules over numbers and over atoms ask the same

@@ -19,9 +19,13 @@ abbrev pub place : ℕ → ℕ → Atom → ℕ
 place q k (planner a) = cond (ltb a q) a (a + k)
 place q k (made t) = q + (t - 1)
 
+-- a list with others behind its first q entries
+abbrev pub inserted : {A : Type 0} → ℕ → List A → List A → List A
+inserted q others l = take q l ++ (others ++ drop q l)
+
 -- the class words: the k T atoms are varying
 unfoldable pub placedWords : ℕ → ℕ → List ℕ → List ℕ
-placedWords q k ws = take q ws ++ (replicate k varying ++ drop q ws)
+placedWords q k ws = inserted q (replicate k varying) ws
 
 -- the written rules, with the atoms' numbers
 unfoldable pub placedRules : ℕ → ℕ → List Statement → List (Rule ℕ)
