@@ -15,11 +15,10 @@ use Rattle.kinds.specs.declared.refusals.Refusal.the-variants.{BrokenForm}
 use Rattle.rules.specs.Lists.{All, Any, Distinct, sum, from}
 use Rattle.rules.specs.Rules.{Rule, occurrences}
 use Rattle.rules.proofs.Lists.{all-app, all-imp, all-map, from-all}
-use Rattle.names.specs.Names.{allowed}
+use Rattle.names.specs.Names.{allowed, madeName}
 use Rattle.name_store.specs.NameStore.{NamesForm}
 use Rattle.stores.specs.Program.{Program, ProgramForm, RoleForm, roleOf, ClassesForm, ListForm, NotForm, RuleForm}
 use Rattle.conditions.specs.Conditions.{Cond, namesOf, connectives}
-use Rattle.conditions.specs.Left.{madeName}
 use Rattle.conditions.specs.Numbers.{conditionRules}
 use Rattle.conditions.proofs.InFile.{condition-forms}
 use Rattle.lines.specs.declared.stage.Stage.{Stage}
@@ -33,33 +32,17 @@ use Rattle.lines.specs.Said.{accepted, refused, kindOf, start, onStep, readLine
 use Rattle.lines.proofs.Parsing.{parsed-connectives, parsed-names}
 use Rattle.faults.specs.Sentences.{Among, Comes, atoms-line, min-line, vary-line, fix-line}
 use Rattle.faults.proofs.Tests.{comes-law}
+use Rattle.reader.specs.FormedState.{StageForm, Formed}
 use Rattle.reader.proofs.NumberedNames.{different-law, number-below, numbers-differ}
 use Rattle.reader.proofs.ClassParts.{words-fit, all-replicate, rising-app, role-more, role-new}
 use Rattle.reader.proofs.LineSteps.{Declares, declare-said, Listed, Adds, rule-said, Speaks, condition-said}
 
--- what the lines so far leave open
-abbrev pub StageForm : Stage → Kind → SoFar → Type 0
-StageForm Declaring Plain st = (st .names ≡ []) × (st .program-rules ≡ []) × (st .made ≡ 0)
-StageForm Declaring Preference st = All (λ w. w ≤ st .classes) (st .words) × (st .program-rules ≡ []) × (st .made ≡ 0)
-StageForm Fixing Plain st = ⊥
-StageForm Fixing Preference st = All (λ w. w ≤ varying) (st .words) × (st .program-rules ≡ []) × (st .made ≡ 0)
-StageForm Ruling kind st = Unit {0}
+abbrev pub soFar : Kind → Stage → ℕ → List ℕ → List (List ℕ) → List (Rule ℕ) → ℕ → SoFar
+soFar kind stage k words names rs m = record { kind = kind; stage = stage; classes = k; words = words; names = names; program-rules = rs; made = m }
 
-pub record Formed (st : SoFar) : Type 0 where
-  pub atoms-fit : length (st .names) + st .made ≤ atomLimit (st .kind)
-  pub rules-fit : length (st .program-rules) ≤ ruleLimit (st .kind)
-  pub occurrences-fit : sum occurrences (st .program-rules) ≤ occurrenceLimit (st .kind)
-  pub classes-form : ClassesForm (st .kind) (length (st .names)) (st .classes) (st .words)
-  pub rule-forms : All (RuleForm (st .kind) (length (st .names) + st .made)) (st .program-rules)
-  pub names-form : NamesForm (st .kind) (length (st .names)) (st .names)
-  pub stage-form : StageForm (st .stage) (st .kind) st
-  -- only conditions make atoms, and their names are not declared
-  pub made-kind : st .kind ≡ Plain → st .made ≡ 0
-  pub untaken : All (λ t. Among (st .names) (madeName t) → ⊥) (from 1 (st .made))
-
-abbrev pub state : Kind → Stage → ℕ → List ℕ → List (List ℕ) → List (Rule ℕ) → ℕ → SoFar
-state kind stage k words names rs m =
-    record { kind = kind; stage = stage; classes = k; words = words; names = names; program-rules = rs; made = m }
+-- without conditions
+abbrev pub state : Kind → Stage → ℕ → List ℕ → List (List ℕ) → List (Rule ℕ) → SoFar
+state kind stage k words names rs = soFar kind stage k words names rs 0
 
 -- a line that declares atoms
 
@@ -93,7 +76,7 @@ classes-after k j words names v xs f more fits low role = (
 )
 
 module _ (k : ℕ) (words : List ℕ) (names : List (List ℕ)) (rs : List (Rule ℕ)) (m : ℕ) (xs : List (List ℕ)) where
-  atoms-step : Formed (state Plain Declaring k words names rs m) → Declares (state Plain Declaring k words names rs m) atoms xs → Formed (declared (state Plain Declaring k words names rs m) atoms xs)
+  atoms-step : Formed (soFar Plain Declaring k words names rs m) → Declares (soFar Plain Declaring k words names rs m) atoms xs → Formed (declared (soFar Plain Declaring k words names rs m) atoms xs)
   atoms-step s d =
       let none = s .stage-form in
       record {
@@ -108,7 +91,7 @@ module _ (k : ℕ) (words : List ℕ) (names : List (List ℕ)) (rs : List (Rule
         untaken = none-untaken (none .1) (none .2) (names ++ xs);
       }
 
-  min-step : Formed (state Preference Declaring k words names rs m) → Declares (state Preference Declaring k words names rs m) min xs → Formed (declared (state Preference Declaring k words names rs m) min xs)
+  min-step : Formed (soFar Preference Declaring k words names rs m) → Declares (soFar Preference Declaring k words names rs m) min xs → Formed (declared (soFar Preference Declaring k words names rs m) min xs)
   min-step s d =
       let none = s .stage-form in
       let low = all-imp (λ w. w ≤ k) (λ w. w ≤ suc k) (λ w l. omega arith) words (none .0) in
@@ -124,7 +107,7 @@ module _ (k : ℕ) (words : List ℕ) (names : List (List ℕ)) (rs : List (Rule
         untaken = none-untaken (none .1) (none .2) (names ++ xs);
       }
 
-  vary-step : Formed (state Preference Declaring k words names rs m) → Declares (state Preference Declaring k words names rs m) vary xs → Formed (declared (state Preference Declaring k words names rs m) vary xs)
+  vary-step : Formed (soFar Preference Declaring k words names rs m) → Declares (soFar Preference Declaring k words names rs m) vary xs → Formed (declared (soFar Preference Declaring k words names rs m) vary xs)
   unfolding roleOf
   vary-step s d =
       let none = s .stage-form in
@@ -142,7 +125,7 @@ module _ (k : ℕ) (words : List ℕ) (names : List (List ℕ)) (rs : List (Rule
         untaken = none-untaken (none .1) (none .2) (names ++ xs);
       }
 
-  fix-step : Formed (state Preference Fixing k words names rs m) → Declares (state Preference Fixing k words names rs m) fix xs → Formed (declared (state Preference Fixing k words names rs m) fix xs)
+  fix-step : Formed (soFar Preference Fixing k words names rs m) → Declares (soFar Preference Fixing k words names rs m) fix xs → Formed (declared (soFar Preference Fixing k words names rs m) fix xs)
   unfolding roleOf
   fix-step s d =
       let none = s .stage-form in
@@ -164,9 +147,9 @@ pub declared-formed : (st : SoFar) (w : Word) (xs : List (List ℕ)) → Formed 
 declared-formed st w xs s d = go (comes-law (st .kind) (st .stage) w .0 (d .expected)) s d
   where
     go : {kind : Kind} {stage : Stage} {v : Word} → Comes kind stage v
-        → Formed (state kind stage (st .classes) (st .words) (st .names) (st .program-rules) (st .made))
-        → Declares (state kind stage (st .classes) (st .words) (st .names) (st .program-rules) (st .made)) v xs
-        → Formed (declared (state kind stage (st .classes) (st .words) (st .names) (st .program-rules) (st .made)) v xs)
+        → Formed (soFar kind stage (st .classes) (st .words) (st .names) (st .program-rules) (st .made))
+        → Declares (soFar kind stage (st .classes) (st .words) (st .names) (st .program-rules) (st .made)) v xs
+        → Formed (declared (soFar kind stage (st .classes) (st .words) (st .names) (st .program-rules) (st .made)) v xs)
     go atoms-line = atoms-step (st .classes) (st .words) (st .names) (st .program-rules) (st .made) xs
     go min-line = min-step (st .classes) (st .words) (st .names) (st .program-rules) (st .made) xs
     go vary-line = vary-step (st .classes) (st .words) (st .names) (st .program-rules) (st .made) xs
@@ -278,7 +261,7 @@ pub start-formed : (text : List ℕ) → Formed (start text)
 unfolding start
 start-formed text = go (kindOf (lines text))
   where
-    go : (k : Kind) → Formed (state k Declaring 0 [] [] [] 0)
+    go : (k : Kind) → Formed (soFar k Declaring 0 [] [] [] 0)
     go Plain = record {
       atoms-fit = omega arith;
       rules-fit = omega arith;

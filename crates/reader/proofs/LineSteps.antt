@@ -13,10 +13,9 @@ use Rattle.kinds.specs.declared.refusals.Refusal.{Refusal}
 use Rattle.kinds.specs.declared.refusals.Refusal.the-variants.{BrokenForm, Name, DeclaredTwice, Undeclared, TwiceInList, Limit, FilledNot, DeepBrackets}
 use Rattle.rules.specs.Lists.{All, Distinct, some, from}
 use Rattle.rules.proofs.Booleans.{is-true, stable, T-not-in, T-not-out, T-and, T-and-l, T-and-r, T-or, T-or-out}
-use Rattle.names.specs.Names.{allowed}
+use Rattle.names.specs.Names.{allowed, madeName}
 use Rattle.name_store.specs.NameStore.{among}
 use Rattle.conditions.specs.Conditions.{Cond}
-use Rattle.conditions.specs.Left.{madeName}
 use Rattle.lines.specs.Tokens.{Token}
 use Rattle.lines.specs.Conditions.{namesIn, connectivesIn, deeper, Parsed, parsed, unparsed, parse}
 use Rattle.lines.specs.Forms.{Word}
