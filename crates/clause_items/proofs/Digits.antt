@@ -11,8 +11,7 @@ use lib.Seq.{length-take-le, getD-take, getD-drop}
 use borrow.Author.Tests.{leb-true, eq-eqb, ne-eqb}
 use Rattle.rules.specs.Lists.{every}
 use Rattle.rules.proofs.Booleans.{both-true, and-false}
-use Rattle.names.specs.Names.{digit?}
-use Rattle.clauses.specs.Numerals.{numeral?, valueFrom, value}
+use Rattle.names.specs.Numerals.{digit?, numeral?, valueFrom, value}
 use Rattle.clauses.specs.Items.{separator?, run}
 use Rattle.clause_items.specs.Found.{largest, capped, front, numberAt}
 use Rattle.clause_items.specs.declared.numbers.Number.the-variants.{Value, Broken}

@@ -15,10 +15,11 @@ use Rattle.rules.specs.Lists.{every, from}
 use Rattle.rules.proofs.Booleans.{T-or, is-true}
 use Rattle.rules.proofs.Lists.{all-imp, all-map, all-from, every-all, length-from, distinct-from, distinct-map}
 use Rattle.rules.proofs.ListLaws.{all-each}
-use Rattle.names.specs.Names.{letter?, digit?, nameByte?, house?, nameClass, allowed}
+use Rattle.names.specs.Numerals.{digit?}
+use Rattle.names.specs.Names.{letter?, nameByte?, house?, nameClass, allowed}
+use Rattle.names.proofs.Decimals.{digits-few, digits-all, decimal-inj}
 use Rattle.name_store.specs.NameStore.{NamesForm}
 use Rattle.clauses.specs.Written.{clauseName, clauseNames}
-use Rattle.clauses.proofs.Decimals.{digits-few, digits-all, decimal-inj}
 
 digit-byte : (b : ℕ) → T (digit? b) → T (nameByte? b)
 digit-byte b h = T-or (letter? b) (digit? b || eqb b 95) (inr (T-or (digit? b) (eqb b 95) (inl h)))

@@ -16,7 +16,8 @@ use Rattle.rules.proofs.Connectives.{or-law, and-law, on-cond}
 use Rattle.rules.proofs.Lists.{every-all}
 use Rattle.names.specs.declared.forms.NameClass.{NameClass}
 use Rattle.names.specs.declared.forms.NameClass.the-variants.{House, Generated, TooLong, Wrong}
-use Rattle.names.specs.Names.{letter?, digit?, firstByte?, nameByte?, house?, classNumber?, byLength, dotted, generated, nameClass}
+use Rattle.names.specs.Numerals.{digit?}
+use Rattle.names.specs.Names.{letter?, firstByte?, nameByte?, house?, classNumber?, byLength, dotted, generated, nameClass}
 use Rattle.faults.specs.NameForms.{NameByte, HouseBytes, HouseName, Marked, ClassNumber, GeneratedName, TooLongName}
 
 pub eq-law : (m n : ℕ) → T (eqb m n) ↔ (m ≡ n)

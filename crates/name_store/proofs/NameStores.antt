@@ -18,7 +18,8 @@ use Rattle.rules.proofs.Booleans.{T-and, T-and-l, T-and-r, T-or, T-or-out, T-of
 use Rattle.rules.proofs.Lists.{all-app, all-app-l, all-app-r, all-imp}
 use Rattle.names.specs.declared.forms.NameClass.{NameClass}
 use Rattle.names.specs.declared.forms.NameClass.the-variants.{House, Generated, TooLong, Wrong}
-use Rattle.names.specs.Names.{house?, classNumber?, digit?, byLength, dotted, generated, nameClass, takes, allowed}
+use Rattle.names.specs.Numerals.{digit?}
+use Rattle.names.specs.Names.{house?, classNumber?, byLength, dotted, generated, nameClass, takes, allowed}
 use Rattle.name_store.specs.NameStore.{nameBytes, encodeNames, NamesForm, NamesOf, firstName, decodeNames, sameBytes, namesFrom?, names?}
 
 -- the test of two names is equality

@@ -1,3 +1,5 @@
 -- The laws of names.
 pub mod NameBits
 pub mod NameForms
+pub mod Decimals
+pub mod Numerals

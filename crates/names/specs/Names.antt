@@ -9,15 +9,13 @@ use Rattle.kinds.specs.Words.{byte}
 use Rattle.kinds.specs.declared.limits.Kind.{Kind}
 use Rattle.kinds.specs.declared.limits.Kind.the-variants.{Plain, Preference}
 use Rattle.rules.specs.Lists.{every}
+use Rattle.names.specs.Numerals.{digit?}
 use Rattle.names.specs.declared.forms.NameClass.{NameClass}
 use Rattle.names.specs.declared.forms.NameClass.the-variants.{House, Generated, TooLong, Wrong}
 
 -- a letter a to z
 abbrev pub letter? : ℕ → Bool
 letter? b = leb (byte "a") b && leb b (byte "z")
-
-abbrev pub digit? : ℕ → Bool
-digit? b = leb (byte "0") b && leb b (byte "9")
 
 -- a letter or a digit
 abbrev pub firstByte? : ℕ → Bool

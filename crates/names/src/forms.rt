@@ -2,7 +2,8 @@
 use kinds::limits::Kind;
 ghost use mathlib.Core.Path.{_≡_};
 ghost use Rattle.rules.specs.Lists.{every};
-ghost use Rattle.names.specs.Names.{letter?, digit?, firstByte?, nameByte?, house?, classNumber?, byLength, dotted, generated, nameClass, takes};
+ghost use Rattle.names.specs.Numerals.{digit?};
+ghost use Rattle.names.specs.Names.{letter?, firstByte?, nameByte?, house?, classNumber?, byLength, dotted, generated, nameClass, takes};
 
 pub enum NameClass {
     // A house name.

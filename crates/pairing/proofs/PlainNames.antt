@@ -1,11 +1,11 @@
 -- The translated names fit the plain program: allowed to it, all different, one for each atom, the file's names first.
-use Prim.Native.Nat.{ℕ, suc, _+_, _≤_}
+use Prim.Native.Nat.{ℕ, suc, _+_, _^_, _≤_, _<_}
 use native.Mathlib.Omega.{arith}
 use mathlib.Core.Path.{_≡_, refl, sym, ap, subst, _∙_}
-use mathlib.Core.List.{List, [], _∷_, _++_, map, head-eq-of-cons-eq, tail-eq-of-cons-eq}
+use mathlib.Core.List.{List, [], _∷_, _++_, map, tail-eq-of-cons-eq}
 use mathlib.Core.Bool.{Bool, true, false, not, _&&_, _||_, cond}
 use mathlib.Core.Logic.{_≢_, Iff·rfl}
-use lib.Dec.{T, leb, eqb, ltb}
+use lib.Dec.{T, leb, eqb}
 use lib.ListN.{length, getD, take, drop, length-map}
 use lib.Seq.{take-at}
 use borrow.Author.Tests.{le-leb, ne-eqb}
@@ -14,9 +14,10 @@ use Rattle.kinds.specs.Words.{digits, decimal}
 use Rattle.kinds.specs.declared.limits.Kind.the-variants.{Plain, Preference}
 use Rattle.rules.specs.Lists.{All, Distinct, from}
 use Rattle.rules.proofs.Booleans.{T-not-out, eq→eqb}
-use Rattle.rules.proofs.Lists.{all-imp, all-app, all-map, all-from, app-iff, every-from, distinct-from}
+use Rattle.rules.proofs.Lists.{all-imp, all-app, all-map, all-from, app-iff, every-from, distinct-from, distinct-map}
 use Rattle.stores.specs.Program.{Program, ProgramForm}
 use Rattle.names.specs.Names.{firstByte?, house?, classNumber?, nameClass, byLength, dotted, generated, takes, allowed}
+use Rattle.names.proofs.Decimals.{decimal-inj}
 use Rattle.name_store.specs.NameStore.{NamesForm}
 use Rattle.names.specs.declared.forms.NameClass.{NameClass}
 use Rattle.names.specs.declared.forms.NameClass.the-variants.{House, Generated, TooLong, Wrong}
@@ -26,7 +27,6 @@ use Rattle.pairing.specs.Loops.{dot, loopedNames}
 use Rattle.rules.proofs.ListLaws.{all-each, all-take, distinct-app, distinct-take, distinct-map-app, NoImage}
 use Rattle.pairing.proofs.Fit.{fit-of}
 use Rattle.pairing.proofs.Looped.{looped-names}
-use Rattle.pairing.proofs.Decimals.{short, shorts}
 
 -- a preference program takes house names only
 
@@ -75,15 +75,6 @@ end-allowed j l = every-from (λ j. allowed Plain (dot 69 (decimal j))) (λ j. T
 
 dot-inj : (c : ℕ) (x y : List ℕ) → dot c x ≡ dot c y → x ≡ y
 dot-inj c x y e = tail-eq-of-cons-eq (tail-eq-of-cons-eq e)
-
-short-inj : (i j : ℕ) → short i ≡ short j → i ≡ j
-short-inj i j = step (ltb i 10) (ltb j 10)
-  where
-    step : (a b : Bool) → cond a ((48 + i) ∷ []) (49 ∷ (38 + i) ∷ []) ≡ cond b ((48 + j) ∷ []) (49 ∷ (38 + j) ∷ []) → i ≡ j
-    step true true e = let q : 48 + i ≡ 48 + j = head-eq-of-cons-eq e in omega arith
-    step true false e = let q : _≡_ {A = ℕ} 1 2 = ap length e in absurd (omega arith)
-    step false true e = let q : _≡_ {A = ℕ} 2 1 = ap length e in absurd (omega arith)
-    step false false e = let q : 38 + i ≡ 38 + j = head-eq-of-cons-eq (tail-eq-of-cons-eq e) in omega arith
 
 -- y begins with another byte than c
 abbrev Other : ℕ → List ℕ → Type 0
@@ -138,8 +129,11 @@ module _ (p : Program) (kind : p .kind ≡ Preference) (form : ProgramForm p) (n
   ends-different : Distinct ends
   unfolding numbered
   ends-different =
-      subst (λ (l : List (List ℕ)). Distinct (l ++ ((85 ∷ []) ∷ []))) (sym (shorts (dot 69) 0 (suc (p .classes)) (omega (arith, fit-of p kind form .classes))))
-      (distinct-map-app (λ j. dot 69 (short j)) (λ i j e. short-inj i j (dot-inj 69 (short i) (short j) e)) (from 0 (suc (p .classes))) ((85 ∷ []) ∷ []) (distinct-from 0 (suc (p .classes))) (tt, tt) ((λ j. other 69 (46 ∷ short j) (85 ∷ []) tt), tt))
+      let low : All (λ j. j < 10 ^ 20) (from 0 (suc (p .classes))) = all-from (λ j. j < 10 ^ 20) 0 (suc (p .classes)) (λ j l u. omega (arith, fit-of p kind form .classes)) in
+      distinct-app (map (λ j. dot 69 (decimal j)) (from 0 (suc (p .classes)))) ((85 ∷ []) ∷ [])
+      (distinct-map (λ j. dot 69 (decimal j)) (λ j. j < 10 ^ 20) (λ i j l u e. decimal-inj i j l u (dot-inj 69 (decimal i) (decimal j) e)) (from 0 (suc (p .classes))) low (distinct-from 0 (suc (p .classes))))
+      (tt, tt)
+      (all-map (λ x. All (λ y. x ≢ y) ((85 ∷ []) ∷ [])) (λ j. dot 69 (decimal j)) (from 0 (suc (p .classes))) (all-each (λ j. All (λ y. dot 69 (decimal j) ≢ y) ((85 ∷ []) ∷ [])) (λ j. (other 69 (46 ∷ decimal j) (85 ∷ []) tt, tt)) (from 0 (suc (p .classes)))))
 
   abbrev NotHouse : List ℕ → Type 0
   NotHouse y = (house? y ≡ true) → ⊥

@@ -1,18 +1,17 @@
 -- A number's decimal digits: few enough, digits all, and they say that number.
 use Prim.Native.Nat.{ℕ, zero, suc, _+_, _-_, _*_, _/_, _%_, _^_, _≤_, _<_}
 use native.Mathlib.Omega.{arith}
-use mathlib.Core.Path.{_≡_, refl, sym, ap, _∙_}
+use mathlib.Core.Path.{_≡_, refl, sym, ap, ap₂, _∙_}
 use mathlib.Core.List.{List, [], _∷_, _++_}
 use mathlib.Core.Bool.{Bool, true, false, cond}
 use lib.Dec.{T, leb, ltb, le→leb}
 use lib.ListN.{length, length-append}
-use borrow.Author.Tests.{ltb-true}
+use borrow.Author.Tests.{ltb-true, ltb-false}
 use Rattle.kinds.specs.Words.{digits, decimal}
 use Rattle.rules.specs.Lists.{All}
 use Rattle.rules.proofs.Booleans.{T-and}
 use Rattle.rules.proofs.Lists.{all-app}
-use Rattle.names.specs.Names.{digit?}
-use Rattle.clauses.specs.Numerals.{valueFrom, value}
+use Rattle.names.specs.Numerals.{digit?, valueFrom, value}
 
 pub digits-few : (f x : ℕ) → length (digits f x) ≤ f
 unfolding digits
@@ -51,3 +50,20 @@ value-digits (suc f) x l = go (ltb x 10) (value-digits f (x / 10) (omega arith))
 
 pub decimal-inj : (x y : ℕ) → x < 10 ^ 20 → y < 10 ^ 20 → decimal x ≡ decimal y → x ≡ y
 decimal-inj x y l u e = sym (value-digits 20 x l) ∙ ap value e ∙ value-digits 20 y u
+
+-- below 20: one digit, or a 1 and another one
+abbrev pub short : ℕ → List ℕ
+short j = cond (ltb j 10) ((48 + j) ∷ []) (49 ∷ (38 + j) ∷ [])
+
+short-by : (j : ℕ) (b : Bool) → ltb j 10 ≡ b → j < 20 → cond b ((48 + j) ∷ []) (digits 19 (j / 10) ++ ((48 + j % 10) ∷ [])) ≡ cond b ((48 + j) ∷ []) (49 ∷ (38 + j) ∷ [])
+unfolding digits
+short-by j true e l = refl
+short-by j false e l =
+    let t : 10 ≤ j = ltb-false j 10 e in
+    let q : j / 10 ≡ 1 = omega arith in
+    let r : 48 + j % 10 ≡ 38 + j = omega arith in
+    ap₂ (λ (k m : ℕ). digits 19 k ++ (m ∷ [])) q r
+
+pub decimal-short : (j : ℕ) → j < 20 → decimal j ≡ short j
+unfolding digits
+decimal-short j l = short-by j (ltb j 10) refl l

@@ -1,4 +1,4 @@
--- The numbers of a clause file are exactly the decimal writings.
+-- The numbers without leading zero are exactly the decimal writings.
 use Prim.Native.Nat.{ℕ, zero, suc, _+_, _-_, _*_, _/_, _%_, _≤_, _<_}
 use native.Mathlib.Omega.{arith}
 use native.Mathlib.Decide.{ℕ-discrete}
@@ -13,9 +13,8 @@ use Rattle.kinds.specs.Words.{digits}
 use Rattle.rules.specs.Lists.{All, every, empty?}
 use Rattle.rules.proofs.Booleans.{T-and, T-and-l, T-and-r, T-or, T-or-out, T-not-in, T-not-out, eq→eqb}
 use Rattle.rules.proofs.Lists.{every-all}
-use Rattle.names.specs.Names.{digit?}
-use Rattle.clauses.specs.Numerals.{numeral?, valueFrom, value, DecimalWriting}
-use Rattle.clauses.proofs.Decimals.{digits-all}
+use Rattle.names.specs.Numerals.{digit?, numeral?, valueFrom, value, DecimalWriting}
+use Rattle.names.proofs.Decimals.{digits-all}
 
 not-empty : {b : ℕ} {s : List ℕ} → b ∷ s ≢ []
 not-empty e = let z : _≡_ {A = ℕ} 0 1 = cc in omega arith
