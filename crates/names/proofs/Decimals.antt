@@ -5,7 +5,7 @@ use mathlib.Core.Path.{_≡_, refl, sym, ap, ap₂, _∙_}
 use mathlib.Core.List.{List, [], _∷_, _++_}
 use mathlib.Core.Bool.{Bool, true, false, cond}
 use lib.Dec.{T, leb, ltb, le→leb}
-use lib.ListN.{length, length-append}
+use lib.ListN.{length, getD, length-append}
 use borrow.Author.Tests.{ltb-true, ltb-false}
 use Rattle.kinds.specs.Words.{digits, decimal}
 use Rattle.rules.specs.Lists.{All}
@@ -47,6 +47,28 @@ value-digits (suc f) x l = go (ltb x 10) (value-digits f (x / 10) (omega arith))
     go : (b : Bool) → valueFrom 0 (digits f (x / 10)) ≡ x / 10 → valueFrom 0 (cond b ((48 + x) ∷ []) (digits f (x / 10) ++ ((48 + x % 10) ∷ []))) ≡ x
     go true h = omega arith
     go false h = value-app 0 (digits f (x / 10)) ((48 + x % 10) ∷ []) ∙ omega arith
+
+-- at most k + 1 digits below 10 to the k + 1
+pub digits-below : (f x k : ℕ) → x < 10 ^ suc k → length (digits f x) ≤ suc k
+unfolding digits
+digits-below zero x k l = omega arith
+digits-below (suc f) x k l = go (ltb x 10) refl k l (λ k. digits-below f (x / 10) k)
+  where
+    go : (b : Bool) → ltb x 10 ≡ b → (k : ℕ) → x < 10 ^ suc k → ((k : ℕ) → x / 10 < 10 ^ suc k → length (digits f (x / 10)) ≤ suc k) → length (cond b ((48 + x) ∷ []) (digits f (x / 10) ++ ((48 + x % 10) ∷ []))) ≤ suc k
+    go true e k l r = omega arith
+    go false e zero l r = let h : 10 ≤ x = ltb-false x 10 e in absurd (omega arith)
+    go false e (suc k) l r = omega (arith, length-append (digits f (x / 10)) ((48 + x % 10) ∷ []), r k (omega arith))
+
+-- no zero first
+pub digits-first : (f x : ℕ) → 1 ≤ x → x < 10 ^ f → getD (digits f x) 0 0 ≡ 48 → ⊥
+unfolding digits value
+digits-first zero x l u e = omega arith
+digits-first (suc f) x l u e = go (ltb x 10) refl e (digits f (x / 10)) refl (λ l. digits-first f (x / 10) l (omega arith))
+  where
+    go : (b : Bool) → ltb x 10 ≡ b → getD (cond b ((48 + x) ∷ []) (digits f (x / 10) ++ ((48 + x % 10) ∷ []))) 0 0 ≡ 48 → (y : List ℕ) → digits f (x / 10) ≡ y → (1 ≤ x / 10 → getD (digits f (x / 10)) 0 0 ≡ 48 → ⊥) → ⊥
+    go true t e y q r = omega arith
+    go false t e [] q r = let h : 10 ≤ x = ltb-false x 10 t in omega (arith, value-digits f (x / 10) (omega arith), ap value q)
+    go false t e (b ∷ y) q r = let h : 10 ≤ x = ltb-false x 10 t in r (omega arith) (ap (λ (z : List ℕ). getD z 0 0) q ∙ sym (ap (λ (z : List ℕ). getD (z ++ ((48 + x % 10) ∷ [])) 0 0) q) ∙ e)
 
 pub decimal-inj : (x y : ℕ) → x < 10 ^ 20 → y < 10 ^ 20 → decimal x ≡ decimal y → x ≡ y
 decimal-inj x y l u e = sym (value-digits 20 x l) ∙ ap value e ∙ value-digits 20 y u
