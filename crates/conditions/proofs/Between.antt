@@ -32,7 +32,7 @@ pub filter-two : (t : ℕ → Bool) (q n : ℕ) → q ≤ n → filter t (from 0
 filter-two t q n l = ap (filter t) (from-parts q n l) ∙ filter-app t (from 0 q) (from q (n - q))
 
 -- the entries that pass lie where they are looked for
-filter-within : (t : ℕ → Bool) (s c : ℕ) → All (λ a. (s ≤ a) × (a < s + c)) (filter t (from s c))
+pub filter-within : (t : ℕ → Bool) (s c : ℕ) → All (λ a. (s ≤ a) × (a < s + c)) (filter t (from s c))
 filter-within t s c = all-filter _ t (from s c) (all-from _ s c (λ a l u h. (l, u)))
 
 module _ (t u : ℕ → Bool) (q k n : ℕ) (fits : q ≤ n)

@@ -27,7 +27,7 @@ use Rattle.conditions.proofs.Classes.{unfixed-le}
 use Rattle.conditions.proofs.Congruent.{direct-congr, preferred-congr, valued-congr, preferred-valued}
 
 -- set t, cut to the planner's atoms, has the members of s: n planner's atoms
-abbrev CutsTo : ℕ → ℕ → ℕ → ℕ → ℕ → Type 0
+abbrev pub CutsTo : ℕ → ℕ → ℕ → ℕ → ℕ → Type 0
 CutsTo q k n t s = (a : ℕ) → a < n → has t (place q k (planner a)) ≡ has s a
 
 -- q planner's atoms stand before the T atoms
