@@ -2,15 +2,13 @@
 use Prim.Native.Nat.{ℕ, _+_, _^_, _<_}
 use native.Mathlib.Omega.{arith}
 use mathlib.Core.Path.{_≡_, refl, sym, ap, subst, _∙_}
-use mathlib.Core.List.{List, map}
-use lib.ListN.{length, getD, length-map}
+use mathlib.Core.List.{List}
+use lib.ListN.{length, length-map}
 use Rattle.rules.specs.Lists.{from}
 use Rattle.rules.specs.Sets.{has}
 use Rattle.rules.specs.Rules.{rename}
-use Rattle.rules.specs.Preferred.{Preferred}
 use Rattle.rules.proofs.Lists.{length-from, map-from-at}
 use Rattle.rules.proofs.Sets.{same-set}
-use Rattle.stores.specs.Program.{Program}
 use Rattle.restriction.specs.Atoms.{entries}
 use Rattle.restriction.specs.Remaining.{remaining}
 use Rattle.restriction.specs.PreferredLeft.{cutTo}

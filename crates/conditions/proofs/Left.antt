@@ -2,12 +2,12 @@
 use Prim.Native.Nat.{ℕ, suc, _+_, _-_, _≤_, _<_}
 use native.Mathlib.Omega.{arith}
 use mathlib.Core.Path.{_≡_, refl, sym, ap, ap₂, subst, _∙_}
-use mathlib.Core.List.{List, [], _∷_, _++_, map, map-append}
+use mathlib.Core.List.{List, [], map, map-append}
 use mathlib.Core.Bool.{Bool}
 use lib.Dec.{T}
 use lib.ListN.{length, getD, take, drop, replicate, length-drop, length-map, length-replicate}
 use lib.Seq.{length-take-le, getD-take, getD-drop}
-use Rattle.kinds.specs.Limits.{varying, fixed}
+use Rattle.kinds.specs.Limits.{varying}
 use Rattle.kinds.specs.declared.limits.Kind.the-variants.{Preference}
 use Rattle.rules.specs.Lists.{All, filter, flat, from}
 use Rattle.rules.specs.Rules.{Rule, rename}
@@ -15,7 +15,7 @@ use Rattle.rules.specs.Renumbering.{Within}
 use Rattle.rules.proofs.Booleans.{T-of, bool-ext}
 use Rattle.rules.proofs.Lists.{all-imp, all-zip, all-any, all-at, all-map, all-from, from-all, length-from, some-each}
 use Rattle.rules.proofs.Rules.{any-in}
-use Rattle.rules.proofs.Renumbering.{within-imp, rename-same, rename-again}
+use Rattle.rules.proofs.Renumbering.{rename-same, rename-again}
 use Rattle.restriction.specs.Atoms.{member?, atomsOf, used?, used, placeIn, renumbered, entries}
 use Rattle.restriction.specs.Remaining.{restrict, remaining, remainingNames}
 use Rattle.restriction.proofs.Places.{member-all, members, member-filter, at-place, within-atoms}
@@ -25,7 +25,7 @@ use Rattle.conditions.specs.Conditions.{Atom, planner, made, Statement, 
 use Rattle.conditions.specs.Written.{written}
 use Rattle.conditions.specs.Numbers.{unfixed, place, inserted, placedWords, placedRules, Taken, Declared}
 use Rattle.conditions.specs.Programs.{Typed, writtenProgram}
-use Rattle.conditions.specs.Left.{spoken, renameStatement, leftStatements, madeName, writtenNames}
+use Rattle.conditions.specs.Left.{spoken, leftStatements, madeName, writtenNames}
 use Rattle.conditions.proofs.Classes.{Unfixed, Fixed, unfixed-le, unfixed-parts, unfixed-app, words-high}
 use Rattle.conditions.proofs.Placed.{place-low, place-high}
 use Rattle.conditions.proofs.Formed.{apart}
