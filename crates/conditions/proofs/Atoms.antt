@@ -1,6 +1,5 @@
 -- The atoms of the written rules: the planner's that the statements name, and the T atoms of their connectives.
 use Prim.Native.Nat.{ℕ}
-use mathlib.Core.Path.{refl}
 use mathlib.Core.List.{List, [], _∷_, _++_, map}
 use mathlib.Core.Logic.{_↔_}
 use Rattle.rules.specs.Lists.{All, flat}
@@ -9,7 +8,7 @@ use Rattle.rules.specs.Renumbering.{Within}
 use Rattle.rules.proofs.Lists.{all-imp, all-app, all-app-l, all-app-r, all-map, map-all}
 use Rattle.restriction.proofs.Places.{within-atoms}
 use Rattle.conditions.specs.Conditions.{Atom, planner, made, Cond, name, NOT, AND, OR, Statement, states, when, namesOf, connectives, statementNames, statementConnectives, madeAtoms}
-use Rattle.conditions.specs.Written.{once, part, andRules, orRules, notRules, connectiveRules, thenRule, statementRules, written}
+use Rattle.conditions.specs.Written.{part, andRules, orRules, notRules, connectiveRules, thenRule, statementRules, written}
 use Rattle.conditions.proofs.Connectives.{once-all}
 
 -- rules by other atoms

@@ -2,7 +2,7 @@
 use Prim.Native.Nat.{ℕ, _+_, _-_, _≤_, _<_}
 use native.Mathlib.Omega.{arith}
 use native.Mathlib.Decide.{decLt}
-use mathlib.Core.Path.{_≡_, refl, sym, ap, ap₂, subst, _∙_}
+use mathlib.Core.Path.{_≡_, sym, ap, ap₂, subst, _∙_}
 use mathlib.Core.List.{List, _++_, map, map-map, map-append, append-assoc}
 use mathlib.Core.Bool.{Bool}
 use lib.Dec.{T}
@@ -17,7 +17,7 @@ use Rattle.rules.proofs.MappedLists.{filter-map}
 use Rattle.rules.proofs.Filtered.{filter-app, filter-every, filter-same}
 use Rattle.restriction.specs.Atoms.{placeIn, entries}
 use Rattle.restriction.proofs.Places.{member-filter, at-place, filter-place}
-use Rattle.conditions.specs.Conditions.{planner, made}
+use Rattle.conditions.specs.Conditions.{planner}
 use Rattle.conditions.specs.Numbers.{place, inserted}
 use Rattle.conditions.proofs.Placed.{place-low, place-high, inserted-planner}
 
@@ -32,7 +32,7 @@ pub filter-two : (t : ℕ → Bool) (q n : ℕ) → q ≤ n → filter t (from 0
 filter-two t q n l = ap (filter t) (from-parts q n l) ∙ filter-app t (from 0 q) (from q (n - q))
 
 -- the entries that pass lie where they are looked for
-filter-within : (t : ℕ → Bool) (s c : ℕ) → All (λ a. (s ≤ a) × (a < s + c)) (filter t (from s c))
+pub filter-within : (t : ℕ → Bool) (s c : ℕ) → All (λ a. (s ≤ a) × (a < s + c)) (filter t (from s c))
 filter-within t s c = all-filter _ t (from s c) (all-from _ s c (λ a l u h. (l, u)))
 
 module _ (t u : ℕ → Bool) (q k n : ℕ) (fits : q ≤ n)
@@ -99,7 +99,7 @@ module _ (t u : ℕ → Bool) (q k n : ℕ) (fits : q ≤ n)
       let long : q ≤ length l = omega arith in
       let planners : (r : List ℕ) → map get (map at r) ≡ map old r = λ r. map-map get at r ∙ map-eq (λ a. get (at a)) old (inserted-planner q k d l others long many) r in
       let madeOnes : map get (from q k) ≡ others = subst (λ (s : ℕ). map get (from s k) ≡ others) (length-take-le q l long)
-              (following d (others ++ drop q l) (take q l) k (omega (arith, length-append others (drop q l))) ∙ take-at others (drop q l) k many) in
+      (following d (others ++ drop q l) (take q l) k (omega (arith, length-append others (drop q l))) ∙ take-at others (drop q l) k many) in
       let parts : map old xs ≡ map old first ++ map old second = ap (map old) (filter-two t q n fits) ∙ map-append old first second in
       ap (map get) between-list
       ∙ (map-append get (map at first) (from q k ++ map at second)
@@ -132,16 +132,16 @@ module _ (t u : ℕ → Bool) (q k n : ℕ) (fits : q ≤ n)
           let more = filter t (from q (a - q)) in
           let e : k + a ≡ a + k = omega arith in
           let c : length (filter u (from 0 (a + k))) ≡ placeIn xs a + k = omega (
-                arith,
-                count,
-                ap length (high-part a (omega arith) (omega arith)),
-                length-append (first ++ from q k) (map (λ (b : ℕ). k + b) more),
-                length-append first (from q k),
-                length-from q k,
-                length-map more (λ (b : ℕ). k + b),
-                ap length (filter-two t q a (omega arith)),
-                length-append first more,
-              ) in
+            arith,
+            count,
+            ap length (high-part a (omega arith) (omega arith)),
+            length-append (first ++ from q k) (map (λ (b : ℕ). k + b) more),
+            length-append first (from q k),
+            length-from q k,
+            length-map more (λ (b : ℕ). k + b),
+            ap length (filter-two t q a (omega arith)),
+            length-append first more,
+          ) in
           ap (placeIn ys) (place-high q k a (omega arith))
           ∙ (filter-place u (n + k) (a + k) (omega arith) (T-of (sym (high a (omega arith) l) ∙ ap u e) h)
           ∙ (c ∙ sym (place-high (length first) k (placeIn xs a) (omega (arith, count, ap length (filter-two t q a (omega arith)), length-append first more)))))

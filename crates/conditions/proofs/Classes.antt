@@ -20,10 +20,10 @@ use Rattle.stores.proofs.ClassWord.{above, varies}
 use Rattle.conditions.specs.Numbers.{unfixed, placedWords}
 use Rattle.conditions.proofs.Placed.{words-length}
 
-abbrev Unfixed : ℕ → Type 0
+abbrev pub Unfixed : ℕ → Type 0
 Unfixed w = w ≤ varying
 
-abbrev Fixed : ℕ → Type 0
+abbrev pub Fixed : ℕ → Type 0
 Fixed w = w ≡ fixed
 
 abbrev unfixed? : ℕ → Bool

@@ -3,12 +3,19 @@ use Prim.Native.Nat.{ℕ, _^_}
 use mathlib.Core.Path.{_≡_, refl}
 use mathlib.Core.List.{List, [], _∷_}
 use lib.ListN.{length}
-use Rattle.rules.specs.Lists.{filter, from}
+use Rattle.kinds.specs.Words.{bytes, digits}
+use Rattle.kinds.specs.declared.limits.Kind.the-variants.{Preference}
+use Rattle.rules.specs.Lists.{filter, flat, from}
 use Rattle.rules.specs.Rules.{rule}
 use Rattle.rules.specs.Preferred.{preferred?}
-use Rattle.conditions.specs.Conditions.{Atom, planner, made, name, NOT, AND, OR, Statement, states, when, connectives, numberFrom, numberStatements}
+use Rattle.restriction.specs.Atoms.{used}
+use Rattle.restriction.specs.Remaining.{restrict, remaining}
+use Rattle.conditions.specs.Conditions.{Atom, planner, made, name, NOT, AND, OR, Statement, states, when, connectives, namesOf, numberFrom, numberStatements}
 use Rattle.conditions.specs.Written.{once, connectiveRules, written}
-use Rattle.conditions.specs.Numbers.{unfixed, placedWords, placedRules, writtenWords, writtenRules}
+use Rattle.conditions.specs.Numbers.{unfixed, placedWords, placedRules, writtenWords, writtenRules, inFile, conditionRules, fileRules}
+use Rattle.conditions.specs.Programs.{writtenProgram}
+use Rattle.conditions.specs.Left.{spoken, renameCond, leftStatements, madeName, writtenNames}
+use Rattle.conditions.specs.DirectReading.{cutToPlanner}
 
 abbrev a : Atom
 a = planner 0
@@ -68,6 +75,21 @@ and-or : written (numberStatements 1 (when (OR (AND (name 0) 0 (name 1)) 0 (name
 unfolding once connectives connectiveRules numberFrom numberStatements
 and-or = refl
 
+-- (when not (a and b) or c (then d)): `not` binds first, then stands the word `and`
+not-and-or : written (numberStatements 1 (when (OR (NOT 0 (AND (name 0) 0 (name 1))) 0 (name 2)) 3 ∷ [])) ≡
+    rule (made 1 ∷ made 2 ∷ []) [] []
+    ∷ rule [] (made 1 ∷ made 2 ∷ []) []
+    ∷ rule (made 2 ∷ []) (a ∷ b ∷ []) []
+    ∷ rule (a ∷ []) (made 2 ∷ []) []
+    ∷ rule (b ∷ []) (made 2 ∷ []) []
+    ∷ rule (made 1 ∷ c ∷ []) (made 3 ∷ []) []
+    ∷ rule (made 3 ∷ []) (made 1 ∷ []) []
+    ∷ rule (made 3 ∷ []) (c ∷ []) []
+    ∷ rule (planner 3 ∷ []) (made 3 ∷ []) []
+    ∷ []
+unfolding once connectives connectiveRules numberFrom numberStatements
+not-and-or = refl
+
 -- (when (a or b and not a) (then b)), then (when (not a) (then b)): through the whole file
 numbers-go-on : numberStatements 1 (when (OR (name 0) 0 (AND (name 1) 0 (NOT 0 (name 0)))) 1 ∷ when (NOT 0 (name 0)) 1 ∷ []) ≡
     when (OR (name 0) 1 (AND (name 1) 2 (NOT 3 (name 0)))) 1 ∷ when (NOT 4 (name 0)) 1 ∷ []
@@ -97,3 +119,53 @@ fixed-a-states = refl
 not-a-states : preferredSets (1 ∷ 17 ∷ 17 ∷ []) (when (NOT 1 (name 1)) 2 ∷ []) ≡ 2 ∷ 6 ∷ 12 ∷ []
 unfolding once connectives connectiveRules unfixed placedWords placedRules
 not-a-states = refl
+
+-- what is left: of four atoms, the last fixed, number 1 stands nowhere; T.1 and T.2 stand before the fixed one
+
+abbrev file : List Statement
+file = when (NOT 1 (OR (name 2) 2 (name 3))) 0 ∷ []
+
+left-over : spoken 4 file ≡ 0 ∷ 2 ∷ 3 ∷ []
+unfolding namesOf spoken
+left-over = refl
+
+left-file : leftStatements (spoken 4 file) file ≡ when (NOT 1 (OR (name 1) 2 (name 2))) 0 ∷ []
+unfolding namesOf renameCond spoken
+left-file = refl
+
+left-program : remaining (writtenProgram 1 (1 ∷ 1 ∷ 17 ∷ 18 ∷ []) file) ≡ record {
+  kind = Preference;
+  atoms = 5;
+  classes = 1;
+  words = 1 ∷ 17 ∷ 17 ∷ 17 ∷ 18 ∷ [];
+  rules = rule (2 ∷ 3 ∷ []) [] []
+      ∷ rule [] (2 ∷ 3 ∷ []) []
+      ∷ rule (1 ∷ 4 ∷ []) (3 ∷ []) []
+      ∷ rule (3 ∷ []) (1 ∷ []) []
+      ∷ rule (3 ∷ []) (4 ∷ []) []
+      ∷ rule (0 ∷ []) (2 ∷ []) []
+      ∷ [];
+}
+unfolding once connectives connectiveRules unfixed placedWords placedRules writtenProgram remaining restrict used
+left-program = refl
+
+names : writtenNames 2 2 (bytes "b" ∷ bytes "a" ∷ bytes "c" ∷ []) ≡ bytes "b" ∷ bytes "a" ∷ bytes "T.1" ∷ bytes "T.2" ∷ bytes "c" ∷ []
+unfolding digits madeName writtenNames
+names = refl
+
+-- a set of the five atoms, cut to the planner's three
+cut : cutToPlanner (1 ∷ 17 ∷ 18 ∷ []) (leftStatements (spoken 4 file) file) 26 ≡ 6
+unfolding namesOf connectives renameCond spoken unfixed
+cut = refl
+
+-- while the file is read T.1 and T.2 have the numbers 4 and 5
+in-file : flat (fileRules 4) (when (NOT 1 (OR (name 2) 2 (name 3))) 0 ∷ []) ≡
+    rule (4 ∷ 5 ∷ []) [] []
+    ∷ rule [] (4 ∷ 5 ∷ []) []
+    ∷ rule (2 ∷ 3 ∷ []) (5 ∷ []) []
+    ∷ rule (5 ∷ []) (2 ∷ []) []
+    ∷ rule (5 ∷ []) (3 ∷ []) []
+    ∷ rule (0 ∷ []) (4 ∷ []) []
+    ∷ []
+unfolding once connectiveRules inFile conditionRules
+in-file = refl

@@ -79,7 +79,6 @@ IsMade k t = (1 ≤ t) × (t ≤ k)
 
 -- n planner's atoms and k T atoms
 module _ (n k : ℕ) where
-
   part-declared : (c : Cond) → All (λ a. a < n) (namesOf c) → All (IsMade k) (connectives c) → Declared n k (part c)
   unfolding namesOf connectives
   part-declared (name a) h m = h .0

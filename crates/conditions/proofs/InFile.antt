@@ -105,9 +105,9 @@ module _ (n : ℕ) (c : Cond) (a : ℕ) where
   unfolding conditionRules
   condition-forms k m j names numbered room =
       let formed = statement-formed n k (when c a) names
-              (subst (All (IsMade k)) (sym numbered) (all-from (IsMade k) (suc m) j (λ t l u. (omega arith, omega arith)))) (subst Distinct (sym numbered) (distinct-from (suc m) j)) in
+      (subst (All (IsMade k)) (sym numbered) (all-from (IsMade k) (suc m) j (λ t l u. (omega arith, omega arith)))) (subst Distinct (sym numbered) (distinct-from (suc m) j)) in
       let same = rename-same (inFile n) (place n k) (statementRules (when c a))
-              (all-imp (Formed (Declared n k)) (Within (λ x. inFile n x ≡ place n k x)) (λ r f. let w = formed-within (Declared n k) r f in record { head = all-imp _ _ (in-place n k) (r .head) (w .head); body = all-imp _ _ (in-place n k) (r .body) (w .body); nots = all-imp _ _ (in-place n k) (r .nots) (w .nots) }) (statementRules (when c a)) formed) in
+      (all-imp (Formed (Declared n k)) (Within (λ x. inFile n x ≡ place n k x)) (λ r f. let w = formed-within (Declared n k) r f in record { head = all-imp _ _ (in-place n k) (r .head) (w .head); body = all-imp _ _ (in-place n k) (r .body) (w .body); nots = all-imp _ _ (in-place n k) (r .nots) (w .nots) }) (statementRules (when c a)) formed) in
       subst (All (RuleForm Preference (n + k))) (sym same) (rules-placed n k n (omega arith) (statementRules (when c a)) formed)
 
   -- two or three rules a connective, and the last one

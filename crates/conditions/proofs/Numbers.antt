@@ -27,7 +27,7 @@ use Rattle.conditions.proofs.Classes.{unfixed-le}
 use Rattle.conditions.proofs.Congruent.{direct-congr, preferred-congr, valued-congr, preferred-valued}
 
 -- set t, cut to the planner's atoms, has the members of s: n planner's atoms
-abbrev CutsTo : ℕ → ℕ → ℕ → ℕ → ℕ → Type 0
+abbrev pub CutsTo : ℕ → ℕ → ℕ → ℕ → ℕ → Type 0
 CutsTo q k n t s = (a : ℕ) → a < n → has t (place q k (planner a)) ≡ has s a
 
 -- q planner's atoms stand before the T atoms
@@ -203,13 +203,6 @@ module _ (ws : List ℕ) (ls : List Statement) (taken : Taken ws ls) where
   -- one atom a connective
   pub numbers-atoms : length (writtenWords ws ls) ≡ length ws + length (madeAtoms ls)
   numbers-atoms = words-length (unfixed ws) (length (madeAtoms ls)) ws (unfixed-le ws)
-
-  -- a set is a model of the written program exactly when its cut is a direct model and each T has its condition's value
-  pub numbers-model : (t : ℕ) → Model (writtenRules ws ls) (has t) ↔ (DirectModel ls (λ a. has t (place (unfixed ws) (length (madeAtoms ls)) (planner a))) × Valued (λ c. has t (place (unfixed ws) (length (madeAtoms ls)) c)) ls)
-  numbers-model t =
-      let rl = rules-law ws ls taken (unfixed ws) (unfixed-le ws) t in
-      let wl = written-law (at ws ls taken (unfixed ws) (unfixed-le ws) t) ls in
-      (λ h. wl .0 (rl .0 h), λ h. rl .1 (wl .1 h))
 
 -- without conditions the direct reading is document 01's
 

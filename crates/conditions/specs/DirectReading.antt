@@ -11,14 +11,14 @@ use Rattle.conditions.specs.Conditions.{Statement, madeAtoms}
 use Rattle.conditions.specs.Readings.{DirectSet}
 use Rattle.conditions.specs.Numbers.{unfixed, plannerPlaces}
 
--- a set of the program's atoms, cut to the planner's
+-- a set of the written program's atoms, cut to the planner's
 abbrev pub cutToPlanner : List ℕ → List Statement → ℕ → ℕ
 cutToPlanner ws ls t = cutTo (plannerPlaces (unfixed ws) (length (madeAtoms ls)) (length ws)) t
 
--- program p is what class words ws and statements ls, all of whose atoms stand in a statement, say directly
+-- by its preferred sets program p is what class words ws and statements ls say directly
 pub record DirectReading (ws : List ℕ) (ls : List Statement) (p : Program) : Type 0 where
   pub paired : (s : ℕ) → s < 2 ^ length ws → DirectSet ws ls s ↔ ((t : ℕ) × (t < 2 ^ p .atoms) × Preferred (p .words) (p .rules) t × (cutToPlanner ws ls t ≡ s))
   pub only-one : (t u : ℕ) → t < 2 ^ p .atoms → u < 2 ^ p .atoms → Preferred (p .words) (p .rules) t → Preferred (p .words) (p .rules) u → cutToPlanner ws ls t ≡ cutToPlanner ws ls u → t ≡ u
-  -- "added are one atom and at most three rules a connective, and one rule a condition"
+  -- "added are one atom and at most three rules a connective, and one rule a condition": a statement is a rule or a condition
   pub atoms : p .atoms ≡ length ws + length (madeAtoms ls)
   pub rules : length (p .rules) ≤ length ls + 3 * length (madeAtoms ls)

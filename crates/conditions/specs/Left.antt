@@ -28,7 +28,7 @@ abbrev pub leftStatements : List ℕ → List Statement → List Statement
 leftStatements xs ls = map (renameStatement (placeIn xs)) ls
 
 -- "named `T.` and a number from 1"
-abbrev pub madeName : ℕ → List ℕ
+unfoldable pub madeName : ℕ → List ℕ
 madeName t = bytes "T." ++ decimal t
 
 -- the names with those of the k made atoms after the q unfixed ones
