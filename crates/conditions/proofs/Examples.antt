@@ -14,7 +14,8 @@ use Rattle.conditions.specs.Conditions.{Atom, planner, made, name, NOT, 
 use Rattle.conditions.specs.Written.{once, connectiveRules, written}
 use Rattle.conditions.specs.Numbers.{unfixed, placedWords, placedRules, writtenWords, writtenRules, inFile, conditionRules, fileRules}
 use Rattle.conditions.specs.Programs.{writtenProgram}
-use Rattle.conditions.specs.Left.{spoken, renameCond, leftStatements, madeName, writtenNames}
+use Rattle.conditions.specs.Left.{spoken, renameCond, leftStatements, writtenNames}
+use Rattle.names.specs.Names.{madeName}
 use Rattle.conditions.specs.DirectReading.{cutToPlanner}
 
 abbrev a : Atom

@@ -25,7 +25,8 @@ use Rattle.conditions.specs.Conditions.{Atom, planner, made, Statement, 
 use Rattle.conditions.specs.Written.{written}
 use Rattle.conditions.specs.Numbers.{unfixed, place, inserted, placedWords, placedRules, Taken, Declared}
 use Rattle.conditions.specs.Programs.{Typed, writtenProgram}
-use Rattle.conditions.specs.Left.{spoken, leftStatements, madeName, writtenNames}
+use Rattle.conditions.specs.Left.{spoken, leftStatements, writtenNames}
+use Rattle.names.specs.Names.{madeName}
 use Rattle.conditions.proofs.Classes.{Unfixed, Fixed, unfixed-le, unfixed-parts, unfixed-app, words-high}
 use Rattle.conditions.proofs.Placed.{place-low, place-high}
 use Rattle.conditions.proofs.Formed.{apart}

@@ -1,7 +1,7 @@
 -- What is left of a file with conditions: the planner's atoms that stand in a rule or a condition (document 02, W-203 and W-208).
 use Prim.Native.Nat.{ℕ}
 use mathlib.Core.List.{List, _++_, map}
-use Rattle.kinds.specs.Words.{bytes, decimal}
+use Rattle.names.specs.Names.{madeName}
 use Rattle.rules.specs.Lists.{filter, flat, from}
 use Rattle.rules.specs.Rules.{rename}
 use Rattle.restriction.specs.Atoms.{member?, placeIn}
@@ -26,10 +26,6 @@ renameStatement f (when c a) = when (renameCond f c) (f a)
 -- the statements with each atom by its place
 abbrev pub leftStatements : List ℕ → List Statement → List Statement
 leftStatements xs ls = map (renameStatement (placeIn xs)) ls
-
--- "named `T.` and a number from 1"
-unfoldable pub madeName : ℕ → List ℕ
-madeName t = bytes "T." ++ decimal t
 
 -- the names with those of the k made atoms after the q unfixed ones
 unfoldable pub writtenNames : ℕ → ℕ → List (List ℕ) → List (List ℕ)
