@@ -3,7 +3,7 @@ use Prim.Native.Nat.{ℕ, suc, _+_, _*_, _≤_, _<_}
 use native.Mathlib.Omega.{arith}
 use mathlib.Core.Path.{_≡_, refl, sym, ap, _∙_, subst}
 use mathlib.Core.List.{List, [], _∷_, _++_, append-assoc}
-use mathlib.Core.Bool.{Bool, true, false, not, _||_}
+use mathlib.Core.Bool.{Bool, true, false, not, _||_, or-false}
 use lib.ListN.{length, length-append}
 use lib.Seq.{length-sets}
 use borrow.Author.Tests.{lt-leb}
@@ -37,13 +37,12 @@ use Rattle.condition_line.specs.ConditionLine.{conditionCounts, withCond
 
 -- one name more
 some-last : (p : List ℕ → Bool) (xs : List (List ℕ)) (a : List ℕ) → some p xs ≡ false → {b : Bool} → p a ≡ b → some p (xs ++ (a ∷ [])) ≡ b
-some-last p [] a e {true} f = rw f
-some-last p [] a e {false} f = rw f
-some-last p (x ∷ xs) a e {b} f = go (p x) e (some-last p xs a) f
+some-last p [] a e f = or-false (p a) ∙ f
+some-last p (x ∷ xs) a e {b} f = go (p x) e (λ q. some-last p xs a q f)
   where
-    go : (c : Bool) → (c || some p xs) ≡ false → (some p xs ≡ false → {d : Bool} → p a ≡ d → some p (xs ++ (a ∷ [])) ≡ d) → p a ≡ b → (c || some p (xs ++ (a ∷ []))) ≡ b
-    go true e r f = absurd (let z : _≡_ {A = ℕ} 0 1 = cc in omega arith)
-    go false e r f = r e f
+    go : (c : Bool) → (c || some p xs) ≡ false → (some p xs ≡ false → some p (xs ++ (a ∷ [])) ≡ b) → (c || some p (xs ++ (a ∷ []))) ≡ b
+    go true e r = absurd (let z : _≡_ {A = ℕ} 0 1 = cc in omega arith)
+    go false e r = r e
 
 some-front : (p : List ℕ → Bool) (xs : List (List ℕ)) (a : List ℕ) → some p xs ≡ true → some p (xs ++ (a ∷ [])) ≡ true
 some-front p [] a e = absurd (let z : _≡_ {A = ℕ} 0 1 = cc in omega arith)
@@ -87,14 +86,14 @@ module _ (st : SoFar) (ts : List Token) (a : List ℕ) (preference : st .kind �
 
 -- what it adds
 
-module _ {g : Gathered} {words bytes : List ℕ} (h : Held Preference (stateOf Preference g words bytes) g words bytes) (ts : List Token) (a : List ℕ) {count : ℕ} where
+module _ {g : Gathered} {words bytes : List ℕ} (h : Held Preference (stateOf Preference g words bytes) g words bytes) where
   abbrev st : SoFar
   st = stateOf Preference g words bytes
 
   abbrev n : ℕ
   n = length (st .names)
 
-  module _ (t : Tested st ts a count) where
+  module _ (ts : List Token) (a : List ℕ) {count : ℕ} (t : Tested st ts a count) where
     pub name-unknown : among (st .names) a ≡ false → stepForm st (condition ts a) ≡ fault Undeclared
     name-unknown e = not-declared st ts a (h .kind-is) (t .ruling) (t .parses .1) (t .shallow) (t .none-refused) (t .untaken) (some-last (λ x. not (among (st .names) x)) (namesIn ts) a (t .all-declared) (ap not e))
 
@@ -108,7 +107,7 @@ module _ {g : Gathered} {words bytes : List ℕ} (h : Held Preference (stateOf P
       pub no-room : atomLimit Preference < g .counts .atoms + g .made + count → stepForm st (condition ts a) ≡ fault Limit
       no-room l =
           all-known st ts a (h .kind-is) (t .ruling) (t .parses .1) (t .shallow) (t .none-refused) (t .untaken) declared {fits = false}
-          (rw (lt-leb (n + (g .made + connectivesIn ts)) (atomLimit Preference) (omega (arith, atoms-is h, t .is-count))))
+          (rw (lt-leb (n + (st .made + connectivesIn ts)) (atomLimit Preference) (omega (arith, atoms-is h, h .made-is, t .is-count))))
 
       module _ {c : Cond} (p : parse (nameNumber (st .names)) (suc (st .made)) ts ≡ parsed c) where
         abbrev new : List (Rule ℕ)
@@ -130,8 +129,8 @@ module _ {g : Gathered} {words bytes : List ℕ} (h : Held Preference (stateOf P
           new-counts : conditionCounts (g .counts) (g .counts .atoms) rules places ≡ countsOf after
           new-counts = λ i. record { atoms = atoms-is h i; rules = rules-more i; occurrences = places-more i }
 
-          atoms-more : g .counts .atoms + (g .made + count) ≡ n + (g .made + connectivesIn ts)
-          atoms-more = omega (arith, atoms-is h, t .is-count)
+          atoms-more : g .counts .atoms + (g .made + count) ≡ n + (st .made + connectivesIn ts)
+          atoms-more = omega (arith, atoms-is h, h .made-is, t .is-count)
 
           all-counts : allCounts after ≡ all
           all-counts = λ i. record { atoms = sym atoms-more i; rules = sym rules-more i; occurrences = sym places-more i }
@@ -167,7 +166,7 @@ module _ {g : Gathered} {words bytes : List ℕ} (h : Held Preference (stateOf P
                   stage-is = h .stage-is;
                   classes-is = h .classes-is;
                   counts-are = new-counts;
-                  made-is = ap (λ k. g .made + k) (t .is-count);
+                  made-is = omega (arith, h .made-is, t .is-count);
                   class-words = h .class-words;
                   stored =
                       subst (λ x. Filled words₂ 4 end x) stored-more
