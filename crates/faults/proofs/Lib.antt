@@ -1,6 +1,7 @@
 -- The laws of the faults.
 pub mod NameClasses
 pub mod Entries
+pub mod Conditions
 pub mod LineTokens
 pub mod LineForms
 pub mod TextLines
