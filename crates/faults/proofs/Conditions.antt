@@ -307,17 +307,20 @@ module _ (numbers : List ℕ → ℕ) where
       awaits : Awaits ps earlier first
 
     joined-not : {ps : List Pending} {u : ℕ} {c : Cond} {us : List Token} {t : ℕ} → Behind (negate u ∷ ps) c us t → (b : Behind ps (NOT u c) us t) × BeforeOr (b .tree)
-    joined-not {ps} {u} h = let (vs, e, n, a) = h .awaits in let d = h .number in (record {
-      earlier = vs;
-      first = u;
-      tree = negation (h .tree);
-      read = h .read ∙ ap (λ us. us ++ typedAs (h .tree)) e ∙ append-assoc vs (word notWord ∷ []) (typedAs (h .tree));
-      grouped = (place-close (negate u ∷ ps) (h .tree) (λ p. p) (h .place), h .grouped);
-      place = tt;
-      means = ap (NOT u) (ap (λ k. meant numbers k (h .tree)) (sym n) ∙ h .means);
-      number = omega arith;
-      awaits = a;
-    }, tt)
+    joined-not {ps} {u} h = let (vs, e, n, a) = h .awaits in let d = h .number in (
+      record {
+        earlier = vs;
+        first = u;
+        tree = negation (h .tree);
+        read = h .read ∙ ap (λ us. us ++ typedAs (h .tree)) e ∙ append-assoc vs (word notWord ∷ []) (typedAs (h .tree));
+        grouped = (place-close (negate u ∷ ps) (h .tree) (λ p. p) (h .place), h .grouped);
+        place = tt;
+        means = ap (NOT u) (ap (λ k. meant numbers k (h .tree)) (sym n) ∙ h .means);
+        number = omega arith;
+        awaits = a;
+      },
+      tt,
+    )
 
     -- a part joined to the left
 
@@ -328,17 +331,20 @@ module _ (numbers : List ℕ → ℕ) where
     means-joined join x y v {u = u} {l = l} left n m right = ap₂ (λ d k. join d k (meant numbers (suc k) y)) left (sym n) ∙ ap (join l u) (ap (λ k. meant numbers k y) (sym m) ∙ right)
 
     joined-and : {ps : List Pending} {l : Cond} {u : ℕ} {c : Cond} {us : List Token} {t : ℕ} → Behind (conjoin l u ∷ ps) c us t → (b : Behind ps (AND l u c) us t) × BeforeOr (b .tree)
-    joined-and {ps} {l} {u} h = let a = h .awaits .0 in let n = a .next in let m = a .number in let d = h .number in (record {
-      earlier = a .earlier;
-      first = a .first;
-      tree = conjunction (a .tree) (h .tree);
-      read = read-joined (a .earlier) (word andWord) (typedAs (a .tree)) (typedAs (h .tree)) (h .read) (a .read);
-      grouped = (a .binds, place-close (conjoin l u ∷ ps) (h .tree) (λ p. p) (h .place), a .grouped, h .grouped);
-      place = h .awaits .1;
-      means = means-joined AND (a .tree) (h .tree) (a .first) (a .means) (a .number) (a .next) (h .means);
-      number = omega arith;
-      awaits = a .awaits;
-    }, tt)
+    joined-and {ps} {l} {u} h = let a = h .awaits .0 in let n = a .next in let m = a .number in let d = h .number in (
+      record {
+        earlier = a .earlier;
+        first = a .first;
+        tree = conjunction (a .tree) (h .tree);
+        read = read-joined (a .earlier) (word andWord) (typedAs (a .tree)) (typedAs (h .tree)) (h .read) (a .read);
+        grouped = (a .binds, place-close (conjoin l u ∷ ps) (h .tree) (λ p. p) (h .place), a .grouped, h .grouped);
+        place = h .awaits .1;
+        means = means-joined AND (a .tree) (h .tree) (a .first) (a .means) (a .number) (a .next) (h .means);
+        number = omega arith;
+        awaits = a .awaits;
+      },
+      tt,
+    )
 
     joined-or : {ps : List Pending} {l : Cond} {u : ℕ} {c : Cond} {us : List Token} {t : ℕ} → Behind (disjoin l u ∷ ps) c us t → Behind ps (OR l u c) us t
     joined-or {ps} {l} {u} h = let a = h .awaits .0 in let n = a .next in let m = a .number in let d = h .number in record {
@@ -408,17 +414,20 @@ module _ (numbers : List ℕ → ℕ) where
     State ps (after c) us t = (b : Behind ps c us t) × BeforeOr (b .tree)
 
     in-brackets : {ps : List Pending} {c : Cond} {us : List Token} {t : ℕ} → Behind (bracket ∷ ps) c us t → State ps (after c) (us ++ (closing ∷ [])) t
-    in-brackets h = let (vs, e, a) = h .awaits in (record {
-      earlier = vs;
-      first = h .first;
-      tree = brackets (h .tree);
-      read = ap (λ l. l ++ (closing ∷ [])) (h .read ∙ ap (λ l. l ++ typedAs (h .tree)) e) ∙ simp append-assoc;
-      grouped = h .grouped;
-      place = tt;
-      means = h .means;
-      number = h .number;
-      awaits = a;
-    }, tt)
+    in-brackets h = let (vs, e, a) = h .awaits in (
+      record {
+        earlier = vs;
+        first = h .first;
+        tree = brackets (h .tree);
+        read = ap (λ l. l ++ (closing ∷ [])) (h .read ∙ ap (λ l. l ++ typedAs (h .tree)) e) ∙ simp append-assoc;
+        grouped = h .grouped;
+        place = tt;
+        means = h .means;
+        number = h .number;
+        awaits = a;
+      },
+      tt,
+    )
 
     tells : (ts : List Token) (ps : List Pending) (turn : Turn) (us : List Token) (t : ℕ) → State ps turn us t → Tells (us ++ ts) (parseFrom numbers t ps turn ts)
     unfolding parseFrom
@@ -438,17 +447,20 @@ module _ (numbers : List ℕ → ℕ) where
         go not-sort e f g = subst (λ l. Tells l (parseFrom numbers (suc t) (negate t ∷ ps) part ts)) (append-snoc us (word x) ts) (f (us, ap (λ y. us ++ (word y ∷ [])) e, refl, h))
         go and-sort e f g = tt
         go or-sort e f g = tt
-        go name-sort e f g = subst (λ l. Tells l (parseFrom numbers t ps (after (name (numbers x))) ts)) (append-snoc us (word x) ts) (g (record {
-          earlier = us;
-          first = t;
-          tree = called x;
-          read = refl;
-          grouped = e;
-          place = tt;
-          means = refl;
-          number = sym (add-zero t);
-          awaits = h;
-        }, tt))
+        go name-sort e f g = subst (λ l. Tells l (parseFrom numbers t ps (after (name (numbers x))) ts)) (append-snoc us (word x) ts) (g (
+          record {
+            earlier = us;
+            first = t;
+            tree = called x;
+            read = refl;
+            grouped = e;
+            place = tt;
+            means = refl;
+            number = sym (add-zero t);
+            awaits = h;
+          },
+          tt,
+        ))
     tells [] ps (after c) us t h = go (endingOf ps c) (at-end ps c us t (h .0))
       where
         go : (e : Ending) → EndTells us t e → Tells (us ++ []) (wholeOf e)

@@ -3,6 +3,7 @@ pub mod NameClasses
 pub mod Entries
 pub mod Conditions
 pub mod LineTokens
+pub mod Pairs
 pub mod LineForms
 pub mod TextLines
 pub mod Tests
