@@ -1,11 +1,11 @@
 -- The condition that is parsed is the one that the documents' words say.
-use Prim.Native.Nat.{ℕ, zero, suc, _+_, _<_, max}
+use Prim.Native.Nat.{ℕ, zero, suc, _+_, _≤_, _<_, max}
 use native.Mathlib.Omega.{arith}
 use native.Mathlib.Decide.{decLt}
 use native.Mathlib.Nat.{add-zero, zero-add}
 use mathlib.Core.Path.{_≡_, refl, sym, ap, ap₂, _∙_, subst}
-use mathlib.Core.Logic.{_⊎_, inl, inr, _↔_, _≢_}
-use mathlib.Core.Bool.{Bool, true, false, cond}
+use mathlib.Core.Logic.{_⊎_, inl, inr, _↔_}
+use mathlib.Core.Bool.{cond}
 use mathlib.Core.List.{List, [], _∷_, _++_, append-assoc, append-nil}
 use lib.Dec.{T}
 use lib.Seq.{append-snoc}
@@ -17,7 +17,7 @@ use Rattle.name_store.proofs.NameStores.{same-law, same-equal}
 use Rattle.conditions.specs.Conditions.{Cond, name, NOT, AND, OR}
 use Rattle.lines.specs.Tokens.{Token, opening, closing, word}
 use Rattle.lines.specs.Conditions.{WordSort, negation as not-sort, conjunction as and-sort, disjunction as or-sort, called as name-sort, sortOf, bySort, connectivesIn, Pending, bracket, negate, conjoin, disjoin, withAnd, withOr, Ending, bracketed, free, endingOf, Parsed, parsed, unparsed, onClosing, wholeOf, Turn, part, after, parseFrom, parse, deeper}
-use Rattle.faults.specs.Conditions.{Typed, called, brackets, negation, conjunction, disjunction, typedAs, NoConnective, BeforeAnd, BeforeOr, Grouped, Spells, IsCondition, connectivesTyped, meant, depth, DeeperThan}
+use Rattle.faults.specs.Conditions.{Typed, called, brackets, negation, conjunction, disjunction, typedAs, NoConnective, binding, Grouped, Spells, IsCondition, connectivesTyped, meant, depth, DeeperThan}
 
 -- the sorts of words
 
@@ -53,72 +53,30 @@ sort-says x =
     on-cond (SortSays x) (sameBytes x orWord) or-sort name-sort (λ t. same-equal x orWord t) (λ o.
     (λ e. n (same-law x notWord .1 e), λ e. a (same-law x andWord .1 e), λ e. o (same-law x orWord .1 e)))))
 
--- where a conjunction may stand, and a disjunction
+-- how loosely the part may bind that stands behind what awaits it
+abbrev room : List Pending → ℕ
+room [] = 2
+room (bracket ∷ ps) = 2
+room (negate u ∷ ps) = 0
+room (conjoin l u ∷ ps) = 0
+room (disjoin l u ∷ ps) = 1
 
-abbrev AndPlace : List Pending → Type 0
-AndPlace [] = Unit {0}
-AndPlace (bracket ∷ ps) = Unit {0}
-AndPlace (negate u ∷ ps) = ⊥
-AndPlace (conjoin l u ∷ ps) = ⊥
-AndPlace (disjoin l u ∷ ps) = Unit {0}
+loosest : (c : Typed) → binding c ≤ 2
+loosest (called x) = omega arith
+loosest (brackets c) = omega arith
+loosest (negation c) = omega arith
+loosest (conjunction l r) = omega arith
+loosest (disjunction l r) = omega arith
 
-abbrev OrPlace : List Pending → Type 0
-OrPlace [] = Unit {0}
-OrPlace (bracket ∷ ps) = Unit {0}
-OrPlace (negate u ∷ ps) = ⊥
-OrPlace (conjoin l u ∷ ps) = ⊥
-OrPlace (disjoin l u ∷ ps) = ⊥
+-- `and` joins what stands before it unless that is a disjunction
+abbrev NoAnd : List Token → Type 0
+NoAnd [] = Unit {0}
+NoAnd (opening ∷ ts) = Unit {0}
+NoAnd (closing ∷ ts) = Unit {0}
+NoAnd (word x ∷ ts) = x ≡ orWord
 
-abbrev Place : List Pending → Typed → Type 0
-Place ps (called x) = Unit {0}
-Place ps (brackets c) = Unit {0}
-Place ps (negation c) = Unit {0}
-Place ps (conjunction l r) = AndPlace ps
-Place ps (disjunction l r) = OrPlace ps
-
-close-place : (ps : List Pending) (c : Typed) → BeforeAnd c → Place ps c
-close-place ps (called x) h = tt
-close-place ps (brackets c) h = tt
-close-place ps (negation c) h = tt
-close-place ps (conjunction l r) h = absurd h
-close-place ps (disjunction l r) h = absurd h
-
-and-place : (ps : List Pending) → AndPlace ps → (c : Typed) → BeforeOr c → Place ps c
-and-place ps p (called x) h = tt
-and-place ps p (brackets c) h = tt
-and-place ps p (negation c) h = tt
-and-place ps p (conjunction l r) h = p
-and-place ps p (disjunction l r) h = absurd h
-
-or-and : (ps : List Pending) → OrPlace ps → AndPlace ps
-or-and [] p = tt
-or-and (bracket ∷ ps) p = tt
-or-and (negate u ∷ ps) p = absurd p
-or-and (conjoin l u ∷ ps) p = absurd p
-or-and (disjoin l u ∷ ps) p = absurd p
-
-or-place : (ps : List Pending) → OrPlace ps → (c : Typed) → Place ps c
-or-place ps p (called x) = tt
-or-place ps p (brackets c) = tt
-or-place ps p (negation c) = tt
-or-place ps p (conjunction l r) = or-and ps p
-or-place ps p (disjunction l r) = p
-
--- and the other way
-
-place-close : (ps : List Pending) (c : Typed) → (AndPlace ps → ⊥) → Place ps c → BeforeAnd c
-place-close ps (called x) n h = tt
-place-close ps (brackets c) n h = tt
-place-close ps (negation c) n h = tt
-place-close ps (conjunction l r) n h = absurd (n h)
-place-close ps (disjunction l r) n h = absurd (n (or-and ps h))
-
-place-and : (ps : List Pending) (c : Typed) → (OrPlace ps → ⊥) → Place ps c → BeforeOr c
-place-and ps (called x) n h = tt
-place-and ps (brackets c) n h = tt
-place-and ps (negation c) n h = tt
-place-and ps (conjunction l r) n h = tt
-place-and ps (disjunction l r) n h = absurd (n h)
+abbrev Follows : Typed → List Token → Type 0
+Follows c ts = (binding c ≤ 1) ⊎ NoAnd ts
 
 module _ (numbers : List ℕ → ℕ) where
   -- a condition that is typed is parsed
@@ -131,31 +89,31 @@ module _ (numbers : List ℕ → ℕ) where
   unfolding parseFrom
   not-next t ps ts = ap (λ s. bySort s (parseFrom numbers (suc t) (negate t ∷ ps) part ts) unparsed unparsed (parseFrom numbers t ps (after (name (numbers notWord))) ts)) not-is
 
-  and-next : (t : ℕ) (ps : List Pending) (c : Cond) (ts : List Token) → AndPlace ps → parseFrom numbers t ps (after c) (word andWord ∷ ts) ≡ parseFrom numbers (suc t) (conjoin c t ∷ ps) part ts
+  and-next : (t : ℕ) (ps : List Pending) (c : Cond) (ts : List Token) → 1 ≤ room ps → parseFrom numbers t ps (after c) (word andWord ∷ ts) ≡ parseFrom numbers (suc t) (conjoin c t ∷ ps) part ts
   unfolding parseFrom withAnd
   and-next t ps c ts p =
       ap (λ s. bySort s unparsed (parseFrom numbers (suc t) (withAnd t ps c) part ts) (parseFrom numbers (suc t) (withOr t ps c) part ts) unparsed) and-is
       ∙ ap (λ qs. parseFrom numbers (suc t) qs part ts) (here ps p)
     where
-      here : (qs : List Pending) → AndPlace qs → withAnd t qs c ≡ conjoin c t ∷ qs
+      here : (qs : List Pending) → 1 ≤ room qs → withAnd t qs c ≡ conjoin c t ∷ qs
       here [] h = refl
       here (bracket ∷ qs) h = refl
-      here (negate u ∷ qs) h = absurd h
-      here (conjoin l u ∷ qs) h = absurd h
+      here (negate u ∷ qs) h = absurd (omega arith)
+      here (conjoin l u ∷ qs) h = absurd (omega arith)
       here (disjoin l u ∷ qs) h = refl
 
-  or-next : (t : ℕ) (ps : List Pending) (c : Cond) (ts : List Token) → OrPlace ps → parseFrom numbers t ps (after c) (word orWord ∷ ts) ≡ parseFrom numbers (suc t) (disjoin c t ∷ ps) part ts
+  or-next : (t : ℕ) (ps : List Pending) (c : Cond) (ts : List Token) → 2 ≤ room ps → parseFrom numbers t ps (after c) (word orWord ∷ ts) ≡ parseFrom numbers (suc t) (disjoin c t ∷ ps) part ts
   unfolding parseFrom withOr
   or-next t ps c ts p =
       ap (λ s. bySort s unparsed (parseFrom numbers (suc t) (withAnd t ps c) part ts) (parseFrom numbers (suc t) (withOr t ps c) part ts) unparsed) or-is
       ∙ ap (λ qs. parseFrom numbers (suc t) qs part ts) (here ps p)
     where
-      here : (qs : List Pending) → OrPlace qs → withOr t qs c ≡ disjoin c t ∷ qs
+      here : (qs : List Pending) → 2 ≤ room qs → withOr t qs c ≡ disjoin c t ∷ qs
       here [] h = refl
       here (bracket ∷ qs) h = refl
-      here (negate u ∷ qs) h = absurd h
-      here (conjoin l u ∷ qs) h = absurd h
-      here (disjoin l u ∷ qs) h = absurd h
+      here (negate u ∷ qs) h = absurd (omega arith)
+      here (conjoin l u ∷ qs) h = absurd (omega arith)
+      here (disjoin l u ∷ qs) h = absurd (omega arith)
 
   -- what awaits a part may join it at once
 
@@ -173,13 +131,7 @@ module _ (numbers : List ℕ → ℕ) where
   and-joins t ps l u c (closing ∷ ts) = refl
   and-joins t ps l u c (word x ∷ ts) = refl
 
-  -- but `or` waits for `and`
-  abbrev NoAnd : List Token → Type 0
-  NoAnd [] = Unit {0}
-  NoAnd (opening ∷ ts) = Unit {0}
-  NoAnd (closing ∷ ts) = Unit {0}
-  NoAnd (word x ∷ ts) = x ≡ orWord
-
+  -- where no `and` follows
   or-joins : (t : ℕ) (ps : List Pending) (l : Cond) (u : ℕ) (c : Cond) (ts : List Token) → NoAnd ts → parseFrom numbers t (disjoin l u ∷ ps) (after c) ts ≡ parseFrom numbers t ps (after (OR l u c)) ts
   unfolding parseFrom withOr endingOf
   or-joins t ps l u c [] n = refl
@@ -191,34 +143,6 @@ module _ (numbers : List ℕ → ℕ) where
       ap (λ s. bySort s unparsed (parseFrom numbers (suc t) (withAnd t (disjoin l u ∷ ps) c) part ts) joined unparsed) e
       ∙ sym (ap (λ s. bySort s unparsed (parseFrom numbers (suc t) (withAnd t ps (OR l u c)) part ts) joined unparsed) e)
 
-  abbrev Follows : Typed → List Token → Type 0
-  Follows (called x) ts = Unit {0}
-  Follows (brackets c) ts = Unit {0}
-  Follows (negation c) ts = Unit {0}
-  Follows (conjunction l r) ts = Unit {0}
-  Follows (disjunction l r) ts = NoAnd ts
-
-  close-follows : (c : Typed) (ts : List Token) → BeforeOr c → Follows c ts
-  close-follows (called x) ts h = tt
-  close-follows (brackets c) ts h = tt
-  close-follows (negation c) ts h = tt
-  close-follows (conjunction l r) ts h = tt
-  close-follows (disjunction l r) ts h = absurd h
-
-  any-follows : (c : Typed) (ts : List Token) → NoAnd ts → Follows c ts
-  any-follows (called x) ts h = tt
-  any-follows (brackets c) ts h = tt
-  any-follows (negation c) ts h = tt
-  any-follows (conjunction l r) ts h = tt
-  any-follows (disjunction l r) ts h = h
-
-  closer : (c : Typed) → BeforeAnd c → BeforeOr c
-  closer (called x) h = tt
-  closer (brackets c) h = tt
-  closer (negation c) h = tt
-  closer (conjunction l r) h = tt
-  closer (disjunction l r) h = h
-
   close-bracket : (t : ℕ) (ps : List Pending) (c : Cond) (ts : List Token) → parseFrom numbers t (bracket ∷ ps) (after c) (closing ∷ ts) ≡ parseFrom numbers t ps (after c) ts
   unfolding parseFrom endingOf
   close-bracket t ps c ts = refl
@@ -227,18 +151,17 @@ module _ (numbers : List ℕ → ℕ) where
   unfolding parseFrom
   open-bracket t ps ts = refl
 
-  reads : (c : Typed) → Grouped c → (t : ℕ) (ps : List Pending) (ts : List Token) → Place ps c → Follows c ts → parseFrom numbers t ps part (typedAs c ++ ts) ≡ parseFrom numbers (t + connectivesTyped c) ps (after (meant numbers t c)) ts
+  reads : (c : Typed) → Grouped c → (t : ℕ) (ps : List Pending) (ts : List Token) → binding c ≤ room ps → Follows c ts → parseFrom numbers t ps part (typedAs c ++ ts) ≡ parseFrom numbers (t + connectivesTyped c) ps (after (meant numbers t c)) ts
   reads (called x) g t ps ts p f = name-next t ps x ts g ∙ ap (λ n. parseFrom numbers n ps (after (name (numbers x))) ts) (sym (add-zero t))
   reads (brackets c) g t ps ts p f =
-      let m = t + connectivesTyped c in
       open-bracket t ps ((typedAs c ++ (closing ∷ [])) ++ ts)
       ∙ ap (parseFrom numbers t (bracket ∷ ps) part) (append-assoc (typedAs c) (closing ∷ []) ts)
-      ∙ reads c g t (bracket ∷ ps) (closing ∷ ts) (or-place (bracket ∷ ps) tt c) (any-follows c (closing ∷ ts) tt)
-      ∙ close-bracket m ps (meant numbers t c) ts
+      ∙ reads c g t (bracket ∷ ps) (closing ∷ ts) (loosest c) (inr tt)
+      ∙ close-bracket (t + connectivesTyped c) ps (meant numbers t c) ts
   reads (negation c) g t ps ts p f =
       let e : suc t + connectivesTyped c ≡ t + suc (connectivesTyped c) = omega arith in
       not-next t ps (typedAs c ++ ts)
-      ∙ reads c (g .1) (suc t) (negate t ∷ ps) ts (close-place (negate t ∷ ps) c (g .0)) (close-follows c ts (closer c (g .0)))
+      ∙ reads c (g .1) (suc t) (negate t ∷ ps) ts (g .0) (inl (omega (arith, g .0)))
       ∙ not-joins (suc t + connectivesTyped c) ps t (meant numbers (suc t) c) ts
       ∙ ap (λ n. parseFrom numbers n ps (after (NOT t (meant numbers (suc t) c))) ts) e
   reads (conjunction l r) g t ps ts p f =
@@ -247,9 +170,9 @@ module _ (numbers : List ℕ → ℕ) where
       let left = meant numbers t l in
       let right = meant numbers (suc m) r in
       ap (parseFrom numbers t ps part) (append-assoc (typedAs l) (word andWord ∷ typedAs r) ts)
-      ∙ reads l (g .2) t ps (word andWord ∷ (typedAs r ++ ts)) (and-place ps p l (g .0)) (close-follows l (word andWord ∷ (typedAs r ++ ts)) (g .0))
+      ∙ reads l (g .2) t ps (word andWord ∷ (typedAs r ++ ts)) (omega (arith, g .0)) (inl (g .0))
       ∙ and-next m ps left (typedAs r ++ ts) p
-      ∙ reads r (g .3) (suc m) (conjoin left m ∷ ps) ts (close-place (conjoin left m ∷ ps) r (g .1)) (close-follows r ts (closer r (g .1)))
+      ∙ reads r (g .3) (suc m) (conjoin left m ∷ ps) ts (omega (arith, g .1)) (inl (omega (arith, g .1)))
       ∙ and-joins (suc m + connectivesTyped r) ps left m right ts
       ∙ ap (λ n. parseFrom numbers n ps (after (AND left m right)) ts) e
   reads (disjunction l r) g t ps ts p f =
@@ -258,29 +181,31 @@ module _ (numbers : List ℕ → ℕ) where
       let left = meant numbers t l in
       let right = meant numbers (suc m) r in
       ap (parseFrom numbers t ps part) (append-assoc (typedAs l) (word orWord ∷ typedAs r) ts)
-      ∙ reads l (g .1) t ps (word orWord ∷ (typedAs r ++ ts)) (or-place ps p l) (any-follows l (word orWord ∷ (typedAs r ++ ts)) refl)
+      ∙ reads l (g .2) t ps (word orWord ∷ (typedAs r ++ ts)) (omega (arith, g .0)) (inr refl)
       ∙ or-next m ps left (typedAs r ++ ts) p
-      ∙ reads r (g .2) (suc m) (disjoin left m ∷ ps) ts (and-place (disjoin left m ∷ ps) tt r (g .0)) (close-follows r ts (g .0))
-      ∙ or-joins (suc m + connectivesTyped r) ps left m right ts f
+      ∙ reads r (g .3) (suc m) (disjoin left m ∷ ps) ts (omega (arith, g .1)) (inl (omega (arith, g .1)))
+      ∙ or-joins (suc m + connectivesTyped r) ps left m right ts (no-and f)
       ∙ ap (λ n. parseFrom numbers n ps (after (OR left m right)) ts) e
+    where
+      no-and : (2 ≤ 1) ⊎ NoAnd ts → NoAnd ts
+      no-and (inl h) = absurd (omega arith)
+      no-and (inr h) = h
 
   spelled : (t : ℕ) (c : Typed) (ts : List Token) → Spells c ts → parse numbers t ts ≡ parsed (meant numbers t c)
   unfolding parse parseFrom endingOf
-  spelled t c ts (g, e) =
-      ap (parseFrom numbers t [] part) (sym e ∙ sym (append-nil (typedAs c)))
-      ∙ reads c g t [] [] (or-place [] tt c) (any-follows c [] tt)
+  spelled t c ts (g, e) = ap (parseFrom numbers t [] part) (sym e ∙ sym (append-nil (typedAs c))) ∙ reads c g t [] [] (loosest c) (inr tt)
 
   -- and what is parsed is a condition that is typed: us is read, from the number start on
 
   module _ (start : ℕ) where
     -- a part with the connective behind it
-    record Left (Earlier : List Token → ℕ → Type 0) (B : Typed → Type 0) (w : List ℕ) (l : Cond) (u : ℕ) (us : List Token) (t : ℕ) : Type 0 where
+    record Left (Earlier : List Token → ℕ → Type 0) (loosest-left : ℕ) (w : List ℕ) (l : Cond) (u : ℕ) (us : List Token) (t : ℕ) : Type 0 where
       earlier : List Token
       first : ℕ
       tree : Typed
       read : us ≡ earlier ++ (typedAs tree ++ (word w ∷ []))
       grouped : Grouped tree
-      binds : B tree
+      binds : binding tree ≤ loosest-left
       means : meant numbers first tree ≡ l
       number : u ≡ first + connectivesTyped tree
       next : t ≡ suc u
@@ -291,8 +216,8 @@ module _ (numbers : List ℕ → ℕ) where
     Awaits [] us t = (us ≡ []) × (t ≡ start)
     Awaits (bracket ∷ ps) us t = (vs : List Token) × (us ≡ vs ++ (opening ∷ [])) × Awaits ps vs t
     Awaits (negate u ∷ ps) us t = (vs : List Token) × (us ≡ vs ++ (word notWord ∷ [])) × (t ≡ suc u) × Awaits ps vs u
-    Awaits (conjoin l u ∷ ps) us t = Left (Awaits ps) BeforeOr andWord l u us t × AndPlace ps
-    Awaits (disjoin l u ∷ ps) us t = Left (Awaits ps) (λ c. Unit {0}) orWord l u us t × OrPlace ps
+    Awaits (conjoin l u ∷ ps) us t = Left (Awaits ps) 1 andWord l u us t × (1 ≤ room ps)
+    Awaits (disjoin l u ∷ ps) us t = Left (Awaits ps) 2 orWord l u us t × (2 ≤ room ps)
 
     -- and so is the part
     record Behind (ps : List Pending) (c : Cond) (us : List Token) (t : ℕ) : Type 0 where
@@ -301,25 +226,25 @@ module _ (numbers : List ℕ → ℕ) where
       tree : Typed
       read : us ≡ earlier ++ typedAs tree
       grouped : Grouped tree
-      place : Place ps tree
+      place : binding tree ≤ room ps
       means : meant numbers first tree ≡ c
       number : t ≡ first + connectivesTyped tree
       awaits : Awaits ps earlier first
 
-    joined-not : {ps : List Pending} {u : ℕ} {c : Cond} {us : List Token} {t : ℕ} → Behind (negate u ∷ ps) c us t → (b : Behind ps (NOT u c) us t) × BeforeOr (b .tree)
+    joined-not : {ps : List Pending} {u : ℕ} {c : Cond} {us : List Token} {t : ℕ} → Behind (negate u ∷ ps) c us t → (b : Behind ps (NOT u c) us t) × (binding (b .tree) ≤ 1)
     joined-not {ps} {u} h = let (vs, e, n, a) = h .awaits in let d = h .number in (
       record {
         earlier = vs;
         first = u;
         tree = negation (h .tree);
         read = h .read ∙ ap (λ us. us ++ typedAs (h .tree)) e ∙ append-assoc vs (word notWord ∷ []) (typedAs (h .tree));
-        grouped = (place-close (negate u ∷ ps) (h .tree) (λ p. p) (h .place), h .grouped);
-        place = tt;
+        grouped = (h .place, h .grouped);
+        place = omega arith;
         means = ap (NOT u) (ap (λ k. meant numbers k (h .tree)) (sym n) ∙ h .means);
         number = omega arith;
         awaits = a;
       },
-      tt,
+      omega arith,
     )
 
     -- a part joined to the left
@@ -330,20 +255,20 @@ module _ (numbers : List ℕ → ℕ) where
     means-joined : (join : Cond → ℕ → Cond → Cond) (x y : Typed) (v : ℕ) {u t : ℕ} {l c : Cond} → meant numbers v x ≡ l → u ≡ v + connectivesTyped x → t ≡ suc u → meant numbers t y ≡ c → join (meant numbers v x) (v + connectivesTyped x) (meant numbers (suc (v + connectivesTyped x)) y) ≡ join l u c
     means-joined join x y v {u = u} {l = l} left n m right = ap₂ (λ d k. join d k (meant numbers (suc k) y)) left (sym n) ∙ ap (join l u) (ap (λ k. meant numbers k y) (sym m) ∙ right)
 
-    joined-and : {ps : List Pending} {l : Cond} {u : ℕ} {c : Cond} {us : List Token} {t : ℕ} → Behind (conjoin l u ∷ ps) c us t → (b : Behind ps (AND l u c) us t) × BeforeOr (b .tree)
+    joined-and : {ps : List Pending} {l : Cond} {u : ℕ} {c : Cond} {us : List Token} {t : ℕ} → Behind (conjoin l u ∷ ps) c us t → (b : Behind ps (AND l u c) us t) × (binding (b .tree) ≤ 1)
     joined-and {ps} {l} {u} h = let a = h .awaits .0 in let n = a .next in let m = a .number in let d = h .number in (
       record {
         earlier = a .earlier;
         first = a .first;
         tree = conjunction (a .tree) (h .tree);
         read = read-joined (a .earlier) (word andWord) (typedAs (a .tree)) (typedAs (h .tree)) (h .read) (a .read);
-        grouped = (a .binds, place-close (conjoin l u ∷ ps) (h .tree) (λ p. p) (h .place), a .grouped, h .grouped);
+        grouped = (a .binds, omega (arith, h .place), a .grouped, h .grouped);
         place = h .awaits .1;
         means = means-joined AND (a .tree) (h .tree) (a .first) (a .means) (a .number) (a .next) (h .means);
         number = omega arith;
         awaits = a .awaits;
       },
-      tt,
+      omega arith,
     )
 
     joined-or : {ps : List Pending} {l : Cond} {u : ℕ} {c : Cond} {us : List Token} {t : ℕ} → Behind (disjoin l u ∷ ps) c us t → Behind ps (OR l u c) us t
@@ -352,7 +277,7 @@ module _ (numbers : List ℕ → ℕ) where
       first = a .first;
       tree = disjunction (a .tree) (h .tree);
       read = read-joined (a .earlier) (word orWord) (typedAs (a .tree)) (typedAs (h .tree)) (h .read) (a .read);
-      grouped = (place-and (disjoin l u ∷ ps) (h .tree) (λ p. p) (h .place), a .grouped, h .grouped);
+      grouped = (a .binds, omega (arith, h .place), a .grouped, h .grouped);
       place = h .awaits .1;
       means = means-joined OR (a .tree) (h .tree) (a .first) (a .means) (a .number) (a .next) (h .means);
       number = omega arith;
@@ -360,8 +285,8 @@ module _ (numbers : List ℕ → ℕ) where
     }
 
     -- with a connective behind it
-    left-of : {ps : List Pending} {c : Cond} {us : List Token} {t : ℕ} (B : Typed → Type 0) (w : List ℕ) (h : Behind ps c us t) → B (h .tree) → Left (Awaits ps) B w c t (us ++ (word w ∷ [])) (suc t)
-    left-of B w h b = record {
+    left-of : {ps : List Pending} {c : Cond} {us : List Token} {t : ℕ} (n : ℕ) (w : List ℕ) (h : Behind ps c us t) → binding (h .tree) ≤ n → Left (Awaits ps) n w c t (us ++ (word w ∷ [])) (suc t)
+    left-of n w h b = record {
       earlier = h .earlier;
       first = h .first;
       tree = h .tree;
@@ -374,24 +299,24 @@ module _ (numbers : List ℕ → ℕ) where
       awaits = h .awaits;
     }
 
-    with-and : (ps : List Pending) (c : Cond) (us : List Token) (t : ℕ) (h : Behind ps c us t) → BeforeOr (h .tree) → Awaits (withAnd t ps c) (us ++ (word andWord ∷ [])) (suc t)
+    with-and : (ps : List Pending) (c : Cond) (us : List Token) (t : ℕ) (h : Behind ps c us t) → binding (h .tree) ≤ 1 → Awaits (withAnd t ps c) (us ++ (word andWord ∷ [])) (suc t)
     unfolding withAnd
-    with-and [] c us t h b = (left-of BeforeOr andWord h b, tt)
-    with-and (bracket ∷ ps) c us t h b = (left-of BeforeOr andWord h b, tt)
+    with-and [] c us t h b = (left-of 1 andWord h b, omega arith)
+    with-and (bracket ∷ ps) c us t h b = (left-of 1 andWord h b, omega arith)
     with-and (negate u ∷ ps) c us t h b = let j = joined-not h in with-and ps (NOT u c) us t (j .0) (j .1)
     with-and (conjoin l u ∷ ps) c us t h b = let j = joined-and h in with-and ps (AND l u c) us t (j .0) (j .1)
-    with-and (disjoin l u ∷ ps) c us t h b = (left-of BeforeOr andWord h b, tt)
+    with-and (disjoin l u ∷ ps) c us t h b = (left-of 1 andWord h b, omega arith)
 
     with-or : (ps : List Pending) (c : Cond) (us : List Token) (t : ℕ) → Behind ps c us t → Awaits (withOr t ps c) (us ++ (word orWord ∷ [])) (suc t)
     unfolding withOr
-    with-or [] c us t h = (left-of (λ x. Unit {0}) orWord h tt, tt)
-    with-or (bracket ∷ ps) c us t h = (left-of (λ x. Unit {0}) orWord h tt, tt)
+    with-or [] c us t h = (left-of 2 orWord h (loosest (h .tree)), omega arith)
+    with-or (bracket ∷ ps) c us t h = (left-of 2 orWord h (loosest (h .tree)), omega arith)
     with-or (negate u ∷ ps) c us t h = with-or ps (NOT u c) us t (joined-not h .0)
     with-or (conjoin l u ∷ ps) c us t h = with-or ps (AND l u c) us t (joined-and h .0)
     with-or (disjoin l u ∷ ps) c us t h = with-or ps (OR l u c) us t (joined-or h)
 
     -- the tokens are the condition that was parsed
-    abbrev pub Tells : List Token → Parsed → Type 0
+    abbrev Tells : List Token → Parsed → Type 0
     Tells ts (parsed d) = (c : Typed) × Spells c ts × (meant numbers start c ≡ d)
     Tells ts unparsed = Unit {0}
 
@@ -411,7 +336,7 @@ module _ (numbers : List ℕ → ℕ) where
 
     abbrev State : List Pending → Turn → List Token → ℕ → Type 0
     State ps part us t = Awaits ps us t
-    State ps (after c) us t = (b : Behind ps c us t) × BeforeOr (b .tree)
+    State ps (after c) us t = (b : Behind ps c us t) × (binding (b .tree) ≤ 1)
 
     in-brackets : {ps : List Pending} {c : Cond} {us : List Token} {t : ℕ} → Behind (bracket ∷ ps) c us t → State ps (after c) (us ++ (closing ∷ [])) t
     in-brackets h = let (vs, e, a) = h .awaits in (
@@ -421,12 +346,12 @@ module _ (numbers : List ℕ → ℕ) where
         tree = brackets (h .tree);
         read = ap (λ l. l ++ (closing ∷ [])) (h .read ∙ ap (λ l. l ++ typedAs (h .tree)) e) ∙ simp append-assoc;
         grouped = h .grouped;
-        place = tt;
+        place = omega arith;
         means = h .means;
         number = h .number;
         awaits = a;
       },
-      tt,
+      omega arith,
     )
 
     tells : (ts : List Token) (ps : List Pending) (turn : Turn) (us : List Token) (t : ℕ) → State ps turn us t → Tells (us ++ ts) (parseFrom numbers t ps turn ts)
@@ -454,12 +379,12 @@ module _ (numbers : List ℕ → ℕ) where
             tree = called x;
             read = refl;
             grouped = e;
-            place = tt;
+            place = omega arith;
             means = refl;
             number = sym (add-zero t);
             awaits = h;
           },
-          tt,
+          omega arith,
         ))
     tells [] ps (after c) us t h = go (endingOf ps c) (at-end ps c us t (h .0))
       where
@@ -586,7 +511,7 @@ connectives-law c ts (g, e) = ap connectivesIn (sym e ∙ sym (append-nil (typed
         let w = one-word andWord (typedAs r ++ us) and-is in
         ap connectivesIn (append-assoc (typedAs l) (word andWord ∷ typedAs r) us) ∙ omega arith
     counted (disjunction l r) h us =
-        let a = counted l (h .1) (word orWord ∷ (typedAs r ++ us)) in
-        let b = counted r (h .2) us in
+        let a = counted l (h .2) (word orWord ∷ (typedAs r ++ us)) in
+        let b = counted r (h .3) us in
         let w = one-word orWord (typedAs r ++ us) or-is in
         ap connectivesIn (append-assoc (typedAs l) (word orWord ∷ typedAs r) us) ∙ omega arith

@@ -16,7 +16,6 @@ use Rattle.rules.specs.Lists.{All, Any, some}
 use Rattle.rules.proofs.Lists.{all-app-l, all-app-r, some-any}
 use Rattle.rules.proofs.Connectives.{not-law, and-law}
 use Rattle.conditions.specs.Conditions.{Cond}
-use Rattle.lines.specs.declared.stage.Stage.the-variants.{Ruling}
 use Rattle.lines.specs.Tokens.{Token}
 use Rattle.lines.specs.Conditions.{namesIn, connectivesIn, deeper, Parsed, parsed, unparsed}
 use Rattle.lines.specs.Forms.{Word, LineForm, declares, rules, condition, blank, broken, formOf}

@@ -1,5 +1,5 @@
 -- Conditions in document 02's words (W-208): "COND joins names by `not`, `and`, `or` (no names there) and brackets; `not` binds before `and`, `and` before `or`, equals group to the left."
-use Prim.Native.Nat.{ℕ, suc, _+_, _<_, max}
+use Prim.Native.Nat.{ℕ, suc, _+_, _≤_, _<_, max}
 use mathlib.Core.Path.{_≡_}
 use mathlib.Core.Logic.{_≢_}
 use mathlib.Core.List.{List, [], _∷_, _++_}
@@ -25,28 +25,21 @@ typedAs (disjunction l r) = typedAs l ++ (word orWord ∷ typedAs r)
 abbrev pub NoConnective : List ℕ → Type 0
 NoConnective x = (x ≢ notWord) × (x ≢ andWord) × (x ≢ orWord)
 
--- a part that binds before `and`, and one that binds before `or`
-abbrev pub BeforeAnd : Typed → Type 0
-BeforeAnd (called x) = Unit {0}
-BeforeAnd (brackets c) = Unit {0}
-BeforeAnd (negation c) = Unit {0}
-BeforeAnd (conjunction l r) = ⊥
-BeforeAnd (disjunction l r) = ⊥
+-- "`not` binds before `and`, `and` before `or`": the lower, the closer; names and brackets are as close as `not`
+abbrev pub binding : Typed → ℕ
+binding (called x) = 0
+binding (brackets c) = 0
+binding (negation c) = 0
+binding (conjunction l r) = 1
+binding (disjunction l r) = 2
 
-abbrev pub BeforeOr : Typed → Type 0
-BeforeOr (called x) = Unit {0}
-BeforeOr (brackets c) = Unit {0}
-BeforeOr (negation c) = Unit {0}
-BeforeOr (conjunction l r) = Unit {0}
-BeforeOr (disjunction l r) = ⊥
-
--- what binds before stands in brackets or joins first; "equals group to the left": only a left part may be joined by the same word
+-- a part binds no looser than what it is a part of; "equals group to the left": a right part binds closer
 abbrev pub Grouped : Typed → Type 0
 Grouped (called x) = NoConnective x
 Grouped (brackets c) = Grouped c
-Grouped (negation c) = BeforeAnd c × Grouped c
-Grouped (conjunction l r) = BeforeOr l × BeforeAnd r × Grouped l × Grouped r
-Grouped (disjunction l r) = BeforeOr r × Grouped l × Grouped r
+Grouped (negation c) = (binding c ≤ binding (negation c)) × Grouped c
+Grouped (conjunction l r) = (binding l ≤ binding (conjunction l r)) × (binding r < binding (conjunction l r)) × Grouped l × Grouped r
+Grouped (disjunction l r) = (binding l ≤ binding (disjunction l r)) × (binding r < binding (disjunction l r)) × Grouped l × Grouped r
 
 -- the tokens are this condition
 abbrev pub Spells : Typed → List Token → Type 0
