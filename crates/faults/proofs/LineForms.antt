@@ -7,24 +7,27 @@ use mathlib.Core.Bool.{true, cond}
 use mathlib.Core.List.{List, [], _∷_, _++_, map}
 use lib.Dec.{T, eqb→eq}
 use lib.ListN.{length, length-append, getD, drop}
-use Rattle.kinds.specs.Words.{line-end, ruleWord, headWord, bodyWord, notWord, whenWord, thenWord}
+use Rattle.kinds.specs.Words.{decimal, line-end, ruleWord, headWord, bodyWord, notWord, whenWord, thenWord}
 use Rattle.rules.specs.Lists.{All}
 use Rattle.rules.proofs.Booleans.{eq→eqb, is-true}
 use Rattle.rules.proofs.Connectives.{on-cond}
 use Rattle.rules.proofs.Lists.{all-app, all-app-l, all-app-r, all-imp, every-all}
 use Rattle.names.specs.declared.forms.NameClass.{NameClass}
-use Rattle.names.specs.declared.forms.NameClass.the-variants.{House, Generated, TooLong, Wrong}
+use Rattle.names.specs.declared.forms.NameClass.the-variants.{Common, Generated, TooLong, Wrong}
+use Rattle.names.specs.Numerals.{digit?}
 use Rattle.names.specs.Names.{nameClass}
+use Rattle.names.proofs.Decimals.{digits-all}
+use Rattle.names.proofs.Numerals.{digit-range}
 use Rattle.name_store.specs.NameStore.{sameBytes}
 use Rattle.name_store.proofs.NameStores.{same-equal, same-self}
 use Rattle.lines.specs.Lines.{ended?}
 use Rattle.lines.specs.Tokens.{Token, opening, closing, word, tokens, leading, behind}
 use Rattle.lines.specs.Conditions.{WordSort, negation, conjunction, disjunction, called, sortOf, bySort, wordsIn, namesIn, pairs}
 use Rattle.lines.specs.Forms.{Word, wordBytes, atoms, min, vary, fix, LineForm, declares, rules, condition, blank, broken, Opened, opened, unopened, openedBy, openedOf, Split, split, none, closedBy, splitNames, onOpened, splitList, onSplit, lastly, closedLastly, declaredForm, ruleForm, Conditional, conditional, unconditional, onlyClosing, onlyName, thenOr, inFront, splitThen, pairedForm, whenForm, openedForm, tokenForm, typedForm, isName, names?, named, formOf}
-use Rattle.faults.specs.NameForms.{Letter, Digit, NameByte, HouseBytes, Marked, ClassNumber}
+use Rattle.faults.specs.NameForms.{Letter, Digit, NameByte, HouseBytes, CommonName, Marked, ClassNumber}
 use Rattle.faults.specs.LineForms.{WordByte, IsWord, IsName, Ended, listThen, declaringTokens, ruleTokens, conditionTokens, Paired, DeclaringLine, RuleLine, ConditionLine, BlankLine, HasForm}
 use Rattle.faults.specs.Sentences.{namesOf}
-use Rattle.faults.proofs.NameClasses.{house-iff, long-iff, generated-iff}
+use Rattle.faults.proofs.NameClasses.{common-iff, long-iff, generated-iff}
 use Rattle.faults.proofs.LineTokens.{tokens-iff}
 use Rattle.faults.proofs.Pairs.{pairs-law}
 
@@ -52,34 +55,41 @@ house-word (b ∷ x) h = (some-bytes b x, (first-byte b (h .0), all-imp NameByte
 marked-word : (a : ℕ) (y : List ℕ) → 60 ≤ a → All WordByte y → IsWord (a ∷ 46 ∷ y)
 marked-word a y l h = (some-bytes a (46 ∷ y), (name-byte a (omega arith) (λ e. omega arith), (name-byte 46 (omega arith) (λ e. omega arith), h)))
 
-marked-house : (x y : List ℕ) → Marked x y → HouseBytes y → IsWord x
-marked-house x y (inl e) h = subst IsWord (sym e) (marked-word 78 y (omega arith) (house-word y h .1))
-marked-house x y (inr (inl e)) h = subst IsWord (sym e) (marked-word 83 y (omega arith) (house-word y h .1))
-marked-house x y (inr (inr e)) h = subst IsWord (sym e) (marked-word 68 y (omega arith) (house-word y h .1))
+marked-name : (x y : List ℕ) → Marked x y → All WordByte y → IsWord x
+marked-name x y (inl e) h = subst IsWord (sym e) (marked-word 78 y (omega arith) h)
+marked-name x y (inr (inl e)) h = subst IsWord (sym e) (marked-word 83 y (omega arith) h)
+marked-name x y (inr (inr e)) h = subst IsWord (sym e) (marked-word 68 y (omega arith) h)
 
 number-bytes : (y : List ℕ) → ClassNumber y → All WordByte y
 number-bytes y (inl (d, l, e)) = subst (All WordByte) (sym e) (name-byte _ (omega arith) (λ q. omega arith), tt)
 number-bytes y (inr (d, l, e)) = subst (All WordByte) (sym e) (name-byte 49 (omega arith) (λ q. omega arith), (name-byte _ (omega arith) (λ q. omega arith), tt))
 
+common-word : (x : List ℕ) → CommonName x → IsWord x
+common-word x (inl h) = house-word x (h .0)
+common-word x (inr (t, l, u, e)) = subst IsWord (sym e) (marked-word 84 (decimal t) (omega arith) (all-imp (λ b. T (digit? b)) WordByte digit-byte (decimal t) (digits-all 20 t)))
+  where
+    digit-byte : (b : ℕ) → T (digit? b) → WordByte b
+    digit-byte b h = one-byte b (inr (inl (digit-range b (is-true (digit? b) h))))
+
 pub name-word : (x : List ℕ) → IsName x → IsWord x
-name-word x (inl h) = house-word x (h .0)
-name-word x (inr (inl (inl (y, m, h)))) = marked-house x y m (h .0)
+name-word x (inl h) = common-word x h
+name-word x (inr (inl (inl (y, m, h)))) = marked-name x y m (common-word y h .1)
 name-word x (inr (inl (inr (inl (y, e, h))))) = subst IsWord (sym e) (marked-word 69 y (omega arith) (number-bytes y h))
 name-word x (inr (inl (inr (inr e)))) = subst IsWord (sym e) (some-bytes 85 [], (name-byte 85 (omega arith) (λ q. omega arith), tt))
 name-word x (inr (inr (inl h))) = house-word x (h .0)
-name-word x (inr (inr (inr (y, m, h)))) = marked-house x y m (h .0)
+name-word x (inr (inr (inr (y, m, h)))) = marked-name x y m (house-word y (h .0) .1)
 
 pub name-law : (x : List ℕ) → T (isName (nameClass x)) ↔ IsName x
 name-law x = (λ t. there (nameClass x) refl t, back)
   where
     there : (c : NameClass) → nameClass x ≡ c → T (isName c) → IsName x
-    there House e t = inl (house-iff x .0 e)
+    there Common e t = inl (common-iff x .0 e)
     there Generated e t = inr (inl (generated-iff x .0 e))
     there TooLong e t = inr (inr (long-iff x .0 e))
     there Wrong e t = absurd t
 
     back : IsName x → T (isName (nameClass x))
-    back (inl h) = subst (λ c. T (isName c)) (sym (house-iff x .1 h)) tt
+    back (inl h) = subst (λ c. T (isName c)) (sym (common-iff x .1 h)) tt
     back (inr (inl h)) = subst (λ c. T (isName c)) (sym (generated-iff x .1 h)) tt
     back (inr (inr h)) = subst (λ c. T (isName c)) (sym (long-iff x .1 h)) tt
 

@@ -14,11 +14,10 @@ use Rattle.rules.proofs.Booleans.{stable, decide, T-or, T-or-out}
 use Rattle.rules.proofs.Connectives.{not-law, or-law, and-law}
 use Rattle.rules.proofs.Lists.{all-any, any-imp, any-with, any-app, app-any, some-any, any-from, from-any}
 use Rattle.names.specs.declared.forms.NameClass.{NameClass}
-use Rattle.names.specs.declared.forms.NameClass.the-variants.{House, Generated, TooLong, Wrong}
-use Rattle.names.specs.Names.{nameClass, takes, allowed}
+use Rattle.names.specs.declared.forms.NameClass.the-variants.{Common, Generated, TooLong, Wrong}
+use Rattle.names.specs.Names.{nameClass, takes, allowed, madeName}
 use Rattle.name_store.specs.NameStore.{sameBytes, among}
 use Rattle.name_store.proofs.NameStores.{same-law}
-use Rattle.conditions.specs.Left.{madeName}
 use Rattle.lines.specs.declared.stage.Stage.{Stage}
 use Rattle.lines.specs.declared.stage.Stage.the-variants.{Declaring, Fixing, Ruling}
 use Rattle.lines.specs.Forms.{Word, atoms, min, vary, fix}
@@ -102,11 +101,11 @@ module _ (kind : Kind) (x : List ℕ) where
   class-law = (there kind (nameClass x), back kind (nameClass x))
     where
       there : (k : Kind) (c : NameClass) → T (not (takes k c)) → ClassRefused k c
-      there Plain House t = absurd t
+      there Plain Common t = absurd t
       there Plain Generated t = absurd t
       there Plain TooLong t = inl (inl refl)
       there Plain Wrong t = inr refl
-      there Preference House t = absurd t
+      there Preference Common t = absurd t
       there Preference Generated t = inl (inr (refl, refl))
       there Preference TooLong t = inl (inl refl)
       there Preference Wrong t = inr refl

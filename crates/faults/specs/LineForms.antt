@@ -9,7 +9,7 @@ use Rattle.rules.specs.Lists.{All}
 use Rattle.lines.specs.Tokens.{Token, opening, closing, word}
 use Rattle.lines.specs.Conditions.{wordsIn}
 use Rattle.lines.specs.Forms.{Word, wordBytes, LineForm, declares, rules, condition, blank, broken}
-use Rattle.faults.specs.NameForms.{HouseName, GeneratedName, TooLongName}
+use Rattle.faults.specs.NameForms.{CommonName, GeneratedName, TooLongName}
 
 -- brackets and words
 
@@ -43,7 +43,7 @@ AreTokens l (word x ∷ ts) = (k : ℕ) × (s : List ℕ) × (l ≡ behindSpaces
 
 -- a name, allowed in its file or not
 abbrev pub IsName : List ℕ → Type 0
-IsName x = HouseName x ⊎ (GeneratedName x ⊎ TooLongName x)
+IsName x = CommonName x ⊎ (GeneratedName x ⊎ TooLongName x)
 
 -- byte 10 is its last
 abbrev pub Ended : List ℕ → Type 0

@@ -11,8 +11,8 @@ use Rattle.kinds.specs.declared.refusals.Refusal.{Refusal}
 use Rattle.kinds.specs.declared.refusals.Refusal.the-variants.{TextTooLong, BrokenForm, Name, DeclaredTwice, Undeclared, TwiceInList, Limit, FilledNot, Output, RuleStore, TooManyAtoms, SetNumber, Budget, NameStore, BrokenClauses, LiteralBeyond, BrokenCondition, DeepBrackets}
 use Rattle.rules.specs.Lists.{Any, sum}
 use Rattle.rules.specs.Rules.{Rule, occurrences}
+use Rattle.names.specs.Names.{madeName}
 use Rattle.conditions.specs.Conditions.{Cond}
-use Rattle.conditions.specs.Left.{madeName}
 use Rattle.conditions.specs.Numbers.{conditionRules}
 use Rattle.lines.specs.declared.stage.Stage.{Stage}
 use Rattle.lines.specs.declared.stage.Stage.the-variants.{Declaring, Fixing, Ruling}
