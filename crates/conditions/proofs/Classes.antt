@@ -29,10 +29,6 @@ Fixed w = w ≡ fixed
 abbrev unfixed? : ℕ → Bool
 unfixed? w = not (eqb w fixed)
 
-pub unfixed-le : (ws : List ℕ) → unfixed ws ≤ length ws
-unfolding unfixed
-unfixed-le ws = filter-length unfixed? ws
-
 pub word-high : (k w : ℕ) → RoleForm k (roleOf w) → w ≤ fixed
 word-high k w h = step (decLe w classLimit) (ℕ-discrete w varying) (ℕ-discrete w fixed)
   where
@@ -67,6 +63,10 @@ unfixed-parts b (w ∷ ws) u h = step (eqb w fixed) refl (unfixed-parts w ws (u 
         let all = all-fixed ws (u .1) (subst (λ (i : ℕ). NeverFalling i ws) f (h .1)) in
         subst (λ (i : ℕ). All Unfixed (take i (w ∷ ws)) × All Fixed (drop i (w ∷ ws))) (sym (none-unfixed ws all)) (tt, (f, all))
     step false e r = let f : w ≢ fixed = eqb-false w fixed e in ((omega (arith, u .0), r .0), r .1)
+
+pub unfixed-le : (ws : List ℕ) → unfixed ws ≤ length ws
+unfolding unfixed
+unfixed-le ws = filter-length unfixed? ws
 
 -- and the others the last ones
 pub unfixed-app : (xs ys : List ℕ) → All Unfixed xs → All Fixed ys → unfixed (xs ++ ys) ≡ length xs

@@ -108,10 +108,6 @@ module _ (q k : ℕ) where
   -- the words are the atoms' classes
 
   module _ (ws : List ℕ) (fits : q ≤ length ws) where
-    pub words-length : length (placedWords q k ws) ≡ length ws + k
-    unfolding placedWords
-    words-length = inserted-length 0 ws (replicate k varying) fits (length-replicate k varying)
-
     word-planner : (a : ℕ) → getD (placedWords q k ws) (place q k (planner a)) 0 ≡ getD ws a 0
     unfolding placedWords
     word-planner a = inserted-planner 0 ws (replicate k varying) fits (length-replicate k varying) a
@@ -119,6 +115,10 @@ module _ (q k : ℕ) where
     word-made : (i : ℕ) → i < k → getD (placedWords q k ws) (q + i) 0 ≡ varying
     unfolding placedWords
     word-made i l = inserted-made 0 ws (replicate k varying) fits (length-replicate k varying) i l ∙ getD-replicate k i varying 0 l
+
+    pub words-length : length (placedWords q k ws) ≡ length ws + k
+    unfolding placedWords
+    words-length = inserted-length 0 ws (replicate k varying) fits (length-replicate k varying)
 
     pub class-up : (w a : ℕ) → OfClass ws w a → OfClass (placedWords q k ws) w (place q k (planner a))
     class-up w a h = (subst (λ (n : ℕ). place q k (planner a) < n) (sym words-length) (place-lt (length ws) a (h .0)), word-planner a ∙ h .1)
