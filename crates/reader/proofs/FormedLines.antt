@@ -179,21 +179,23 @@ numbers-below names xs h = all-map (λ a. a < length names) (nameNumber names) x
 list-form : {kind : Kind} {names xs : List (List ℕ)} → Listed kind names xs → ListForm (length names) (map (nameNumber names) xs)
 list-form {kind} {names} {xs} l = (numbers-below names xs (l .all-declared), numbers-differ names xs (l .all-declared) (l .different))
 
+pub rule-form : (st : SoFar) (hs bs ns : List (List ℕ)) → Adds st hs bs ns → RuleForm (st .kind) (length (st .names)) (numbered (st .names) hs bs ns)
+rule-form st hs bs ns d = record {
+  head-form = list-form (d .head-listed);
+  body-form = list-form (d .body-listed);
+  nots-form = list-form (d .nots-listed);
+  no-nots = no-nots-form (st .kind) (nameNumber (st .names)) ns (d .no-nots);
+}
+
 pub rule-formed : (st : SoFar) (hs bs ns : List (List ℕ)) → Formed st → Adds st hs bs ns → Formed (with-rule st (numbered (st .names) hs bs ns))
 rule-formed st hs bs ns s d =
     let n = length (st .names) in
-    let new : RuleForm (st .kind) n (numbered (st .names) hs bs ns) = record {
-      head-form = list-form (d .head-listed);
-      body-form = list-form (d .body-listed);
-      nots-form = list-form (d .nots-listed);
-      no-nots = no-nots-form (st .kind) (nameNumber (st .names)) ns (d .no-nots);
-    } in
     record {
       atoms-fit = s .atoms-fit;
       rules-fit = d .counts-fit .rules;
       occurrences-fit = d .counts-fit .occurrences;
       classes-form = s .classes-form;
-      rule-forms = all-app (RuleForm (st .kind) (n + st .made)) (st .program-rules) (numbered (st .names) hs bs ns ∷ []) (s .rule-forms) (rule-more (st .kind) n (n + st .made) (omega arith) (numbered (st .names) hs bs ns) new, tt);
+      rule-forms = all-app (RuleForm (st .kind) (n + st .made)) (st .program-rules) (numbered (st .names) hs bs ns ∷ []) (s .rule-forms) (rule-more (st .kind) n (n + st .made) (omega arith) (numbered (st .names) hs bs ns) (rule-form st hs bs ns d), tt);
       names-form = s .names-form;
       stage-form = stage-free (st .stage) (st .kind) (with-rule st (numbered (st .names) hs bs ns)) (d .ruling);
       made-kind = s .made-kind;
@@ -204,7 +206,7 @@ from-more : (P : ℕ → Type 0) (s c d : ℕ) → All P (from s c) → All P (f
 from-more P s zero d h k = subst (λ i. All P (from i d)) (let e : s + 0 ≡ s = omega arith in e) k
 from-more P s (suc c) d h k = (h .0, from-more P (suc s) c d (h .1) (subst (λ i. All P (from i d)) (let e : s + suc c ≡ suc s + c = omega arith in e) k))
 
-module _ (st : SoFar) (ts : List Token) (a : List ℕ) (c : Cond) (s : Formed st) (d : Speaks st ts a c) where
+module _ (st : SoFar) (ts : List Token) (a : List ℕ) (c : Cond) (d : Speaks st ts a c) where
   abbrev n : ℕ
   n = length (st .names)
 
@@ -220,7 +222,7 @@ module _ (st : SoFar) (ts : List Token) (a : List ℕ) (c : Cond) (s : Formed st
   abbrev after : SoFar
   after = with-condition st c j b
 
-  below : All (λ x. x < n) (namesOf c ++ (b ∷ []))
+  pub below : All (λ x. x < n) (namesOf c ++ (b ∷ []))
   below =
       let both = all-parts (Among (st .names)) (namesIn ts) (a ∷ []) (d .all-declared) in
       all-app (λ x. x < n) (namesOf c) (b ∷ []) (subst (All (λ x. x < n)) (sym (parsed-names (nameNumber (st .names)) (suc m) ts (d .parsed-as))) (numbers-below (st .names) (namesIn ts) (both .0))) (number-below a (st .names) (both .1 .0), tt)
@@ -232,8 +234,8 @@ module _ (st : SoFar) (ts : List Token) (a : List ℕ) (c : Cond) (s : Formed st
   new-forms : All (RuleForm Preference (n + (m + j))) (conditionRules n c b)
   new-forms = condition-forms n c b (m + j) m j below (parsed-connectives (nameNumber (st .names)) (suc m) ts (d .parsed-as)) (omega arith)
 
-  pub condition-formed : Formed after
-  condition-formed = record {
+  pub condition-formed : Formed st → Formed after
+  condition-formed s = record {
     atoms-fit = d .counts-fit .atoms;
     rules-fit = d .counts-fit .rules;
     occurrences-fit = d .counts-fit .occurrences;
@@ -253,7 +255,7 @@ module _ (st : SoFar) (ts : List Token) (a : List ℕ) (c : Cond) (s : Formed st
 pub line-formed : (st after : SoFar) (f : LineForm) → Formed st → stepForm st f ≡ next after → Formed after
 line-formed st after (declares w xs) s e = let d = declare-said st w xs after e in subst Formed (d .1) (declared-formed st w xs s (d .0))
 line-formed st after (rules hs bs ns) s e = let d = rule-said st hs bs ns after e in subst Formed (d .1) (rule-formed st hs bs ns s (d .0))
-line-formed st after (condition ts a) s e = let d = condition-said st ts a after e in subst Formed (d .2) (condition-formed st ts a (d .0) s (d .1))
+line-formed st after (condition ts a) s e = let d = condition-said st ts a after e in subst Formed (d .2) (condition-formed st ts a (d .0) (d .1) s)
 line-formed st after blank s e = let same : st ≡ after = cc in subst Formed same s
 line-formed st after broken s e = absurd (let z : _≡_ {A = ℕ} 0 1 = cc in omega arith)
 
