@@ -4,5 +4,6 @@ pub mod Written
 pub mod Rows
 pub mod Readings
 pub mod Numbers
+pub mod Table
 pub mod Programs
 pub mod Left
