@@ -48,6 +48,7 @@ start-held text {kind} e words bytes a b =
       stage-is = refl;
       classes-is = refl;
       counts-are = refl;
+      made-is = refl;
       class-words = no-words kind;
       stored = record { front = take 4 words; rest = drop 4 words; is = sym (first words); before = length-take-le 4 words (omega arith); ends = refl };
       names-allowed = tt;
@@ -56,6 +57,8 @@ start-held text {kind} e words bytes a b =
       short = omega arith;
       counts-fit = limits-within {kind = kind} {c = emptyCounts} (record { atoms = zero-le; rules = zero-le; occurrences = zero-le });
       classes-fit = omega arith;
+      made-fits = omega arith;
+      made-kind = λ z. refl;
       no-rules = λ z. refl;
       words-room = a;
       bytes-room = b;

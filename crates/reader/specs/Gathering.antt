@@ -18,7 +18,7 @@ use Rattle.gathering.specs.Gathered.{stateOf, Held}
 
 -- before the first line; four words are kept for the header
 abbrev pub startCounts : Gathered
-startCounts = record { stage = Declaring; classes = 0; counts = emptyCounts; words = 4; bytes = 0 }
+startCounts = record { stage = Declaring; classes = 0; counts = emptyCounts; made = 0; words = 4; bytes = 0 }
 
 abbrev pub passedOn : Line → ℕ → Gather
 passedOn (Next g) k = Whole g
