@@ -7,3 +7,4 @@ pub mod Numbers
 pub mod Table
 pub mod Programs
 pub mod Left
+pub mod DirectReading
