@@ -148,15 +148,15 @@ numbers-joined k next row ls rs xs ys e p q =
     ∙ ap (λ (i : ℕ). from (suc (k + next)) ls ++ (i ∷ from (suc (suc (k + next) + ls)) rs)) a
     ∙ from-append (suc (k + next)) ls (suc rs)
 
+none-left : (p : List ℕ → Bool) (xs ys : List (List ℕ)) → some p (xs ++ ys) ≡ false → some p ys ≡ false
+none-left p xs ys e = go (some p xs) (some p ys) (sym (some-app p xs ys) ∙ e)
+  where
+    go : (a b : Bool) → (a || b) ≡ false → b ≡ false
+    go true b h = absurd (let z : _≡_ {A = ℕ} 0 1 = cc in omega arith)
+    go false b h = h
+
 module _ {names : List (List ℕ)} {s : List ℕ} {made-before : ℕ} where
   -- reading goes on behind an opening bracket, a connective's word, a part
-
-  none-left : (p : List ℕ → Bool) (xs ys : List (List ℕ)) → some p (xs ++ ys) ≡ false → some p ys ≡ false
-  none-left p xs ys e = go (some p xs) (some p ys) (sym (some-app p xs ys) ∙ e)
-    where
-      go : (a b : Bool) → (a || b) ≡ false → b ≡ false
-      go true b h = absurd (let z : _≡_ {A = ℕ} 0 1 = cc in omega arith)
-      go false b h = h
 
   module _ {at next : ℕ} {table : List ℕ} (h : Readable names s at made-before next table) where
     pub behind-opening : {r : Place} → OpeningIs s at r → {p : ℕ} → r ≡ Place.At p → Readable names s p made-before next table
@@ -288,10 +288,163 @@ module _ {names : List (List ℕ)} {s : List ℕ} {made-before : ℕ} where
             written =
                 w
                 ∙ ap (sets after-table (3 * row)) words-are
-                ∙ row-put (length names) new-row (rows (k .condition)) (k .written)
-                ∙ rows-put (length names) (rows (h .condition)) (new-row ∷ rows (k .condition)) (h .count) (h .written)
+                ∙ row-put (length names) new-row mid row (rows (k .condition)) (k .written)
+                ∙ rows-put (length names) before next (rows (h .condition)) (new-row ∷ rows (k .condition)) (h .count) (h .written)
                 ∙ ap (λ l. sets before (3 * next) (flat (rowWords (length names)) l)) (sym rows-are);
             parses = λ ps q. goes-on ps q
                 ∙ k .parses (awaits j (h .condition) t ∷ ps) (open-awaiting j (h .condition) t ps)
                 ∙ joined-parse (nameNumber names) (suc (made-before + later)) j (h .condition) t (k .condition) ps (tokens (drop end s)) b;
+          }
+
+  -- what an answer says
+  module _ {l : Level} {at next : ℕ} {before after-table : List ℕ} {r : Part} (h : PartIs l names s at made-before next before after-table r) {place atom next′ : ℕ} (e : r ≡ Part.At place atom next′) where
+    said : PartSays l names s at made-before next before after-table (Part.At place atom next′)
+    said = subst (PartSays l names s at made-before next before after-table) e (h .says)
+
+    pub part-read : PartAt l names s at made-before next before after-table place atom next′
+    part-read = said .0
+
+    pub part-behind : Behind l (tokens (drop place s))
+    part-behind = said .1
+
+  pub first-faulty : (j : Joint) {at next : ℕ} {before after-table : List ℕ} {r : Part} → PartIs (lower j) names s at made-before next before after-table r → r ≡ Part.Faulty
+      → (last : List ℕ) → PartIs (level j) names s at made-before next before last Part.Faulty
+  first-faulty j {at} {next} {before} {after-table} h e last =
+      let faults = subst (PartSays (lower j) names s at made-before next before after-table) e (h .says) in
+      record { says = λ ps o. faults ps (open-lower j ps o) }
+
+  pub no-more : (j : Joint) {at next : ℕ} {before after-table : List ℕ} {place atom next′ : ℕ} → PartAt (level j) names s at made-before next before after-table place atom next′
+      → Behind (lower j) (tokens (drop place s)) → {r : Place} → WordIs s place (wordOf j) r → r ≡ Place.Absent → PartIs (level j) names s at made-before next before after-table (Part.At place atom next′)
+  no-more j {place = place} h b o e = record { says = (h, behind-level j (tokens (drop place s)) b (subst (WordSays s place (wordOf j)) e (o .says))) }
+
+module _ (names : List (List ℕ)) (s : List ℕ) (made-before at next : ℕ) where
+  -- a part behind `not`
+  module _ {r : Place} (o : WordIs s at notWord r) {to : ℕ} (e : r ≡ Place.At to) where
+    abbrev u : ℕ
+    u = suc (made-before + next)
+
+    not-found : WordSays s at notWord (Place.At to)
+    not-found = subst (WordSays s at notWord) e (o .says)
+
+    behind-not : (ps : List Pending) → parseFrom (nameNumber names) u ps part (tokens (drop at s)) ≡ parseFrom (nameNumber names) (suc (made-before + (next + 1))) (negate u ∷ ps) part (tokens (drop to s))
+    behind-not ps =
+        let v : suc u ≡ suc (made-before + (next + 1)) = omega arith in
+        ap (parseFrom (nameNumber names) u ps part) (not-found .1)
+        ∙ part-not (nameNumber names) u ps (tokens (drop to s))
+        ∙ ap (λ (i : ℕ). parseFrom (nameNumber names) i (negate u ∷ ps) part (tokens (drop to s))) v
+
+    pub negated-faulty : {before after-table : List ℕ} {q : Part} → PartIs single names s to made-before (next + 1) before after-table q → q ≡ Part.Faulty
+        → (last : List ℕ) → PartIs single names s at made-before next before last Part.Faulty
+    negated-faulty {before} {after-table} k f last =
+        let faults = subst (PartSays single names s to made-before (next + 1) before after-table) f (k .says) in
+        record { says = λ ps q. behind-not ps ∙ faults (negate u ∷ ps) tt }
+
+    module _ {before after-table last : List ℕ} {end atom later n : ℕ} (k : PartAt single names s to made-before (next + 1) before after-table end atom later)
+        (w : last ≡ sets after-table (3 * next) (notKind ∷ atom ∷ 0 ∷ [])) (m : n ≡ length names) where
+      abbrev negation : Cond
+      negation = NOT u (k .condition)
+
+      negation-rows : rows negation ≡ not-row u (Written.part (k .condition)) ∷ rows (k .condition)
+      unfolding rows
+      negation-rows = refl
+
+      negation-words : notKind ∷ atom ∷ 0 ∷ [] ≡ rowWords (length names) (not-row u (Written.part (k .condition)))
+      unfolding rowWords
+      negation-words = ap (λ (x : ℕ). notKind ∷ x ∷ 0 ∷ []) (k .is-atom)
+
+      negation-numbers : connectives negation ≡ from u (suc (length (rows (k .condition))))
+      unfolding connectives
+      negation-numbers =
+          let v : suc (made-before + (next + 1)) ≡ suc u = omega arith in
+          ap (λ l. u ∷ l) (k .numbered ∙ ap (λ (i : ℕ). from i (length (rows (k .condition)))) v)
+
+      negation-names : namesOf negation ≡ namesOf (k .condition)
+      unfolding namesOf
+      negation-names = refl
+
+      behind-is : connectivesIn (tokens (drop at s)) ≡ suc (connectivesIn (tokens (drop to s)))
+      behind-is = ap connectivesIn (not-found .1) ∙ connectives-connective is-not (tokens (drop to s))
+
+      pub negated-part : PartIs single names s at made-before next before last (Part.At end (n + made-before + next) later)
+      negated-part =
+          let size : length (rows negation) ≡ suc (length (rows (k .condition))) = ap length negation-rows in
+          record {
+            says = (
+              record {
+                condition = negation;
+                onward = omega (arith, not-found .0 .onward, k .onward);
+                inside = k .inside;
+                count = omega (arith, k .count);
+                connectives-left = omega (arith, behind-is, k .connectives-left);
+                passed = k .passed;
+                names-left = ap namesIn (not-found .1) ∙ names-connective is-not (tokens (drop to s)) ∙ k .names-left;
+                is-atom = made-atom (length names) n made-before next m;
+                below = omega (arith, k .count);
+                numbered = negation-numbers ∙ ap (from u) (sym size);
+                known = subst (All (λ a. a < length names)) (sym negation-names) (k .known);
+                written =
+                    w
+                    ∙ ap (sets after-table (3 * next)) negation-words
+                    ∙ row-put (length names) (not-row u (Written.part (k .condition))) before next (rows (k .condition)) (k .written)
+                    ∙ ap (λ l. sets before (3 * next) (flat (rowWords (length names)) l)) (sym negation-rows);
+                parses = λ ps q. behind-not ps ∙ k .parses (negate u ∷ ps) tt ∙ negated (nameNumber names) (suc (made-before + later)) ps u (k .condition) (tokens (drop end s));
+              },
+              tt,
+            );
+          }
+
+  -- a part in brackets
+  module _ {r : Place} (o : OpeningIs s at r) {inner : ℕ} (e : r ≡ Place.At inner) where
+    opening-found : OpeningSays s at (Place.At inner)
+    opening-found = subst (OpeningSays s at) e (o .says)
+
+    inside-bracket : (number : ℕ) (ps : List Pending) → parseFrom (nameNumber names) number ps part (tokens (drop at s)) ≡ parseFrom (nameNumber names) number (bracket ∷ ps) part (tokens (drop inner s))
+    inside-bracket number ps = ap (parseFrom (nameNumber names) number ps part) (opening-found .1) ∙ part-opening (nameNumber names) number ps (tokens (drop inner s))
+
+    pub inner-faulty : {before after-table : List ℕ} {q : Part} → PartIs disjunctions names s inner made-before next before after-table q → q ≡ Part.Faulty
+        → (last : List ℕ) → PartIs single names s at made-before next before last Part.Faulty
+    inner-faulty {before} {after-table} k f last =
+        let faults = subst (PartSays disjunctions names s inner made-before next before after-table) f (k .says) in
+        record { says = λ ps q. inside-bracket (suc (made-before + next)) ps ∙ faults (bracket ∷ ps) tt }
+
+    module _ {before after-table : List ℕ} {place atom later : ℕ} (k : PartAt disjunctions names s inner made-before next before after-table place atom later) {q : Place} (c : ClosedIs s place q) where
+      up-to-closing : (ps : List Pending)
+          → parseFrom (nameNumber names) (suc (made-before + next)) ps part (tokens (drop at s)) ≡ parseFrom (nameNumber names) (suc (made-before + later)) (bracket ∷ ps) (after (k .condition)) (tokens (drop place s))
+      up-to-closing ps = inside-bracket (suc (made-before + next)) ps ∙ k .parses (bracket ∷ ps) tt
+
+      pub unclosed-faulty : Behind disjunctions (tokens (drop place s)) → q ≡ Place.Absent → (last : List ℕ) → PartIs single names s at made-before next before last Part.Faulty
+      unclosed-faulty b f last =
+          let open? = subst (ClosedSays s place) f (c .says) in
+          record { says = λ ps i. up-to-closing ps ∙ unclosed (nameNumber names) (suc (made-before + later)) (k .condition) ps (tokens (drop place s)) (b .0) (b .1) open? }
+
+      pub bracketed-part : {end : ℕ} → q ≡ Place.At end → PartIs single names s at made-before next before after-table (Part.At end atom later)
+      bracketed-part {end} f =
+          let closed = subst (ClosedSays s place) f (c .says) in
+          let in-front : connectivesIn (tokens (drop at s)) ≡ connectivesIn (tokens (drop inner s)) = ap connectivesIn (opening-found .1) ∙ connectives-opening (tokens (drop inner s)) in
+          let at-end : connectivesIn (tokens (drop place s)) ≡ connectivesIn (tokens (drop end s)) = ap connectivesIn (closed .1) ∙ connectives-closing (tokens (drop end s)) in
+          record {
+            says = (
+              record {
+                condition = k .condition;
+                onward = omega (arith, opening-found .0 .onward, k .onward, closed .0 .onward);
+                inside = closed .0 .inside;
+                count = k .count;
+                connectives-left = omega (arith, k .connectives-left);
+                passed = k .passed;
+                names-left =
+                    ap namesIn (opening-found .1)
+                    ∙ names-opening (tokens (drop inner s))
+                    ∙ k .names-left
+                    ∙ ap (λ l. k .passed ++ l) (ap namesIn (closed .1) ∙ names-closing (tokens (drop end s)));
+                is-atom = k .is-atom;
+                below = k .below;
+                numbered = k .numbered;
+                known = k .known;
+                written = k .written;
+                parses = λ ps i. up-to-closing ps
+                    ∙ ap (parseFrom (nameNumber names) (suc (made-before + later)) (bracket ∷ ps) (after (k .condition))) (closed .1)
+                    ∙ unbracketed (nameNumber names) (suc (made-before + later)) ps (k .condition) (tokens (drop end s));
+              },
+              tt,
+            );
           }

@@ -3,3 +3,4 @@ pub mod ConditionLaws
 pub mod WordPlaces
 pub mod TableRows
 pub mod JoinedParts
+pub mod NamedParts
