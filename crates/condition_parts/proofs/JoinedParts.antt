@@ -199,6 +199,11 @@ module _ {names : List (List ℕ)} {s : List ℕ} {made-before : ℕ} where
       pub atom-fits : atom < 65536
       atom-fits = omega (arith, k .below, behind-part .numbers)
 
+  -- a connective's row has room once its right part is read
+  pub row-room : (row : ℕ) {at : ℕ} {table : List ℕ} → Readable names s at made-before (row + 1) table → {l : Level} {after-table : List ℕ} {place atom next′ : ℕ}
+      → PartAt l names s at made-before (row + 1) table after-table place atom next′ → 3 * row + 3 ≤ length after-table
+  row-room row h k = omega (arith, h .room, table-kept h k)
+
   -- a part of one level is a part of the level above it
   pub lifted : (j : Joint) {at next : ℕ} {before after-table : List ℕ} {place atom next′ : ℕ}
       → PartAt (lower j) names s at made-before next before after-table place atom next′ → PartAt (level j) names s at made-before next before after-table place atom next′

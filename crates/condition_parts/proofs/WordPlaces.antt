@@ -13,12 +13,13 @@ use Rattle.name_store.specs.NameStore.{sameBytes}
 use Rattle.name_store.proofs.NameStores.{same-law}
 use Rattle.lines.specs.declared.scan.Item.{Item}
 use Rattle.lines.specs.declared.scan.Item.the-variants.{At, Stop}
+use Rattle.lines.specs.declared.scan.Place.{Place}
 use Rattle.lines.specs.declared.scan.Place.the-variants as Place
 use Rattle.lines.specs.Tokens.{Token, opening, closing, word, tokens, leading, items}
 use Rattle.lines.specs.Shapes.{gap, itemOf}
 use Rattle.lines.proofs.TokenPlaces.{past-gap, First, is-end, is-space, is-open, is-close, is-other, first-of, end-tokens, open-tokens, close-tokens, word-tokens, items-end, item-fits, item-long, item, word-is}
 use Rattle.lines.proofs.BracketPlaces.{nothing-out, tokens-at}
-use Rattle.condition_parts.specs.Places.{opens?, leads?, OpeningIs, WordIs}
+use Rattle.condition_parts.specs.Places.{Past, opens?, leads?, OpeningSays, OpeningIs, WordSays, WordIs}
 
 -- an opening bracket behind the gap at a place
 module _ (s : List ℕ) (at : ℕ) {g : ℕ} (e : g ≡ gap (drop at s)) where
@@ -79,3 +80,19 @@ module _ (s : List ℕ) (at : ℕ) (w : List ℕ) {r : Item} (e : r ≡ itemOf (
 
     pub other-word : q ≡ false → WordIs s at w Place.Absent
     other-word t = record { says = ap (leads? w) (word-is s at e d) ∙ sym f ∙ t }
+
+-- what the answers say
+
+module _ {s : List ℕ} {at : ℕ} {r : Place} (h : OpeningIs s at r) where
+  pub opening-past : {p : ℕ} → r ≡ Place.At p → Past s at p
+  opening-past e = subst (OpeningSays s at) e (h .says) .0
+
+  pub opening-absent : r ≡ Place.Absent → opens? (tokens (drop at s)) ≡ false
+  opening-absent e = subst (OpeningSays s at) e (h .says)
+
+module _ {s : List ℕ} {at : ℕ} {w : List ℕ} {r : Place} (h : WordIs s at w r) where
+  pub word-past : {p : ℕ} → r ≡ Place.At p → Past s at p
+  word-past e = subst (WordSays s at w) e (h .says) .0
+
+  pub word-absent : r ≡ Place.Absent → leads? w (tokens (drop at s)) ≡ false
+  word-absent e = subst (WordSays s at w) e (h .says)

@@ -1,4 +1,16 @@
-use Prim.Native.Nat.{ℕ, _<_}
+use borrow.Author.Needs.{needs}
+use native.Mathlib.Omega.{arith}
+use mathlib.Core.Path.{sym}
+use mathlib.Core.List.{List}
+use lib.ListN.{length, drop}
+use Rattle.name_store.specs.NameStore.{decodeNames}
+use Rattle.name_store.proofs.NamePlaces.{length-decode}
+use Rattle.lines.specs.Tokens.{tokens}
+use Rattle.condition_parts.specs.Parts.{Behind, PartAt}
+use Rattle.condition_parts.proofs.ConditionLaws.{is-not, is-and, is-or}
+use Rattle.condition_parts.proofs.WordPlaces.{opening-past, opening-absent, word-past, word-absent}
+use Rattle.condition_parts.proofs.JoinedParts.{conj, disj, level, lower, behind-opening, behind-word, behind-part, table-kept, atom-fits, row-room, lifted, joined, right-faulty, part-read, part-behind, first-faulty, no-more, negated-faulty, negated-part, inner-faulty, unclosed-faulty, bracketed-part}
+use Prim.Native.Nat.{ℕ, _+_, _*_, _-_, _<_}
 use borrow.Fn.Kinds.{In}
 use borrow.Fn.PlainCycle.{Measures, is, falls, and}
 use Rattle.condition_parts.proofs.parts.and_level.Reads as and-level
@@ -22,16 +34,16 @@ use Rattle.condition_parts.proofs.parts.+and_level+bracket+not_level+or
 use Rattle.condition_parts.proofs.parts.+and_level+bracket+not_level+or_level.Tie.{close}
 
 abbrev μ-and-level : Measures 6 and-level-kinds.ps ℕ
-μ-and-level κs a = ?
+μ-and-level κs a = 4 * (length (a .0 .now) - a .1 .0) + 2
 
 abbrev μ-bracket : Measures 6 bracket-kinds.ps ℕ
-μ-bracket κs a = ?
+μ-bracket κs a = 4 * (length (a .0 .now) - a .1 .0) + 0
 
 abbrev μ-not-level : Measures 6 not-level-kinds.ps ℕ
-μ-not-level κs a = ?
+μ-not-level κs a = 4 * (length (a .0 .now) - a .1 .0) + 1
 
 abbrev μ-or-level : Measures 6 or-level-kinds.ps ℕ
-μ-or-level κs a = ?
+μ-or-level κs a = 4 * (length (a .0 .now) - a .1 .0) + 3
 
 abbrev and-level-at : ℕ → In 6 and-level-kinds.ps
 and-level-at t = and 6 and-level-kinds.ps (is 6 and-level-kinds.ps μ-and-level t) and-level.Pre
@@ -62,13 +74,12 @@ or-level-below t =
 
 abbrev and-level-Inv-loop : and-level-lts.InvT-loop
 and-level-Inv-loop s at made next bytes starts firsts links table₀ first first-atom first-next place₀ atom₀ row₀ t20 table place atom row =
-    ?
+    ((before : List ℕ) → PartAt (level conj) (decodeNames (length starts) bytes) s at made next before table₀ place₀ atom₀ row₀ → PartAt (level conj) (decodeNames (length starts) bytes) s at made next before table place atom row) × Behind (lower conj) (tokens (drop place s))
 
 abbrev and-level-μ-loop : and-level-lts.MeasureT-loop
 and-level-μ-loop s at made next bytes starts firsts links table₀ first first-atom first-next place₀ atom₀ row₀ t20 table place atom row =
-    ?
+    length s - place
 
--- src/parts.rt:144:9
 and-level-not-level-requires : (t : ℕ) → and-level-lts.Need-not-level-requires (
   not-level-below t,
   not-level.Post,
@@ -77,9 +88,8 @@ and-level-not-level-requires : (t : ℕ) → and-level-lts.Need-not-level-requir
   put-row-reads.Asked,
   put-row-reads.Learnt,
 ) (and-level-at t) and-level.Post and-level-Inv-loop and-level-μ-loop
-and-level-not-level-requires t c κs = ?
+and-level-not-level-requires t c κs = (omega arith, (c .before .before .before .before .before .before .before .pre .1 .0, c .before .before .before .before .before .before .before .pre .1 .1))
 
--- src/parts.rt:141:16
 and-level-enum-known-first : (t : ℕ) → and-level-lts.Need-enum-known-first (
   not-level-below t,
   not-level.Post,
@@ -88,9 +98,8 @@ and-level-enum-known-first : (t : ℕ) → and-level-lts.Need-enum-known-first (
   put-row-reads.Asked,
   put-row-reads.Learnt,
 ) (and-level-at t) and-level.Post and-level-Inv-loop and-level-μ-loop
-and-level-enum-known-first t c = ?
+and-level-enum-known-first t c = search needs
 
--- src/parts.rt:146:9
 and-level-enum-told : (t : ℕ) → and-level-lts.Need-enum-told (
   not-level-below t,
   not-level.Post,
@@ -99,9 +108,8 @@ and-level-enum-told : (t : ℕ) → and-level-lts.Need-enum-told (
   put-row-reads.Asked,
   put-row-reads.Learnt,
 ) (and-level-at t) and-level.Post and-level-Inv-loop and-level-μ-loop
-and-level-enum-told t c = ?
+and-level-enum-told t c = search needs
 
--- src/parts.rt:146:9
 and-level-same-length : (t : ℕ) → and-level-lts.Need-same-length (
   not-level-below t,
   not-level.Post,
@@ -110,9 +118,8 @@ and-level-same-length : (t : ℕ) → and-level-lts.Need-same-length (
   put-row-reads.Asked,
   put-row-reads.Learnt,
 ) (and-level-at t) and-level.Post and-level-Inv-loop and-level-μ-loop
-and-level-same-length t c = ?
+and-level-same-length t c = search needs
 
--- src/parts.rt:146:9
 and-level-returns : (t : ℕ) → and-level-lts.Need-returns (
   not-level-below t,
   not-level.Post,
@@ -121,9 +128,8 @@ and-level-returns : (t : ℕ) → and-level-lts.Need-returns (
   put-row-reads.Asked,
   put-row-reads.Learnt,
 ) (and-level-at t) and-level.Post and-level-Inv-loop and-level-μ-loop
-and-level-returns t c = ?
+and-level-returns t c = first-faulty conj (c .before .before .before .before .not-level .ensures) (c .enum-told .given .1) _
 
--- src/parts.rt:151:5
 and-level-loop-holds : (t : ℕ) → and-level-lts.Need-loop-holds (
   not-level-below t,
   not-level.Post,
@@ -132,9 +138,8 @@ and-level-loop-holds : (t : ℕ) → and-level-lts.Need-loop-holds (
   put-row-reads.Asked,
   put-row-reads.Learnt,
 ) (and-level-at t) and-level.Post and-level-Inv-loop and-level-μ-loop
-and-level-loop-holds t c = ?
+and-level-loop-holds t c = (λ before h. h, part-behind (c .before .before .before .before .before .not-level .ensures) (c .before .first .given .1))
 
--- src/parts.rt:152:47
 and-level-slice-aggregate-word-at : (t : ℕ) → and-level-lts.Need-slice-aggregate-word-at (
   not-level-below t,
   not-level.Post,
@@ -143,9 +148,8 @@ and-level-slice-aggregate-word-at : (t : ℕ) → and-level-lts.Need-slice-aggre
   put-row-reads.Asked,
   put-row-reads.Learnt,
 ) (and-level-at t) and-level.Post and-level-Inv-loop and-level-μ-loop
-and-level-slice-aggregate-word-at t c = ?
+and-level-slice-aggregate-word-at t c = search needs
 
--- src/parts.rt:152:29
 and-level-word-at-requires : (t : ℕ) → and-level-lts.Need-word-at-requires (
   not-level-below t,
   not-level.Post,
@@ -154,9 +158,8 @@ and-level-word-at-requires : (t : ℕ) → and-level-lts.Need-word-at-requires (
   put-row-reads.Asked,
   put-row-reads.Learnt,
 ) (and-level-at t) and-level.Post and-level-Inv-loop and-level-μ-loop
-and-level-word-at-requires t c κs = ?
+and-level-word-at-requires t c κs = (c .before .loop .inv .0 _ (lifted conj (part-read (c .before .before .before .before .before .before .before .not-level .ensures) (c .before .before .before .first .given .1)))) .inside
 
--- src/parts.rt:152:23
 and-level-enum-known-to : (t : ℕ) → and-level-lts.Need-enum-known-to (
   not-level-below t,
   not-level.Post,
@@ -165,9 +168,8 @@ and-level-enum-known-to : (t : ℕ) → and-level-lts.Need-enum-known-to (
   put-row-reads.Asked,
   put-row-reads.Learnt,
 ) (and-level-at t) and-level.Post and-level-Inv-loop and-level-μ-loop
-and-level-enum-known-to t c = ?
+and-level-enum-known-to t c = search needs
 
--- src/parts.rt:153:13
 and-level-enum-told-2 : (t : ℕ) → and-level-lts.Need-enum-told-2 (
   not-level-below t,
   not-level.Post,
@@ -176,9 +178,8 @@ and-level-enum-told-2 : (t : ℕ) → and-level-lts.Need-enum-told-2 (
   put-row-reads.Asked,
   put-row-reads.Learnt,
 ) (and-level-at t) and-level.Post and-level-Inv-loop and-level-μ-loop
-and-level-enum-told-2 t c = ?
+and-level-enum-told-2 t c = search needs
 
--- src/parts.rt:153:13
 and-level-same-length-2 : (t : ℕ) → and-level-lts.Need-same-length-2 (
   not-level-below t,
   not-level.Post,
@@ -187,9 +188,8 @@ and-level-same-length-2 : (t : ℕ) → and-level-lts.Need-same-length-2 (
   put-row-reads.Asked,
   put-row-reads.Learnt,
 ) (and-level-at t) and-level.Post and-level-Inv-loop and-level-μ-loop
-and-level-same-length-2 t c = ?
+and-level-same-length-2 t c = table-kept (c .before .before .before .before .before .before .before .before .before .before .before .before .before .before .before .before .before .before .pre .1 .0) (c .before .before .before .before .loop .inv .0 _ (lifted conj (part-read (c .before .before .before .before .before .before .before .before .before .before .not-level .ensures) (c .before .before .before .before .before .before .first .given .1))))
 
--- src/parts.rt:153:13
 and-level-returns-2 : (t : ℕ) → and-level-lts.Need-returns-2 (
   not-level-below t,
   not-level.Post,
@@ -198,9 +198,8 @@ and-level-returns-2 : (t : ℕ) → and-level-lts.Need-returns-2 (
   put-row-reads.Asked,
   put-row-reads.Learnt,
 ) (and-level-at t) and-level.Post and-level-Inv-loop and-level-μ-loop
-and-level-returns-2 t c = ?
+and-level-returns-2 t c = no-more conj (c .before .before .before .before .loop .inv .0 _ (lifted conj (part-read (c .before .before .before .before .before .before .before .before .before .before .not-level .ensures) (c .before .before .before .before .before .before .first .given .1)))) (c .before .before .before .before .loop .inv .1) (c .before .before .word-at .ensures) (c .enum-told2 .given .1)
 
--- src/parts.rt:163:36
 and-level-add-not-level : (t : ℕ) → and-level-lts.Need-add-not-level (
   not-level-below t,
   not-level.Post,
@@ -209,9 +208,8 @@ and-level-add-not-level : (t : ℕ) → and-level-lts.Need-add-not-level (
   put-row-reads.Asked,
   put-row-reads.Learnt,
 ) (and-level-at t) and-level.Post and-level-Inv-loop and-level-μ-loop
-and-level-add-not-level t c = ?
+and-level-add-not-level t c = omega (arith, (behind-part (c .before .before .before .before .before .before .before .before .before .before .before .before .before .before .before .before .before .before .before .pre .1 .0) (c .before .before .before .before .before .loop .inv .0 _ (lifted conj (part-read (c .before .before .before .before .before .before .before .before .before .before .before .not-level .ensures) (c .before .before .before .before .before .before .before .first .given .1))))) .numbers)
 
--- src/parts.rt:163:13
 and-level-not-level-requires-2 : (t : ℕ) → and-level-lts.Need-not-level-requires-2 (
   not-level-below t,
   not-level.Post,
@@ -220,9 +218,8 @@ and-level-not-level-requires-2 : (t : ℕ) → and-level-lts.Need-not-level-requ
   put-row-reads.Asked,
   put-row-reads.Learnt,
 ) (and-level-at t) and-level.Post and-level-Inv-loop and-level-μ-loop
-and-level-not-level-requires-2 t c κs = ?
+and-level-not-level-requires-2 t c κs = (omega (arith, word-past (c .before .before .before .before .word-at .ensures) (c .before .before .to .given .1) .onward, word-past (c .before .before .before .before .word-at .ensures) (c .before .before .to .given .1) .inside, (c .before .before .before .before .before .before .loop .inv .0 _ (lifted conj (part-read (c .before .before .before .before .before .before .before .before .before .before .before .before .not-level .ensures) (c .before .before .before .before .before .before .before .before .first .given .1)))) .onward), (behind-word (behind-part (c .before .before .before .before .before .before .before .before .before .before .before .before .before .before .before .before .before .before .before .before .pre .1 .0) (c .before .before .before .before .before .before .loop .inv .0 _ (lifted conj (part-read (c .before .before .before .before .before .before .before .before .before .before .before .before .not-level .ensures) (c .before .before .before .before .before .before .before .before .first .given .1))))) is-and (c .before .before .before .before .word-at .ensures) (c .before .before .to .given .1), c .before .before .before .before .before .before .before .before .before .before .before .before .before .before .before .before .before .before .before .before .pre .1 .1))
 
--- src/parts.rt:160:20
 and-level-enum-known-end : (t : ℕ) → and-level-lts.Need-enum-known-end (
   not-level-below t,
   not-level.Post,
@@ -231,9 +228,8 @@ and-level-enum-known-end : (t : ℕ) → and-level-lts.Need-enum-known-end (
   put-row-reads.Asked,
   put-row-reads.Learnt,
 ) (and-level-at t) and-level.Post and-level-Inv-loop and-level-μ-loop
-and-level-enum-known-end t c = ?
+and-level-enum-known-end t c = search needs
 
--- src/parts.rt:165:13
 and-level-enum-told-3 : (t : ℕ) → and-level-lts.Need-enum-told-3 (
   not-level-below t,
   not-level.Post,
@@ -242,9 +238,8 @@ and-level-enum-told-3 : (t : ℕ) → and-level-lts.Need-enum-told-3 (
   put-row-reads.Asked,
   put-row-reads.Learnt,
 ) (and-level-at t) and-level.Post and-level-Inv-loop and-level-μ-loop
-and-level-enum-told-3 t c = ?
+and-level-enum-told-3 t c = search needs
 
--- src/parts.rt:165:13
 and-level-same-length-3 : (t : ℕ) → and-level-lts.Need-same-length-3 (
   not-level-below t,
   not-level.Post,
@@ -253,9 +248,8 @@ and-level-same-length-3 : (t : ℕ) → and-level-lts.Need-same-length-3 (
   put-row-reads.Asked,
   put-row-reads.Learnt,
 ) (and-level-at t) and-level.Post and-level-Inv-loop and-level-μ-loop
-and-level-same-length-3 t c = ?
+and-level-same-length-3 t c = let kept = table-kept (c .before .before .before .before .before .before .before .before .before .before .before .before .before .before .before .before .before .before .before .before .before .before .before .before .before .pre .1 .0) (c .before .before .before .before .before .before .before .before .before .before .before .loop .inv .0 _ (lifted conj (part-read (c .before .before .before .before .before .before .before .before .before .before .before .before .before .before .before .before .before .not-level .ensures) (c .before .before .before .before .before .before .before .before .before .before .before .before .before .first .given .1)))) in search needs
 
--- src/parts.rt:165:13
 and-level-returns-3 : (t : ℕ) → and-level-lts.Need-returns-3 (
   not-level-below t,
   not-level.Post,
@@ -264,9 +258,8 @@ and-level-returns-3 : (t : ℕ) → and-level-lts.Need-returns-3 (
   put-row-reads.Asked,
   put-row-reads.Learnt,
 ) (and-level-at t) and-level.Post and-level-Inv-loop and-level-μ-loop
-and-level-returns-3 t c = ?
+and-level-returns-3 t c = right-faulty conj (c .before .before .before .before .before .before .before .before .before .before .before .loop .inv .0 _ (lifted conj (part-read (c .before .before .before .before .before .before .before .before .before .before .before .before .before .before .before .before .before .not-level .ensures) (c .before .before .before .before .before .before .before .before .before .before .before .before .before .first .given .1)))) (c .before .before .before .before .before .before .before .before .before .word-at .ensures) (c .before .before .before .before .before .before .before .to .given .1) (c .before .before .before .before .not-level2 .ensures) (c .enum-told3 .given .1) _
 
--- src/parts.rt:167:9
 and-level-put-row-requires : (t : ℕ) → and-level-lts.Need-put-row-requires (
   not-level-below t,
   not-level.Post,
@@ -275,9 +268,8 @@ and-level-put-row-requires : (t : ℕ) → and-level-lts.Need-put-row-requires (
   put-row-reads.Asked,
   put-row-reads.Learnt,
 ) (and-level-at t) and-level.Post and-level-Inv-loop and-level-μ-loop
-and-level-put-row-requires t c κs = ?
+and-level-put-row-requires t c κs = (row-room _ (behind-word (behind-part (c .before .before .before .before .before .before .before .before .before .before .before .before .before .before .before .before .before .before .before .before .before .before .before .before .before .before .before .pre .1 .0) (c .before .before .before .before .before .before .before .before .before .before .before .before .before .loop .inv .0 _ (lifted conj (part-read (c .before .before .before .before .before .before .before .before .before .before .before .before .before .before .before .before .before .before .before .not-level .ensures) (c .before .before .before .before .before .before .before .before .before .before .before .before .before .before .before .first .given .1))))) is-and (c .before .before .before .before .before .before .before .before .before .before .before .word-at .ensures) (c .before .before .before .before .before .before .before .before .before .to .given .1)) (part-read (c .before .before .before .before .before .before .not-level2 .ensures) (c .before .before .end .given .1)), atom-fits (c .before .before .before .before .before .before .before .before .before .before .before .before .before .before .before .before .before .before .before .before .before .before .before .before .before .before .before .pre .1 .0) (c .before .before .before .before .before .before .before .before .before .before .before .before .before .loop .inv .0 _ (lifted conj (part-read (c .before .before .before .before .before .before .before .before .before .before .before .before .before .before .before .before .before .before .before .not-level .ensures) (c .before .before .before .before .before .before .before .before .before .before .before .before .before .before .before .first .given .1)))), atom-fits (behind-word (behind-part (c .before .before .before .before .before .before .before .before .before .before .before .before .before .before .before .before .before .before .before .before .before .before .before .before .before .before .before .pre .1 .0) (c .before .before .before .before .before .before .before .before .before .before .before .before .before .loop .inv .0 _ (lifted conj (part-read (c .before .before .before .before .before .before .before .before .before .before .before .before .before .before .before .before .before .before .before .not-level .ensures) (c .before .before .before .before .before .before .before .before .before .before .before .before .before .before .before .first .given .1))))) is-and (c .before .before .before .before .before .before .before .before .before .before .before .word-at .ensures) (c .before .before .before .before .before .before .before .before .before .to .given .1)) (part-read (c .before .before .before .before .before .before .not-level2 .ensures) (c .before .before .end .given .1)))
 
--- src/parts.rt:168:16
 and-level-add-atom : (t : ℕ) → and-level-lts.Need-add-atom (
   not-level-below t,
   not-level.Post,
@@ -286,9 +278,8 @@ and-level-add-atom : (t : ℕ) → and-level-lts.Need-add-atom (
   put-row-reads.Asked,
   put-row-reads.Learnt,
 ) (and-level-at t) and-level.Post and-level-Inv-loop and-level-μ-loop
-and-level-add-atom t c = ?
+and-level-add-atom t c = omega (arith, (behind-part (c .before .before .before .before .before .before .before .before .before .before .before .before .before .before .before .before .before .before .before .before .before .before .before .before .before .before .before .before .before .before .pre .1 .0) (c .before .before .before .before .before .before .before .before .before .before .before .before .before .before .before .before .loop .inv .0 _ (lifted conj (part-read (c .before .before .before .before .before .before .before .before .before .before .before .before .before .before .before .before .before .before .before .before .before .before .not-level .ensures) (c .before .before .before .before .before .before .before .before .before .before .before .before .before .before .before .before .before .before .first .given .1))))) .numbers, length-decode (length (c .before .before .before .before .before .before .before .before .before .before .before .before .before .before .before .before .before .before .before .before .before .before .before .before .before .before .before .before .before .before .args .starts .now)) (c .before .before .before .before .before .before .before .before .before .before .before .before .before .before .before .before .before .before .before .before .before .before .before .before .before .before .before .before .before .before .args .bytes .now))
 
--- src/parts.rt:168:16
 and-level-add-atom-2 : (t : ℕ) → and-level-lts.Need-add-atom-2 (
   not-level-below t,
   not-level.Post,
@@ -297,9 +288,8 @@ and-level-add-atom-2 : (t : ℕ) → and-level-lts.Need-add-atom-2 (
   put-row-reads.Asked,
   put-row-reads.Learnt,
 ) (and-level-at t) and-level.Post and-level-Inv-loop and-level-μ-loop
-and-level-add-atom-2 t c = ?
+and-level-add-atom-2 t c = omega (arith, (behind-part (c .before .before .before .before .before .before .before .before .before .before .before .before .before .before .before .before .before .before .before .before .before .before .before .before .before .before .before .before .before .before .pre .1 .0) (c .before .before .before .before .before .before .before .before .before .before .before .before .before .before .before .before .loop .inv .0 _ (lifted conj (part-read (c .before .before .before .before .before .before .before .before .before .before .before .before .before .before .before .before .before .before .before .before .before .before .not-level .ensures) (c .before .before .before .before .before .before .before .before .before .before .before .before .before .before .before .before .before .before .first .given .1))))) .numbers, length-decode (length (c .before .before .before .before .before .before .before .before .before .before .before .before .before .before .before .before .before .before .before .before .before .before .before .before .before .before .before .before .before .before .args .starts .now)) (c .before .before .before .before .before .before .before .before .before .before .before .before .before .before .before .before .before .before .before .before .before .before .before .before .before .before .before .before .before .before .args .bytes .now))
 
--- src/parts.rt:151:5
 and-level-loop-less : (t : ℕ) → and-level-lts.Need-loop-less (
   not-level-below t,
   not-level.Post,
@@ -308,9 +298,8 @@ and-level-loop-less : (t : ℕ) → and-level-lts.Need-loop-less (
   put-row-reads.Asked,
   put-row-reads.Learnt,
 ) (and-level-at t) and-level.Post and-level-Inv-loop and-level-μ-loop
-and-level-loop-less t c = ?
+and-level-loop-less t c = omega (arith, word-past (c .before .before .before .before .before .before .before .before .before .before .before .before .before .before .word-at .ensures) (c .before .before .before .before .before .before .before .before .before .before .before .before .to .given .1) .onward, (part-read (c .before .before .before .before .before .before .before .before .before .not-level2 .ensures) (c .before .before .before .before .before .end .given .1)) .onward, (part-read (c .before .before .before .before .before .before .before .before .before .not-level2 .ensures) (c .before .before .before .before .before .end .given .1)) .inside)
 
--- src/parts.rt:151:5
 and-level-loop-again : (t : ℕ) → and-level-lts.Need-loop-again (
   not-level-below t,
   not-level.Post,
@@ -319,9 +308,11 @@ and-level-loop-again : (t : ℕ) → and-level-lts.Need-loop-again (
   put-row-reads.Asked,
   put-row-reads.Learnt,
 ) (and-level-at t) and-level.Post and-level-Inv-loop and-level-μ-loop
-and-level-loop-again t c = ?
+and-level-loop-again t c = (
+  λ before h. joined conj (c .before .before .before .before .before .before .before .before .before .before .before .before .before .before .before .before .loop .inv .0 before h) (c .before .before .before .before .before .before .before .before .before .before .before .before .before .before .word-at .ensures) (c .before .before .before .before .before .before .before .before .before .before .before .before .to .given .1) (part-read (c .before .before .before .before .before .before .before .before .before .not-level2 .ensures) (c .before .before .before .before .before .end .given .1)) (part-behind (c .before .before .before .before .before .before .before .before .before .not-level2 .ensures) (c .before .before .before .before .before .end .given .1)) (c .before .before .put-row .ensures) (sym (length-decode (length (c .before .before .before .before .before .before .before .before .before .before .before .before .before .before .before .before .before .before .before .before .before .before .before .before .before .before .before .before .before .before .args .starts .now)) (c .before .before .before .before .before .before .before .before .before .before .before .before .before .before .before .before .before .before .before .before .before .before .before .before .before .before .before .before .before .before .args .bytes .now))),
+  part-behind (c .before .before .before .before .before .before .before .before .before .not-level2 .ensures) (c .before .before .before .before .before .end .given .1),
+)
 
--- src/parts.rt:226:28
 bracket-opening-at-requires : (t : ℕ) → bracket-lts.Need-opening-at-requires (
   opening-at-reads.Asked,
   opening-at-reads.Learnt,
@@ -332,9 +323,8 @@ bracket-opening-at-requires : (t : ℕ) → bracket-lts.Need-opening-at-requires
   closed-at-reads.Asked,
   closed-at-reads.Learnt,
 ) (bracket-at t) bracket.Post
-bracket-opening-at-requires t c κs = ?
+bracket-opening-at-requires t c κs = c .before .before .before .before .before .before .pre .1 .0 .inside
 
--- src/parts.rt:226:19
 bracket-enum-known-inner : (t : ℕ) → bracket-lts.Need-enum-known-inner (
   opening-at-reads.Asked,
   opening-at-reads.Learnt,
@@ -345,9 +335,8 @@ bracket-enum-known-inner : (t : ℕ) → bracket-lts.Need-enum-known-inner (
   closed-at-reads.Asked,
   closed-at-reads.Learnt,
 ) (bracket-at t) bracket.Post
-bracket-enum-known-inner t c = ?
+bracket-enum-known-inner t c = search needs
 
--- src/parts.rt:227:9
 bracket-enum-told : (t : ℕ) → bracket-lts.Need-enum-told (
   opening-at-reads.Asked,
   opening-at-reads.Learnt,
@@ -358,9 +347,8 @@ bracket-enum-told : (t : ℕ) → bracket-lts.Need-enum-told (
   closed-at-reads.Asked,
   closed-at-reads.Learnt,
 ) (bracket-at t) bracket.Post
-bracket-enum-told t c = ?
+bracket-enum-told t c = search needs
 
--- src/parts.rt:227:9
 bracket-name-at-requires : (t : ℕ) → bracket-lts.Need-name-at-requires (
   opening-at-reads.Asked,
   opening-at-reads.Learnt,
@@ -371,9 +359,8 @@ bracket-name-at-requires : (t : ℕ) → bracket-lts.Need-name-at-requires (
   closed-at-reads.Asked,
   closed-at-reads.Learnt,
 ) (bracket-at t) bracket.Post
-bracket-name-at-requires t c κs = ?
+bracket-name-at-requires t c κs = ((c .before .before .before .before .before .before .before .before .before .pre .1 .0 .inside, c .before .before .before .before .before .before .before .before .before .pre .1 .0 .declared), ((opening-absent (c .before .before .opening-at .ensures) (c .enum-told .given .1), c .before .before .before .before .before .before .before .before .before .pre .1 .1 .1), c .before .before .before .before .before .before .before .before .before .pre .1 .1 .0))
 
--- src/parts.rt:227:9
 bracket-returns : (t : ℕ) → bracket-lts.Need-returns (
   opening-at-reads.Asked,
   opening-at-reads.Learnt,
@@ -384,9 +371,8 @@ bracket-returns : (t : ℕ) → bracket-lts.Need-returns (
   closed-at-reads.Asked,
   closed-at-reads.Learnt,
 ) (bracket-at t) bracket.Post
-bracket-returns t c = ?
+bracket-returns t c = c .name-at .ensures (c .before .before .before .before .before .before .before .before .before .before .args .made) (c .before .before .before .before .before .before .before .before .before .before .args .table .now)
 
--- src/parts.rt:233:9
 bracket-or-level-requires : (t : ℕ) → bracket-lts.Need-or-level-requires (
   opening-at-reads.Asked,
   opening-at-reads.Learnt,
@@ -397,9 +383,8 @@ bracket-or-level-requires : (t : ℕ) → bracket-lts.Need-or-level-requires (
   closed-at-reads.Asked,
   closed-at-reads.Learnt,
 ) (bracket-at t) bracket.Post
-bracket-or-level-requires t c κs = ?
+bracket-or-level-requires t c κs = (omega (arith, opening-past (c .before .before .before .before .opening-at .ensures) (c .before .before .inner .given .1) .onward, opening-past (c .before .before .before .before .opening-at .ensures) (c .before .before .inner .given .1) .inside), (behind-opening (c .before .before .before .before .before .before .before .before .before .before .before .pre .1 .0) (c .before .before .before .before .opening-at .ensures) (c .before .before .inner .given .1), c .before .before .before .before .before .before .before .before .before .before .before .pre .1 .1 .0))
 
--- src/parts.rt:230:9
 bracket-enum-known-place : (t : ℕ) → bracket-lts.Need-enum-known-place (
   opening-at-reads.Asked,
   opening-at-reads.Learnt,
@@ -410,9 +395,8 @@ bracket-enum-known-place : (t : ℕ) → bracket-lts.Need-enum-known-place (
   closed-at-reads.Asked,
   closed-at-reads.Learnt,
 ) (bracket-at t) bracket.Post
-bracket-enum-known-place t c = ?
+bracket-enum-known-place t c = search needs
 
--- src/parts.rt:235:9
 bracket-enum-told-2 : (t : ℕ) → bracket-lts.Need-enum-told-2 (
   opening-at-reads.Asked,
   opening-at-reads.Learnt,
@@ -423,9 +407,8 @@ bracket-enum-told-2 : (t : ℕ) → bracket-lts.Need-enum-told-2 (
   closed-at-reads.Asked,
   closed-at-reads.Learnt,
 ) (bracket-at t) bracket.Post
-bracket-enum-told-2 t c = ?
+bracket-enum-told-2 t c = search needs
 
--- src/parts.rt:235:9
 bracket-same-length : (t : ℕ) → bracket-lts.Need-same-length (
   opening-at-reads.Asked,
   opening-at-reads.Learnt,
@@ -436,9 +419,8 @@ bracket-same-length : (t : ℕ) → bracket-lts.Need-same-length (
   closed-at-reads.Asked,
   closed-at-reads.Learnt,
 ) (bracket-at t) bracket.Post
-bracket-same-length t c = ?
+bracket-same-length t c = search needs
 
--- src/parts.rt:235:9
 bracket-returns-2 : (t : ℕ) → bracket-lts.Need-returns-2 (
   opening-at-reads.Asked,
   opening-at-reads.Learnt,
@@ -449,9 +431,8 @@ bracket-returns-2 : (t : ℕ) → bracket-lts.Need-returns-2 (
   closed-at-reads.Asked,
   closed-at-reads.Learnt,
 ) (bracket-at t) bracket.Post
-bracket-returns-2 t c = ?
+bracket-returns-2 t c = inner-faulty _ _ _ _ _ (c .before .before .before .before .before .before .before .before .before .opening-at .ensures) (c .before .before .before .before .before .before .before .inner .given .1) (c .before .before .before .before .or-level .ensures) (c .enum-told2 .given .1) _
 
--- src/parts.rt:237:26
 bracket-closed-at-requires : (t : ℕ) → bracket-lts.Need-closed-at-requires (
   opening-at-reads.Asked,
   opening-at-reads.Learnt,
@@ -462,9 +443,8 @@ bracket-closed-at-requires : (t : ℕ) → bracket-lts.Need-closed-at-requires (
   closed-at-reads.Asked,
   closed-at-reads.Learnt,
 ) (bracket-at t) bracket.Post
-bracket-closed-at-requires t c κs = ?
+bracket-closed-at-requires t c κs = (part-read (c .before .before .before .before .before .or-level .ensures) (c .before .place .given .1)) .inside
 
--- src/parts.rt:237:19
 bracket-enum-known-end : (t : ℕ) → bracket-lts.Need-enum-known-end (
   opening-at-reads.Asked,
   opening-at-reads.Learnt,
@@ -475,9 +455,8 @@ bracket-enum-known-end : (t : ℕ) → bracket-lts.Need-enum-known-end (
   closed-at-reads.Asked,
   closed-at-reads.Learnt,
 ) (bracket-at t) bracket.Post
-bracket-enum-known-end t c = ?
+bracket-enum-known-end t c = search needs
 
--- src/parts.rt:238:9
 bracket-enum-told-3 : (t : ℕ) → bracket-lts.Need-enum-told-3 (
   opening-at-reads.Asked,
   opening-at-reads.Learnt,
@@ -488,9 +467,8 @@ bracket-enum-told-3 : (t : ℕ) → bracket-lts.Need-enum-told-3 (
   closed-at-reads.Asked,
   closed-at-reads.Learnt,
 ) (bracket-at t) bracket.Post
-bracket-enum-told-3 t c = ?
+bracket-enum-told-3 t c = search needs
 
--- src/parts.rt:238:9
 bracket-same-length-2 : (t : ℕ) → bracket-lts.Need-same-length-2 (
   opening-at-reads.Asked,
   opening-at-reads.Learnt,
@@ -501,9 +479,8 @@ bracket-same-length-2 : (t : ℕ) → bracket-lts.Need-same-length-2 (
   closed-at-reads.Asked,
   closed-at-reads.Learnt,
 ) (bracket-at t) bracket.Post
-bracket-same-length-2 t c = ?
+bracket-same-length-2 t c = search needs
 
--- src/parts.rt:238:9
 bracket-returns-3 : (t : ℕ) → bracket-lts.Need-returns-3 (
   opening-at-reads.Asked,
   opening-at-reads.Learnt,
@@ -514,9 +491,8 @@ bracket-returns-3 : (t : ℕ) → bracket-lts.Need-returns-3 (
   closed-at-reads.Asked,
   closed-at-reads.Learnt,
 ) (bracket-at t) bracket.Post
-bracket-returns-3 t c = ?
+bracket-returns-3 t c = unclosed-faulty _ _ _ _ _ (c .before .before .before .before .before .before .before .before .before .before .before .before .before .opening-at .ensures) (c .before .before .before .before .before .before .before .before .before .before .before .inner .given .1) (part-read (c .before .before .before .before .before .before .before .before .or-level .ensures) (c .before .before .before .before .place .given .1)) (c .before .before .closed-at .ensures) (part-behind (c .before .before .before .before .before .before .before .before .or-level .ensures) (c .before .before .before .before .place .given .1)) (c .enum-told3 .given .1) _
 
--- src/parts.rt:210:1
 bracket-same-length-3 : (t : ℕ) → bracket-lts.Need-same-length-3 (
   opening-at-reads.Asked,
   opening-at-reads.Learnt,
@@ -527,9 +503,8 @@ bracket-same-length-3 : (t : ℕ) → bracket-lts.Need-same-length-3 (
   closed-at-reads.Asked,
   closed-at-reads.Learnt,
 ) (bracket-at t) bracket.Post
-bracket-same-length-3 t c = ?
+bracket-same-length-3 t c = search needs
 
--- src/parts.rt:210:1
 bracket-returns-4 : (t : ℕ) → bracket-lts.Need-returns-4 (
   opening-at-reads.Asked,
   opening-at-reads.Learnt,
@@ -540,9 +515,8 @@ bracket-returns-4 : (t : ℕ) → bracket-lts.Need-returns-4 (
   closed-at-reads.Asked,
   closed-at-reads.Learnt,
 ) (bracket-at t) bracket.Post
-bracket-returns-4 t c = ?
+bracket-returns-4 t c = bracketed-part _ _ _ _ _ (c .before .before .before .before .before .before .before .before .before .before .before .before .before .before .opening-at .ensures) (c .before .before .before .before .before .before .before .before .before .before .before .before .inner .given .1) (part-read (c .before .before .before .before .before .before .before .before .before .or-level .ensures) (c .before .before .before .before .before .place .given .1)) (c .before .before .before .closed-at .ensures) (c .before .end .given .1)
 
--- src/parts.rt:190:40
 not-level-slice-aggregate-word-at : (t : ℕ) → not-level-lts.Need-slice-aggregate-word-at (
   word-at-reads.Asked,
   word-at-reads.Learnt,
@@ -553,9 +527,8 @@ not-level-slice-aggregate-word-at : (t : ℕ) → not-level-lts.Need-slice-aggre
   put-row-reads.Asked,
   put-row-reads.Learnt,
 ) (not-level-at t) not-level.Post
-not-level-slice-aggregate-word-at t c = ?
+not-level-slice-aggregate-word-at t c = search needs
 
--- src/parts.rt:190:25
 not-level-word-at-requires : (t : ℕ) → not-level-lts.Need-word-at-requires (
   word-at-reads.Asked,
   word-at-reads.Learnt,
@@ -566,9 +539,8 @@ not-level-word-at-requires : (t : ℕ) → not-level-lts.Need-word-at-requires (
   put-row-reads.Asked,
   put-row-reads.Learnt,
 ) (not-level-at t) not-level.Post
-not-level-word-at-requires t c κs = ?
+not-level-word-at-requires t c κs = c .before .before .before .before .before .before .before .pre .1 .0 .inside
 
--- src/parts.rt:190:19
 not-level-enum-known-to : (t : ℕ) → not-level-lts.Need-enum-known-to (
   word-at-reads.Asked,
   word-at-reads.Learnt,
@@ -579,9 +551,8 @@ not-level-enum-known-to : (t : ℕ) → not-level-lts.Need-enum-known-to (
   put-row-reads.Asked,
   put-row-reads.Learnt,
 ) (not-level-at t) not-level.Post
-not-level-enum-known-to t c = ?
+not-level-enum-known-to t c = search needs
 
--- src/parts.rt:191:73
 not-level-enum-told : (t : ℕ) → not-level-lts.Need-enum-told (
   word-at-reads.Asked,
   word-at-reads.Learnt,
@@ -592,9 +563,8 @@ not-level-enum-told : (t : ℕ) → not-level-lts.Need-enum-told (
   put-row-reads.Asked,
   put-row-reads.Learnt,
 ) (not-level-at t) not-level.Post
-not-level-enum-told t c = ?
+not-level-enum-told t c = search needs
 
--- src/parts.rt:191:9
 not-level-bracket-requires : (t : ℕ) → not-level-lts.Need-bracket-requires (
   word-at-reads.Asked,
   word-at-reads.Learnt,
@@ -605,9 +575,8 @@ not-level-bracket-requires : (t : ℕ) → not-level-lts.Need-bracket-requires (
   put-row-reads.Asked,
   put-row-reads.Learnt,
 ) (not-level-at t) not-level.Post
-not-level-bracket-requires t c κs = ?
+not-level-bracket-requires t c κs = (omega arith, (c .before .before .before .before .before .before .before .before .before .before .before .pre .1 .0, (c .before .before .before .before .before .before .before .before .before .before .before .pre .1 .1, word-absent (c .before .before .before .word-at .ensures) (c .before .enum-told .given .1))))
 
--- src/parts.rt:191:9
 not-level-same-length : (t : ℕ) → not-level-lts.Need-same-length (
   word-at-reads.Asked,
   word-at-reads.Learnt,
@@ -618,9 +587,8 @@ not-level-same-length : (t : ℕ) → not-level-lts.Need-same-length (
   put-row-reads.Asked,
   put-row-reads.Learnt,
 ) (not-level-at t) not-level.Post
-not-level-same-length t c = ?
+not-level-same-length t c = search needs
 
--- src/parts.rt:191:9
 not-level-returns : (t : ℕ) → not-level-lts.Need-returns (
   word-at-reads.Asked,
   word-at-reads.Learnt,
@@ -631,9 +599,8 @@ not-level-returns : (t : ℕ) → not-level-lts.Need-returns (
   put-row-reads.Asked,
   put-row-reads.Learnt,
 ) (not-level-at t) not-level.Post
-not-level-returns t c = ?
+not-level-returns t c = c .before .before .bracket .ensures
 
--- src/parts.rt:197:32
 not-level-add-not-level : (t : ℕ) → not-level-lts.Need-add-not-level (
   word-at-reads.Asked,
   word-at-reads.Learnt,
@@ -644,9 +611,8 @@ not-level-add-not-level : (t : ℕ) → not-level-lts.Need-add-not-level (
   put-row-reads.Asked,
   put-row-reads.Learnt,
 ) (not-level-at t) not-level.Post
-not-level-add-not-level t c = ?
+not-level-add-not-level t c = omega (arith, c .before .before .before .before .before .before .before .before .before .before .before .pre .1 .0 .numbers)
 
--- src/parts.rt:197:9
 not-level-not-level-requires : (t : ℕ) → not-level-lts.Need-not-level-requires (
   word-at-reads.Asked,
   word-at-reads.Learnt,
@@ -657,9 +623,8 @@ not-level-not-level-requires : (t : ℕ) → not-level-lts.Need-not-level-requir
   put-row-reads.Asked,
   put-row-reads.Learnt,
 ) (not-level-at t) not-level.Post
-not-level-not-level-requires t c κs = ?
+not-level-not-level-requires t c κs = (omega (arith, word-past (c .before .before .before .before .word-at .ensures) (c .before .before .to .given .1) .onward, word-past (c .before .before .before .before .word-at .ensures) (c .before .before .to .given .1) .inside), (behind-word (c .before .before .before .before .before .before .before .before .before .before .before .before .pre .1 .0) is-not (c .before .before .before .before .word-at .ensures) (c .before .before .to .given .1), c .before .before .before .before .before .before .before .before .before .before .before .before .pre .1 .1))
 
--- src/parts.rt:194:9
 not-level-enum-known-place : (t : ℕ) → not-level-lts.Need-enum-known-place (
   word-at-reads.Asked,
   word-at-reads.Learnt,
@@ -670,9 +635,8 @@ not-level-enum-known-place : (t : ℕ) → not-level-lts.Need-enum-known-place (
   put-row-reads.Asked,
   put-row-reads.Learnt,
 ) (not-level-at t) not-level.Post
-not-level-enum-known-place t c = ?
+not-level-enum-known-place t c = search needs
 
--- src/parts.rt:199:9
 not-level-enum-told-2 : (t : ℕ) → not-level-lts.Need-enum-told-2 (
   word-at-reads.Asked,
   word-at-reads.Learnt,
@@ -683,9 +647,8 @@ not-level-enum-told-2 : (t : ℕ) → not-level-lts.Need-enum-told-2 (
   put-row-reads.Asked,
   put-row-reads.Learnt,
 ) (not-level-at t) not-level.Post
-not-level-enum-told-2 t c = ?
+not-level-enum-told-2 t c = search needs
 
--- src/parts.rt:199:9
 not-level-same-length-2 : (t : ℕ) → not-level-lts.Need-same-length-2 (
   word-at-reads.Asked,
   word-at-reads.Learnt,
@@ -696,9 +659,8 @@ not-level-same-length-2 : (t : ℕ) → not-level-lts.Need-same-length-2 (
   put-row-reads.Asked,
   put-row-reads.Learnt,
 ) (not-level-at t) not-level.Post
-not-level-same-length-2 t c = ?
+not-level-same-length-2 t c = search needs
 
--- src/parts.rt:199:9
 not-level-returns-2 : (t : ℕ) → not-level-lts.Need-returns-2 (
   word-at-reads.Asked,
   word-at-reads.Learnt,
@@ -709,9 +671,8 @@ not-level-returns-2 : (t : ℕ) → not-level-lts.Need-returns-2 (
   put-row-reads.Asked,
   put-row-reads.Learnt,
 ) (not-level-at t) not-level.Post
-not-level-returns-2 t c = ?
+not-level-returns-2 t c = negated-faulty _ _ _ _ _ (c .before .before .before .before .before .before .before .before .before .word-at .ensures) (c .before .before .before .before .before .before .before .to .given .1) (c .before .before .before .before .not-level .ensures) (c .enum-told2 .given .1) _
 
--- src/parts.rt:201:5
 not-level-put-row-requires : (t : ℕ) → not-level-lts.Need-put-row-requires (
   word-at-reads.Asked,
   word-at-reads.Learnt,
@@ -722,9 +683,8 @@ not-level-put-row-requires : (t : ℕ) → not-level-lts.Need-put-row-requires (
   put-row-reads.Asked,
   put-row-reads.Learnt,
 ) (not-level-at t) not-level.Post
-not-level-put-row-requires t c κs = ?
+not-level-put-row-requires t c κs = (row-room _ (behind-word (c .before .before .before .before .before .before .before .before .before .before .before .before .before .before .before .before .before .before .before .pre .1 .0) is-not (c .before .before .before .before .before .before .before .before .before .before .before .word-at .ensures) (c .before .before .before .before .before .before .before .before .before .to .given .1)) (part-read (c .before .before .before .before .before .before .not-level .ensures) (c .before .before .place .given .1)), atom-fits (behind-word (c .before .before .before .before .before .before .before .before .before .before .before .before .before .before .before .before .before .before .before .pre .1 .0) is-not (c .before .before .before .before .before .before .before .before .before .before .before .word-at .ensures) (c .before .before .before .before .before .before .before .before .before .to .given .1)) (part-read (c .before .before .before .before .before .before .not-level .ensures) (c .before .before .place .given .1)), omega arith)
 
--- src/parts.rt:204:15
 not-level-add-t27 : (t : ℕ) → not-level-lts.Need-add-t27 (
   word-at-reads.Asked,
   word-at-reads.Learnt,
@@ -735,9 +695,8 @@ not-level-add-t27 : (t : ℕ) → not-level-lts.Need-add-t27 (
   put-row-reads.Asked,
   put-row-reads.Learnt,
 ) (not-level-at t) not-level.Post
-not-level-add-t27 t c = ?
+not-level-add-t27 t c = omega (arith, c .before .before .before .before .before .before .before .before .before .before .before .before .before .before .before .before .before .before .before .before .before .before .pre .1 .0 .numbers, length-decode (length (c .before .before .before .before .before .before .before .before .before .before .before .before .before .before .before .before .before .before .before .before .before .before .args .starts .now)) (c .before .before .before .before .before .before .before .before .before .before .before .before .before .before .before .before .before .before .before .before .before .before .args .bytes .now))
 
--- src/parts.rt:204:15
 not-level-add-t28 : (t : ℕ) → not-level-lts.Need-add-t28 (
   word-at-reads.Asked,
   word-at-reads.Learnt,
@@ -748,9 +707,8 @@ not-level-add-t28 : (t : ℕ) → not-level-lts.Need-add-t28 (
   put-row-reads.Asked,
   put-row-reads.Learnt,
 ) (not-level-at t) not-level.Post
-not-level-add-t28 t c = ?
+not-level-add-t28 t c = omega (arith, c .before .before .before .before .before .before .before .before .before .before .before .before .before .before .before .before .before .before .before .before .before .before .pre .1 .0 .numbers, length-decode (length (c .before .before .before .before .before .before .before .before .before .before .before .before .before .before .before .before .before .before .before .before .before .before .args .starts .now)) (c .before .before .before .before .before .before .before .before .before .before .before .before .before .before .before .before .before .before .before .before .before .before .args .bytes .now))
 
--- src/parts.rt:175:1
 not-level-same-length-3 : (t : ℕ) → not-level-lts.Need-same-length-3 (
   word-at-reads.Asked,
   word-at-reads.Learnt,
@@ -761,9 +719,8 @@ not-level-same-length-3 : (t : ℕ) → not-level-lts.Need-same-length-3 (
   put-row-reads.Asked,
   put-row-reads.Learnt,
 ) (not-level-at t) not-level.Post
-not-level-same-length-3 t c = ?
+not-level-same-length-3 t c = search needs
 
--- src/parts.rt:175:1
 not-level-returns-3 : (t : ℕ) → not-level-lts.Need-returns-3 (
   word-at-reads.Asked,
   word-at-reads.Learnt,
@@ -774,17 +731,16 @@ not-level-returns-3 : (t : ℕ) → not-level-lts.Need-returns-3 (
   put-row-reads.Asked,
   put-row-reads.Learnt,
 ) (not-level-at t) not-level.Post
-not-level-returns-3 t c = ?
+not-level-returns-3 t c = negated-part _ _ _ _ _ (c .before .before .before .before .before .before .before .before .before .before .before .before .before .before .word-at .ensures) (c .before .before .before .before .before .before .before .before .before .before .before .before .to .given .1) (part-read (c .before .before .before .before .before .before .before .before .before .not-level .ensures) (c .before .before .before .before .before .place .given .1)) (c .before .before .put-row .ensures) (sym (length-decode (length (c .before .before .before .before .before .before .before .before .before .before .before .before .before .before .before .before .before .before .before .before .before .before .args .starts .now)) (c .before .before .before .before .before .before .before .before .before .before .before .before .before .before .before .before .before .before .before .before .before .before .args .bytes .now)))
 
 abbrev or-level-Inv-loop : or-level-lts.InvT-loop
 or-level-Inv-loop s at made next bytes starts firsts links table₀ first first-atom first-next place₀ atom₀ row₀ t20 table place atom row =
-    ?
+    ((before : List ℕ) → PartAt (level disj) (decodeNames (length starts) bytes) s at made next before table₀ place₀ atom₀ row₀ → PartAt (level disj) (decodeNames (length starts) bytes) s at made next before table place atom row) × Behind (lower disj) (tokens (drop place s))
 
 abbrev or-level-μ-loop : or-level-lts.MeasureT-loop
 or-level-μ-loop s at made next bytes starts firsts links table₀ first first-atom first-next place₀ atom₀ row₀ t20 table place atom row =
-    ?
+    length s - place
 
--- src/parts.rt:94:9
 or-level-and-level-requires : (t : ℕ) → or-level-lts.Need-and-level-requires (
   and-level-below t,
   and-level.Post,
@@ -793,9 +749,8 @@ or-level-and-level-requires : (t : ℕ) → or-level-lts.Need-and-level-requires
   put-row-reads.Asked,
   put-row-reads.Learnt,
 ) (or-level-at t) or-level.Post or-level-Inv-loop or-level-μ-loop
-or-level-and-level-requires t c κs = ?
+or-level-and-level-requires t c κs = (omega arith, (c .before .before .before .before .before .before .before .pre .1 .0, c .before .before .before .before .before .before .before .pre .1 .1))
 
--- src/parts.rt:91:16
 or-level-enum-known-first : (t : ℕ) → or-level-lts.Need-enum-known-first (
   and-level-below t,
   and-level.Post,
@@ -804,9 +759,8 @@ or-level-enum-known-first : (t : ℕ) → or-level-lts.Need-enum-known-first (
   put-row-reads.Asked,
   put-row-reads.Learnt,
 ) (or-level-at t) or-level.Post or-level-Inv-loop or-level-μ-loop
-or-level-enum-known-first t c = ?
+or-level-enum-known-first t c = search needs
 
--- src/parts.rt:96:9
 or-level-enum-told : (t : ℕ) → or-level-lts.Need-enum-told (
   and-level-below t,
   and-level.Post,
@@ -815,9 +769,8 @@ or-level-enum-told : (t : ℕ) → or-level-lts.Need-enum-told (
   put-row-reads.Asked,
   put-row-reads.Learnt,
 ) (or-level-at t) or-level.Post or-level-Inv-loop or-level-μ-loop
-or-level-enum-told t c = ?
+or-level-enum-told t c = search needs
 
--- src/parts.rt:96:9
 or-level-same-length : (t : ℕ) → or-level-lts.Need-same-length (
   and-level-below t,
   and-level.Post,
@@ -826,9 +779,8 @@ or-level-same-length : (t : ℕ) → or-level-lts.Need-same-length (
   put-row-reads.Asked,
   put-row-reads.Learnt,
 ) (or-level-at t) or-level.Post or-level-Inv-loop or-level-μ-loop
-or-level-same-length t c = ?
+or-level-same-length t c = search needs
 
--- src/parts.rt:96:9
 or-level-returns : (t : ℕ) → or-level-lts.Need-returns (
   and-level-below t,
   and-level.Post,
@@ -837,9 +789,8 @@ or-level-returns : (t : ℕ) → or-level-lts.Need-returns (
   put-row-reads.Asked,
   put-row-reads.Learnt,
 ) (or-level-at t) or-level.Post or-level-Inv-loop or-level-μ-loop
-or-level-returns t c = ?
+or-level-returns t c = first-faulty disj (c .before .before .before .before .and-level .ensures) (c .enum-told .given .1) _
 
--- src/parts.rt:101:5
 or-level-loop-holds : (t : ℕ) → or-level-lts.Need-loop-holds (
   and-level-below t,
   and-level.Post,
@@ -848,9 +799,8 @@ or-level-loop-holds : (t : ℕ) → or-level-lts.Need-loop-holds (
   put-row-reads.Asked,
   put-row-reads.Learnt,
 ) (or-level-at t) or-level.Post or-level-Inv-loop or-level-μ-loop
-or-level-loop-holds t c = ?
+or-level-loop-holds t c = (λ before h. h, part-behind (c .before .before .before .before .before .and-level .ensures) (c .before .first .given .1))
 
--- src/parts.rt:102:47
 or-level-slice-aggregate-word-at : (t : ℕ) → or-level-lts.Need-slice-aggregate-word-at (
   and-level-below t,
   and-level.Post,
@@ -859,9 +809,8 @@ or-level-slice-aggregate-word-at : (t : ℕ) → or-level-lts.Need-slice-aggrega
   put-row-reads.Asked,
   put-row-reads.Learnt,
 ) (or-level-at t) or-level.Post or-level-Inv-loop or-level-μ-loop
-or-level-slice-aggregate-word-at t c = ?
+or-level-slice-aggregate-word-at t c = search needs
 
--- src/parts.rt:102:29
 or-level-word-at-requires : (t : ℕ) → or-level-lts.Need-word-at-requires (
   and-level-below t,
   and-level.Post,
@@ -870,9 +819,8 @@ or-level-word-at-requires : (t : ℕ) → or-level-lts.Need-word-at-requires (
   put-row-reads.Asked,
   put-row-reads.Learnt,
 ) (or-level-at t) or-level.Post or-level-Inv-loop or-level-μ-loop
-or-level-word-at-requires t c κs = ?
+or-level-word-at-requires t c κs = (c .before .loop .inv .0 _ (lifted disj (part-read (c .before .before .before .before .before .before .before .and-level .ensures) (c .before .before .before .first .given .1)))) .inside
 
--- src/parts.rt:102:23
 or-level-enum-known-to : (t : ℕ) → or-level-lts.Need-enum-known-to (
   and-level-below t,
   and-level.Post,
@@ -881,9 +829,8 @@ or-level-enum-known-to : (t : ℕ) → or-level-lts.Need-enum-known-to (
   put-row-reads.Asked,
   put-row-reads.Learnt,
 ) (or-level-at t) or-level.Post or-level-Inv-loop or-level-μ-loop
-or-level-enum-known-to t c = ?
+or-level-enum-known-to t c = search needs
 
--- src/parts.rt:103:13
 or-level-enum-told-2 : (t : ℕ) → or-level-lts.Need-enum-told-2 (
   and-level-below t,
   and-level.Post,
@@ -892,9 +839,8 @@ or-level-enum-told-2 : (t : ℕ) → or-level-lts.Need-enum-told-2 (
   put-row-reads.Asked,
   put-row-reads.Learnt,
 ) (or-level-at t) or-level.Post or-level-Inv-loop or-level-μ-loop
-or-level-enum-told-2 t c = ?
+or-level-enum-told-2 t c = search needs
 
--- src/parts.rt:103:13
 or-level-same-length-2 : (t : ℕ) → or-level-lts.Need-same-length-2 (
   and-level-below t,
   and-level.Post,
@@ -903,9 +849,8 @@ or-level-same-length-2 : (t : ℕ) → or-level-lts.Need-same-length-2 (
   put-row-reads.Asked,
   put-row-reads.Learnt,
 ) (or-level-at t) or-level.Post or-level-Inv-loop or-level-μ-loop
-or-level-same-length-2 t c = ?
+or-level-same-length-2 t c = table-kept (c .before .before .before .before .before .before .before .before .before .before .before .before .before .before .before .before .before .before .pre .1 .0) (c .before .before .before .before .loop .inv .0 _ (lifted disj (part-read (c .before .before .before .before .before .before .before .before .before .before .and-level .ensures) (c .before .before .before .before .before .before .first .given .1))))
 
--- src/parts.rt:103:13
 or-level-returns-2 : (t : ℕ) → or-level-lts.Need-returns-2 (
   and-level-below t,
   and-level.Post,
@@ -914,9 +859,8 @@ or-level-returns-2 : (t : ℕ) → or-level-lts.Need-returns-2 (
   put-row-reads.Asked,
   put-row-reads.Learnt,
 ) (or-level-at t) or-level.Post or-level-Inv-loop or-level-μ-loop
-or-level-returns-2 t c = ?
+or-level-returns-2 t c = no-more disj (c .before .before .before .before .loop .inv .0 _ (lifted disj (part-read (c .before .before .before .before .before .before .before .before .before .before .and-level .ensures) (c .before .before .before .before .before .before .first .given .1)))) (c .before .before .before .before .loop .inv .1) (c .before .before .word-at .ensures) (c .enum-told2 .given .1)
 
--- src/parts.rt:113:36
 or-level-add-and-level : (t : ℕ) → or-level-lts.Need-add-and-level (
   and-level-below t,
   and-level.Post,
@@ -925,9 +869,8 @@ or-level-add-and-level : (t : ℕ) → or-level-lts.Need-add-and-level (
   put-row-reads.Asked,
   put-row-reads.Learnt,
 ) (or-level-at t) or-level.Post or-level-Inv-loop or-level-μ-loop
-or-level-add-and-level t c = ?
+or-level-add-and-level t c = omega (arith, (behind-part (c .before .before .before .before .before .before .before .before .before .before .before .before .before .before .before .before .before .before .before .pre .1 .0) (c .before .before .before .before .before .loop .inv .0 _ (lifted disj (part-read (c .before .before .before .before .before .before .before .before .before .before .before .and-level .ensures) (c .before .before .before .before .before .before .before .first .given .1))))) .numbers)
 
--- src/parts.rt:113:13
 or-level-and-level-requires-2 : (t : ℕ) → or-level-lts.Need-and-level-requires-2 (
   and-level-below t,
   and-level.Post,
@@ -936,9 +879,8 @@ or-level-and-level-requires-2 : (t : ℕ) → or-level-lts.Need-and-level-requir
   put-row-reads.Asked,
   put-row-reads.Learnt,
 ) (or-level-at t) or-level.Post or-level-Inv-loop or-level-μ-loop
-or-level-and-level-requires-2 t c κs = ?
+or-level-and-level-requires-2 t c κs = (omega (arith, word-past (c .before .before .before .before .word-at .ensures) (c .before .before .to .given .1) .onward, word-past (c .before .before .before .before .word-at .ensures) (c .before .before .to .given .1) .inside, (c .before .before .before .before .before .before .loop .inv .0 _ (lifted disj (part-read (c .before .before .before .before .before .before .before .before .before .before .before .before .and-level .ensures) (c .before .before .before .before .before .before .before .before .first .given .1)))) .onward), (behind-word (behind-part (c .before .before .before .before .before .before .before .before .before .before .before .before .before .before .before .before .before .before .before .before .pre .1 .0) (c .before .before .before .before .before .before .loop .inv .0 _ (lifted disj (part-read (c .before .before .before .before .before .before .before .before .before .before .before .before .and-level .ensures) (c .before .before .before .before .before .before .before .before .first .given .1))))) is-or (c .before .before .before .before .word-at .ensures) (c .before .before .to .given .1), c .before .before .before .before .before .before .before .before .before .before .before .before .before .before .before .before .before .before .before .before .pre .1 .1))
 
--- src/parts.rt:110:20
 or-level-enum-known-end : (t : ℕ) → or-level-lts.Need-enum-known-end (
   and-level-below t,
   and-level.Post,
@@ -947,9 +889,8 @@ or-level-enum-known-end : (t : ℕ) → or-level-lts.Need-enum-known-end (
   put-row-reads.Asked,
   put-row-reads.Learnt,
 ) (or-level-at t) or-level.Post or-level-Inv-loop or-level-μ-loop
-or-level-enum-known-end t c = ?
+or-level-enum-known-end t c = search needs
 
--- src/parts.rt:115:13
 or-level-enum-told-3 : (t : ℕ) → or-level-lts.Need-enum-told-3 (
   and-level-below t,
   and-level.Post,
@@ -958,9 +899,8 @@ or-level-enum-told-3 : (t : ℕ) → or-level-lts.Need-enum-told-3 (
   put-row-reads.Asked,
   put-row-reads.Learnt,
 ) (or-level-at t) or-level.Post or-level-Inv-loop or-level-μ-loop
-or-level-enum-told-3 t c = ?
+or-level-enum-told-3 t c = search needs
 
--- src/parts.rt:115:13
 or-level-same-length-3 : (t : ℕ) → or-level-lts.Need-same-length-3 (
   and-level-below t,
   and-level.Post,
@@ -969,9 +909,8 @@ or-level-same-length-3 : (t : ℕ) → or-level-lts.Need-same-length-3 (
   put-row-reads.Asked,
   put-row-reads.Learnt,
 ) (or-level-at t) or-level.Post or-level-Inv-loop or-level-μ-loop
-or-level-same-length-3 t c = ?
+or-level-same-length-3 t c = let kept = table-kept (c .before .before .before .before .before .before .before .before .before .before .before .before .before .before .before .before .before .before .before .before .before .before .before .before .before .pre .1 .0) (c .before .before .before .before .before .before .before .before .before .before .before .loop .inv .0 _ (lifted disj (part-read (c .before .before .before .before .before .before .before .before .before .before .before .before .before .before .before .before .before .and-level .ensures) (c .before .before .before .before .before .before .before .before .before .before .before .before .before .first .given .1)))) in search needs
 
--- src/parts.rt:115:13
 or-level-returns-3 : (t : ℕ) → or-level-lts.Need-returns-3 (
   and-level-below t,
   and-level.Post,
@@ -980,9 +919,8 @@ or-level-returns-3 : (t : ℕ) → or-level-lts.Need-returns-3 (
   put-row-reads.Asked,
   put-row-reads.Learnt,
 ) (or-level-at t) or-level.Post or-level-Inv-loop or-level-μ-loop
-or-level-returns-3 t c = ?
+or-level-returns-3 t c = right-faulty disj (c .before .before .before .before .before .before .before .before .before .before .before .loop .inv .0 _ (lifted disj (part-read (c .before .before .before .before .before .before .before .before .before .before .before .before .before .before .before .before .before .and-level .ensures) (c .before .before .before .before .before .before .before .before .before .before .before .before .before .first .given .1)))) (c .before .before .before .before .before .before .before .before .before .word-at .ensures) (c .before .before .before .before .before .before .before .to .given .1) (c .before .before .before .before .and-level2 .ensures) (c .enum-told3 .given .1) _
 
--- src/parts.rt:117:9
 or-level-put-row-requires : (t : ℕ) → or-level-lts.Need-put-row-requires (
   and-level-below t,
   and-level.Post,
@@ -991,9 +929,8 @@ or-level-put-row-requires : (t : ℕ) → or-level-lts.Need-put-row-requires (
   put-row-reads.Asked,
   put-row-reads.Learnt,
 ) (or-level-at t) or-level.Post or-level-Inv-loop or-level-μ-loop
-or-level-put-row-requires t c κs = ?
+or-level-put-row-requires t c κs = (row-room _ (behind-word (behind-part (c .before .before .before .before .before .before .before .before .before .before .before .before .before .before .before .before .before .before .before .before .before .before .before .before .before .before .before .pre .1 .0) (c .before .before .before .before .before .before .before .before .before .before .before .before .before .loop .inv .0 _ (lifted disj (part-read (c .before .before .before .before .before .before .before .before .before .before .before .before .before .before .before .before .before .before .before .and-level .ensures) (c .before .before .before .before .before .before .before .before .before .before .before .before .before .before .before .first .given .1))))) is-or (c .before .before .before .before .before .before .before .before .before .before .before .word-at .ensures) (c .before .before .before .before .before .before .before .before .before .to .given .1)) (part-read (c .before .before .before .before .before .before .and-level2 .ensures) (c .before .before .end .given .1)), atom-fits (c .before .before .before .before .before .before .before .before .before .before .before .before .before .before .before .before .before .before .before .before .before .before .before .before .before .before .before .pre .1 .0) (c .before .before .before .before .before .before .before .before .before .before .before .before .before .loop .inv .0 _ (lifted disj (part-read (c .before .before .before .before .before .before .before .before .before .before .before .before .before .before .before .before .before .before .before .and-level .ensures) (c .before .before .before .before .before .before .before .before .before .before .before .before .before .before .before .first .given .1)))), atom-fits (behind-word (behind-part (c .before .before .before .before .before .before .before .before .before .before .before .before .before .before .before .before .before .before .before .before .before .before .before .before .before .before .before .pre .1 .0) (c .before .before .before .before .before .before .before .before .before .before .before .before .before .loop .inv .0 _ (lifted disj (part-read (c .before .before .before .before .before .before .before .before .before .before .before .before .before .before .before .before .before .before .before .and-level .ensures) (c .before .before .before .before .before .before .before .before .before .before .before .before .before .before .before .first .given .1))))) is-or (c .before .before .before .before .before .before .before .before .before .before .before .word-at .ensures) (c .before .before .before .before .before .before .before .before .before .to .given .1)) (part-read (c .before .before .before .before .before .before .and-level2 .ensures) (c .before .before .end .given .1)))
 
--- src/parts.rt:118:16
 or-level-add-atom : (t : ℕ) → or-level-lts.Need-add-atom (
   and-level-below t,
   and-level.Post,
@@ -1002,9 +939,8 @@ or-level-add-atom : (t : ℕ) → or-level-lts.Need-add-atom (
   put-row-reads.Asked,
   put-row-reads.Learnt,
 ) (or-level-at t) or-level.Post or-level-Inv-loop or-level-μ-loop
-or-level-add-atom t c = ?
+or-level-add-atom t c = omega (arith, (behind-part (c .before .before .before .before .before .before .before .before .before .before .before .before .before .before .before .before .before .before .before .before .before .before .before .before .before .before .before .before .before .before .pre .1 .0) (c .before .before .before .before .before .before .before .before .before .before .before .before .before .before .before .before .loop .inv .0 _ (lifted disj (part-read (c .before .before .before .before .before .before .before .before .before .before .before .before .before .before .before .before .before .before .before .before .before .before .and-level .ensures) (c .before .before .before .before .before .before .before .before .before .before .before .before .before .before .before .before .before .before .first .given .1))))) .numbers, length-decode (length (c .before .before .before .before .before .before .before .before .before .before .before .before .before .before .before .before .before .before .before .before .before .before .before .before .before .before .before .before .before .before .args .starts .now)) (c .before .before .before .before .before .before .before .before .before .before .before .before .before .before .before .before .before .before .before .before .before .before .before .before .before .before .before .before .before .before .args .bytes .now))
 
--- src/parts.rt:118:16
 or-level-add-atom-2 : (t : ℕ) → or-level-lts.Need-add-atom-2 (
   and-level-below t,
   and-level.Post,
@@ -1013,9 +949,8 @@ or-level-add-atom-2 : (t : ℕ) → or-level-lts.Need-add-atom-2 (
   put-row-reads.Asked,
   put-row-reads.Learnt,
 ) (or-level-at t) or-level.Post or-level-Inv-loop or-level-μ-loop
-or-level-add-atom-2 t c = ?
+or-level-add-atom-2 t c = omega (arith, (behind-part (c .before .before .before .before .before .before .before .before .before .before .before .before .before .before .before .before .before .before .before .before .before .before .before .before .before .before .before .before .before .before .pre .1 .0) (c .before .before .before .before .before .before .before .before .before .before .before .before .before .before .before .before .loop .inv .0 _ (lifted disj (part-read (c .before .before .before .before .before .before .before .before .before .before .before .before .before .before .before .before .before .before .before .before .before .before .and-level .ensures) (c .before .before .before .before .before .before .before .before .before .before .before .before .before .before .before .before .before .before .first .given .1))))) .numbers, length-decode (length (c .before .before .before .before .before .before .before .before .before .before .before .before .before .before .before .before .before .before .before .before .before .before .before .before .before .before .before .before .before .before .args .starts .now)) (c .before .before .before .before .before .before .before .before .before .before .before .before .before .before .before .before .before .before .before .before .before .before .before .before .before .before .before .before .before .before .args .bytes .now))
 
--- src/parts.rt:101:5
 or-level-loop-less : (t : ℕ) → or-level-lts.Need-loop-less (
   and-level-below t,
   and-level.Post,
@@ -1024,9 +959,8 @@ or-level-loop-less : (t : ℕ) → or-level-lts.Need-loop-less (
   put-row-reads.Asked,
   put-row-reads.Learnt,
 ) (or-level-at t) or-level.Post or-level-Inv-loop or-level-μ-loop
-or-level-loop-less t c = ?
+or-level-loop-less t c = omega (arith, word-past (c .before .before .before .before .before .before .before .before .before .before .before .before .before .before .word-at .ensures) (c .before .before .before .before .before .before .before .before .before .before .before .before .to .given .1) .onward, (part-read (c .before .before .before .before .before .before .before .before .before .and-level2 .ensures) (c .before .before .before .before .before .end .given .1)) .onward, (part-read (c .before .before .before .before .before .before .before .before .before .and-level2 .ensures) (c .before .before .before .before .before .end .given .1)) .inside)
 
--- src/parts.rt:101:5
 or-level-loop-again : (t : ℕ) → or-level-lts.Need-loop-again (
   and-level-below t,
   and-level.Post,
@@ -1035,7 +969,10 @@ or-level-loop-again : (t : ℕ) → or-level-lts.Need-loop-again (
   put-row-reads.Asked,
   put-row-reads.Learnt,
 ) (or-level-at t) or-level.Post or-level-Inv-loop or-level-μ-loop
-or-level-loop-again t c = ?
+or-level-loop-again t c = (
+  λ before h. joined disj (c .before .before .before .before .before .before .before .before .before .before .before .before .before .before .before .before .loop .inv .0 before h) (c .before .before .before .before .before .before .before .before .before .before .before .before .before .before .word-at .ensures) (c .before .before .before .before .before .before .before .before .before .before .before .before .to .given .1) (part-read (c .before .before .before .before .before .before .before .before .before .and-level2 .ensures) (c .before .before .before .before .before .end .given .1)) (part-behind (c .before .before .before .before .before .before .before .before .before .and-level2 .ensures) (c .before .before .before .before .before .end .given .1)) (c .before .before .put-row .ensures) (sym (length-decode (length (c .before .before .before .before .before .before .before .before .before .before .before .before .before .before .before .before .before .before .before .before .before .before .before .before .before .before .before .before .before .before .args .starts .now)) (c .before .before .before .before .before .before .before .before .before .before .before .before .before .before .before .before .before .before .before .before .before .before .before .before .before .before .before .before .before .before .args .bytes .now))),
+  part-behind (c .before .before .before .before .before .before .before .before .before .and-level2 .ensures) (c .before .before .before .before .before .end .given .1),
+)
 
 pub +and-level+bracket+not-level+or-level-spec : {M : Type 1} → statement M
 +and-level+bracket+not-level+or-level-spec =

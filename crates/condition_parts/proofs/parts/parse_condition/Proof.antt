@@ -1,50 +1,38 @@
+use Rattle.condition_parts.proofs.JoinedParts.{part-read, part-behind}
+use Rattle.condition_parts.proofs.NamedParts.{whole-faulty, whole-part, more-faulty}
 use borrow.Author.Needs.{needs}
 use Rattle.condition_parts.proofs.parts.parse_condition.Statement.{statement}
 use Rattle.condition_parts.proofs.parts.parse_condition.Tie as tie
-use Rattle.condition_parts.proofs.parts.parse_condition.Reads as reads
-use Rattle.condition_parts.proofs.parts.parse_condition.Lts as lts
-use Rattle.condition_parts.proofs.parts.or_level.Reads as or-level-reads
-use Rattle.lines.proofs.scan.nothing_at.Reads as nothing-at-reads
 
--- src/parts.rt:261:42
 or-level-requires : tie.Need-or-level-requires
 or-level-requires c κs = search needs
 
--- src/parts.rt:261:20
 enum-known-place : tie.Need-enum-known-place
 enum-known-place c = search needs
 
--- src/parts.rt:272:9
 enum-told : tie.Need-enum-told
 enum-told c = search needs
 
--- src/parts.rt:272:9
 same-length : tie.Need-same-length
 same-length c = search needs
 
--- src/parts.rt:272:9
 returns : tie.Need-returns
-returns c = ?
+returns c = whole-faulty _ _ _ (c .before .before .before .before .or-level .ensures) (c .enum-told .given .1)
 
--- src/parts.rt:274:8
 nothing-at-requires : tie.Need-nothing-at-requires
-nothing-at-requires c κs = ?
+nothing-at-requires c κs = (part-read (c .before .before .before .before .before .or-level .ensures) (c .before .place .given .1)) .inside
 
--- src/parts.rt:275:9
 same-length-2 : tie.Need-same-length-2
 same-length-2 c = search needs
 
--- src/parts.rt:275:9
 returns-2 : tie.Need-returns-2
-returns-2 c = ?
+returns-2 c = whole-part _ _ _ (part-read (c .before .before .before .before .before .before .before .or-level .ensures) (c .before .before .before .place .given .1)) (c .before .nothing-at .ensures) (c .if1 .taken)
 
--- src/parts.rt:248:1
 same-length-3 : tie.Need-same-length-3
 same-length-3 c = search needs
 
--- src/parts.rt:248:1
 returns-3 : tie.Need-returns-3
-returns-3 c = ?
+returns-3 c = more-faulty _ _ _ (part-read (c .before .before .before .before .before .before .before .or-level .ensures) (c .before .before .before .place .given .1)) (c .before .nothing-at .ensures) (part-behind (c .before .before .before .before .before .before .before .or-level .ensures) (c .before .before .before .place .given .1)) (c .if1 .left)
 
 pub parse-condition-spec : {M : Type 1} → statement M
 parse-condition-spec =
