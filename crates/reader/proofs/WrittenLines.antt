@@ -17,7 +17,7 @@ use Rattle.rules.specs.Lists.{All, Distinct, flat, from, sum}
 use Rattle.rules.specs.Rules.{Rule, rule, occurrences}
 use Rattle.rules.proofs.Lists.{all-imp, all-map, all-at, sum-app}
 use Rattle.names.specs.declared.forms.NameClass.{NameClass}
-use Rattle.names.specs.declared.forms.NameClass.the-variants.{House, Generated, TooLong, Wrong}
+use Rattle.names.specs.declared.forms.NameClass.the-variants.{Common, Generated, TooLong, Wrong}
 use Rattle.names.specs.Names.{nameClass, takes, allowed}
 use Rattle.name_store.specs.NameStore.{NamesForm}
 use Rattle.stores.specs.Program.{Program, RoleForm, roleOf, NeverFalling, ClassesForm, ListForm, NotForm, RuleForm}
@@ -73,11 +73,11 @@ unfolding allowed
 allowed-name kind x h = name-law x .0 (go kind (nameClass x) h)
   where
     go : (k : Kind) (c : NameClass) → T (takes k c) → T (isName c)
-    go Plain House t = tt
+    go Plain Common t = tt
     go Plain Generated t = tt
     go Plain TooLong t = absurd t
     go Plain Wrong t = absurd t
-    go Preference House t = tt
+    go Preference Common t = tt
     go Preference Generated t = absurd t
     go Preference TooLong t = absurd t
     go Preference Wrong t = absurd t
