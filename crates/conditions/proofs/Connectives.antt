@@ -10,9 +10,10 @@ use Rattle.rules.specs.Sets.{In, Out}
 use Rattle.rules.specs.Rules.{Rule, Holds, Model, rename}
 use Rattle.rules.proofs.Booleans.{eq→eqb, decide, T-of, bool-ext, T-and, T-and-l, T-and-r, T-or, T-or-out, T-not-in, T-not-out}
 use Rattle.rules.proofs.Lists.{all-app, all-app-l, all-app-r, all-keep, keep-any, all-map, map-all, any-map, map-any}
-use Rattle.conditions.specs.Conditions.{Atom, planner, made, Cond, name, NOT, AND, OR, Statement, states, when, truth, values, statementValues}
+use Rattle.conditions.specs.Conditions.{Atom, planner, made, Cond, name, NOT, AND, OR, Statement, states, when, truth}
 use Rattle.conditions.specs.Written.{same?, once, part, andRules, orRules, notRules, connectiveRules, thenRule, statementRules, written}
-use Rattle.conditions.specs.Readings.{StatementHolds, DirectModel, cutDown, Has, Valued}
+use Rattle.conditions.specs.Readings.{StatementHolds, DirectModel, cutDown}
+use Rattle.conditions.proofs.Values.{values, statementValues, Has, Valued}
 
 same-atom : (a b : Atom) → T (same? a b) → a ≡ b
 same-atom (planner a) (planner b) h = ap planner (eqb→eq a b h)

@@ -1,4 +1,4 @@
--- The written program is of the store's form, as far as the limits allow it: so every verdict, list and translation takes it.
+-- The written rules are of the form: declared atoms, none twice in a list, no `not` list.
 use Prim.Native.Nat.{ℕ, _+_, _≤_, _<_}
 use native.Mathlib.Omega.{arith}
 use mathlib.Core.Path.{_≡_, refl, sym, ap, subst, _∙_}
