@@ -101,7 +101,7 @@ module _ {s : List ℕ} {at b p : ℕ} (h : ByteBehind s at b p) where
   there : drop p s ≡ b ∷ drop (p + 1) s
   there = drop-cons s p 0 (h .inside) ∙ ap₂ (λ (c k : ℕ). c ∷ drop k s) (h .byte) (sym (add-one p))
 
-  from-there : tokens (drop at s) ≡ tokens (drop p s)
+  pub from-there : tokens (drop at s) ≡ tokens (drop p s)
   from-there = tokens-at s at refl ∙ ap (λ (k : ℕ). tokens (drop k s)) (sym (h .place))
 
   pub opening-is : b ≡ open-bracket → tokens (drop at s) ≡ opening ∷ tokens (drop (p + 1) s)
