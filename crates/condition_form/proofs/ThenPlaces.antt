@@ -1,10 +1,10 @@
 -- `(then a))` by its places, and the condition in front of it.
-use Prim.Native.Nat.{ℕ, _+_, _-_, _≤_}
+use Prim.Native.Nat.{ℕ, _+_, _≤_}
 use native.Mathlib.Omega.{arith}
 use mathlib.Core.Path.{_≡_, refl, sym, ap, ap₂, _∙_, subst}
 use mathlib.Core.Bool.{Bool, true, false, cond}
 use mathlib.Core.List.{List, [], _∷_, _++_}
-use lib.ListN.{length, take, drop}
+use lib.ListN.{length, drop}
 use Rattle.kinds.specs.Words.{whenWord, thenWord}
 use Rattle.kinds.specs.declared.limits.Kind.{Kind}
 use Rattle.rules.specs.Lists.{some}
@@ -14,8 +14,8 @@ use Rattle.lines.specs.declared.scan.Item.the-variants.{At, Stop}
 use Rattle.lines.specs.declared.scan.Place.{Place}
 use Rattle.lines.specs.declared.scan.Place.the-variants as Place
 use Rattle.lines.specs.Tokens.{Token, opening, closing, word, tokens, leading, items}
-use Rattle.lines.specs.Conditions.{wordsIn, namesIn, pairs}
-use Rattle.lines.specs.Forms.{LineForm, condition, broken, Opened, opened, openedOf, whenForm, names?, named}
+use Rattle.lines.specs.Conditions.{wordsIn, pairs}
+use Rattle.lines.specs.Forms.{LineForm, condition, broken, opened, openedOf, whenForm, names?, named}
 use Rattle.lines.specs.Faults.{refusedName}
 use Rattle.lines.specs.Shapes.{itemOf, closes?, closesLast?, opensWith, ClosedSays, ClosedIs, OpenedSays, OpenedIs, thenTokens}
 use Rattle.lines.proofs.TokenPlaces.{items-end, item-fits, word-is}
@@ -24,7 +24,6 @@ use Rattle.condition_form.specs.declared.condition.Walk.{Walk}
 use Rattle.condition_form.specs.declared.condition.Walk.the-variants as Walk
 use Rattle.condition_form.specs.declared.condition.Then.{Then}
 use Rattle.condition_form.specs.declared.condition.Then.the-variants as Then
-use Rattle.condition_form.specs.declared.condition.ConditionPlaces.{ConditionPlaces}
 use Rattle.condition_form.specs.ConditionForms.{between, oneForm, fromLast, Walked, WalkSays, WalkIs, ThenAt, ThenSays, ThenIs, ConditionAt}
 use Rattle.condition_form.proofs.FormWalks.{one-pairs, last-then}
 

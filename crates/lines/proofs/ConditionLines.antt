@@ -14,8 +14,8 @@ use Rattle.names.specs.Names.{house?, nameClass, allowed}
 use Rattle.name_store.specs.NameStore.{sameBytes}
 use Rattle.name_store.proofs.NameStores.{same-law}
 use Rattle.lines.specs.Tokens.{Token, opening, closing, word, run, leading, behind}
-use Rattle.lines.specs.Conditions.{WordSort, negation, conjunction, disjunction, called, sortOf, bySort, wordsIn, namesIn, pairs}
-use Rattle.lines.specs.Forms.{LineForm, condition, broken, openedOf, closedBy, split, none, splitNames, splitList, Conditional, conditional, unconditional, onlyClosing, onlyName, thenOr, inFront, splitThen, pairedForm, whenForm, isName, names?, named}
+use Rattle.lines.specs.Conditions.{sortOf, bySort, wordsIn, namesIn, pairs}
+use Rattle.lines.specs.Forms.{condition, broken, openedOf, closedBy, none, splitNames, splitList, Conditional, conditional, unconditional, onlyClosing, onlyName, thenOr, inFront, splitThen, pairedForm, whenForm, isName, names?, named}
 use Rattle.lines.specs.Faults.{refusedName}
 use Rattle.lines.specs.Shapes.{WholeWord, thenTokens}
 
