@@ -36,6 +36,7 @@ fn preference_counts(counts: ClauseCounts, used: usize) -> Gathered
             rules,
             occurrences,
         },
+        made: 0,
         words,
         bytes: used,
     }

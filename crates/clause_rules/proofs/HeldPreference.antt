@@ -45,6 +45,7 @@ module _ {g : Gathered} {c : ClauseCounts} {words bodies : List ℕ} (h : HeldCl
         stage-is = refl;
         classes-is = refl;
         counts-are = λ i. record { atoms = sym (names-count (c .atoms)) i; rules = h .rules-are i; occurrences = occurrences i };
+        made-is = refl;
         class-words = length-replicate (c .atoms) 1;
         stored = h .stored;
         names-allowed = names-form (c .atoms) (h .atoms-fit) .all-allowed;
@@ -53,6 +54,8 @@ module _ {g : Gathered} {c : ClauseCounts} {words bodies : List ℕ} (h : HeldCl
         short = omega (arith, w .place);
         counts-fit = limits-within {kind = Preference} (record { atoms = h .atoms-fit; rules = le-trans (h .rules-fit) (h .clauses-fit); occurrences = h .occurrences-fit });
         classes-fit = omega arith;
+        made-fits = omega arith;
+        made-kind = λ z. refl;
         no-rules = λ z. absurd (let y : _≡_ {A = ℕ} 0 1 = cc in omega arith);
         words-room = h .words-room;
         bytes-room = same-length w ∙ room;

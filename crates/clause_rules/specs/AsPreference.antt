@@ -18,6 +18,7 @@ clauseState n g = record {
   words = replicate n 1;
   names = clauseNames n;
   program-rules = g .rules;
+  made = 0;
 }
 
 abbrev pub clauseLines : ClauseCounts → ℕ → Lines
@@ -25,6 +26,7 @@ clauseLines c used = record {
   stage = Ruling;
   classes = 1;
   counts = record { atoms = c .atoms; rules = c .rules; occurrences = c .occurrences };
+  made = 0;
   words = c .words;
   bytes = used;
 }

@@ -31,9 +31,9 @@ use Rattle.gathering.specs.declared.gathered.Gathered.{Gathered}
 use Rattle.gathering.specs.declared.gathered.Line.{Line}
 use Rattle.gathering.specs.declared.gathered.Line.the-variants.{Next, Fault}
 use Rattle.lines.specs.Tokens.{items}
-use Rattle.lines.specs.Forms.{Word, atoms, min, vary, fix, LineForm, blank, broken, formOf}
-use Rattle.lines.specs.Faults.{SoFar, countsOf, next, fault, expects, ruling?, classesAfter, classWords, twice, refusedName, first, declared, declare, addRule, stepForm}
-use Rattle.lines.specs.Shapes.{wordOf, Declared, Ruled, ShapeIs}
+use Rattle.lines.specs.Forms.{Word, atoms, min, vary, fix, LineForm, declares, rules, condition, blank, broken, formOf}
+use Rattle.lines.specs.Faults.{SoFar, countsOf, next, fault, expects, ruling?, classesAfter, classWords, twice, refusedName, first, declared, declare, addRule, addCondition, stepForm}
+use Rattle.lines.specs.Shapes.{wordOf, Declared, Ruled, Otherwise, ShapeIs}
 use Rattle.numbering.specs.Entries.{Room, Stored, Short, AllEntered, SomeEntered}
 use Rattle.gathering.specs.Gathered.{stateOf, storedWords, Filled, Held, HeldIndex, LineSays, LineIs, firstLine, countsIf, atomCounts, withNames, keptNames, KeptNames, pastRefusal}
 use Rattle.gathering.proofs.HeldState.{fill-more, atoms-is, rules-is, occurrences-is, held-is, names-are, held-small, atoms-small, within-limits}
@@ -240,6 +240,7 @@ module _ {kind : Kind} {st : SoFar} {g : Gathered} {words bytes starts firsts li
                 stage-is = refl;
                 classes-is = ap (classesAfter w) (h .classes-is);
                 counts-are = new-counts;
+                made-is = h .made-is;
                 class-words = length-append (st .words) class-list ∙ ap (λ x. x + length class-list) (h .class-words) ∙ class-count;
                 stored =
                     subst (λ x. Filled words₂ 4 end x) stored-after
@@ -251,6 +252,8 @@ module _ {kind : Kind} {st : SoFar} {g : Gathered} {words bytes starts firsts li
                 short = a .stored .short;
                 counts-fit = l;
                 classes-fit = m;
+                made-fits = h .made-fits;
+                made-kind = h .made-kind;
                 no-rules = λ z. no-rules;
                 words-room = ap length q ∙ length-sets words (g .words) (classWords w (g .classes) (s .count)) ∙ h .words-room;
                 bytes-room = b ∙ h .bytes-room;
@@ -288,5 +291,13 @@ module _ {kind : Kind} {g : Gathered} {words bytes starts firsts links : List �
       let w : Ruled kind (formOf l) b = subst (ShapeIs kind l (formOf l)) e z in
       record { says = ap (stepForm (stateOf kind g words bytes)) (w .form) ∙ rw (sym (ap ruling? (h .stage-is)) ∙ n) }
 
-  pub form-broken : r ≡ Shape.Broken → LineIs kind (stateOf kind g words bytes) (formOf l) words bytes starts firsts links (Fault BrokenForm)
-  form-broken e = let w : formOf l ≡ broken = subst (ShapeIs kind l (formOf l)) e z in record { says = ap (stepForm (stateOf kind g words bytes)) w }
+  pub other-early : ruling? (g .stage) ≡ false → r ≡ Shape.Other → LineIs kind (stateOf kind g words bytes) (formOf l) words bytes starts firsts links (Fault BrokenForm)
+  unfolding addCondition
+  other-early n e = record { says = go (formOf l) (subst (ShapeIs kind l (formOf l)) e z) }
+    where
+      go : (f : LineForm) → Otherwise f → stepForm (stateOf kind g words bytes) f ≡ fault BrokenForm
+      go (declares w xs) o = absurd o
+      go (rules hs bs ns) o = absurd o
+      go (condition ts a) o = rw (sym (ap ruling? (h .stage-is)) ∙ n)
+      go blank o = absurd o
+      go broken o = refl

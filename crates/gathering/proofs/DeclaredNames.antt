@@ -3,23 +3,24 @@ use Prim.Native.Nat.{ℕ}
 use native.Mathlib.Omega.{arith}
 use mathlib.Core.Path.{_≡_, refl, sym, subst}
 use mathlib.Core.Bool.{Bool, true, false, not, cond, _||_}
-use mathlib.Core.List.{List, [], _∷_}
+use mathlib.Core.List.{List, [], _∷_, _++_}
 use lib.Dec.{T}
 use Rattle.kinds.specs.declared.limits.Kind.{Kind}
 use Rattle.kinds.specs.declared.limits.Kind.the-variants.{Plain, Preference}
 use Rattle.rules.specs.Lists.{All, some}
 use Rattle.rules.proofs.Booleans.{is-true}
 use Rattle.names.specs.declared.forms.NameClass.{NameClass}
-use Rattle.names.specs.declared.forms.NameClass.the-variants.{House, Generated, TooLong, Wrong}
+use Rattle.names.specs.declared.forms.NameClass.the-variants.{Common, Generated, TooLong, Wrong}
 use Rattle.names.specs.Names.{nameClass, takes, allowed}
 use Rattle.name_store.specs.NameStore.{sameBytes, among}
 use Rattle.name_store.proofs.NameStores.{same-law}
-use Rattle.lines.specs.Forms.{LineForm, declares, rules, blank, broken, isName, names?, named}
+use Rattle.lines.specs.Conditions.{wordsIn}
+use Rattle.lines.specs.Forms.{LineForm, declares, rules, condition, blank, broken, isName, names?, named}
 use Rattle.lines.specs.Faults.{refusedName}
 use Rattle.numbering.specs.Numbers.{undeclared}
 
 taken : (kind : Kind) (c : NameClass) → takes kind c ≡ true → isName c ≡ true
-taken kind House e = refl
+taken kind Common e = refl
 taken kind Generated e = refl
 taken kind TooLong e = refl
 taken Plain Wrong e = e
@@ -57,5 +58,10 @@ named-rules (rules xs ys zs) {hs} {bs} {ns} e = go (names? xs) (names? ys) (name
     go true true false e = absurd (let z : _≡_ {A = ℕ} 0 1 = cc in omega arith)
     go true false c e = absurd (let z : _≡_ {A = ℕ} 0 1 = cc in omega arith)
     go false b c e = absurd (let z : _≡_ {A = ℕ} 0 1 = cc in omega arith)
+named-rules (condition ts a) {hs} {bs} {ns} e = absurd (go (names? (wordsIn ts ++ (a ∷ []))) e)
+  where
+    go : (b : Bool) → cond b (condition ts a) broken ≡ rules hs bs ns → ⊥
+    go true e = let z : _≡_ {A = ℕ} 0 1 = cc in omega arith
+    go false e = let z : _≡_ {A = ℕ} 0 1 = cc in omega arith
 named-rules blank e = absurd (let z : _≡_ {A = ℕ} 0 1 = cc in omega arith)
 named-rules broken e = absurd (let z : _≡_ {A = ℕ} 0 1 = cc in omega arith)

@@ -81,6 +81,7 @@ module _ {kind : Kind} {st : SoFar} {g : Gathered} {words bytes : List ℕ} (h :
         words = sym class-words i;
         names = sym names i;
         program-rules = sym rules i;
+        made = sym (h .made-is) i;
       }
 
   -- its names are those of the index

@@ -33,12 +33,12 @@ use Rattle.lines.specs.declared.forms.Shape.{Shape}
 use Rattle.lines.specs.declared.forms.Shape.the-variants as Line
 use Rattle.lines.specs.Lines.{ended?}
 use Rattle.lines.specs.Tokens.{tokens}
-use Rattle.lines.specs.Forms.{Word, LineForm, declares, rules, blank, broken, names?, named, typedForm, formOf}
-use Rattle.lines.specs.Faults.{SoFar, countsOf, next, fault, expects, ruling?, twice, refusedName, nameNumber, anyOf, first, filled, numbered, with-rule, declare, addRule, stepForm}
-use Rattle.lines.specs.Shapes.{Declared, Ruled, ShapeIs}
-use Rattle.lines.proofs.LineShapes.{filled-line, blank-line}
+use Rattle.lines.specs.Forms.{Word, LineForm, declares, rules, condition, blank, broken, names?, named, typedForm, formOf}
+use Rattle.lines.specs.Faults.{SoFar, countsOf, next, fault, expects, ruling?, twice, refusedName, nameNumber, anyOf, first, filled, numbered, with-rule, declare, addRule, addCondition, stepForm}
+use Rattle.lines.specs.Shapes.{Declared, Ruled, Otherwise, ShapeIs}
+use Rattle.lines.proofs.LineShapes.{filled-line, blank-line, condition-opens}
 use Rattle.numbering.specs.Numbers.{undeclared, ruleNumbers, NoRule, LineNumbered, RuleSays, RuleIs}
-use Rattle.gathering.specs.Gathered.{stateOf, storedWords, Filled, Held, HeldIndex, HeldMarks, LineSays, LineIs, MarksSay, MarksAre, filledCount, firstLine, ruleCounts, withRule, countsIf, keptRule, Kept, refusalOf, blankLine}
+use Rattle.gathering.specs.Gathered.{stateOf, storedWords, Filled, Held, HeldIndex, HeldMarks, LineSays, LineIs, MarksSay, MarksAre, filledCount, firstLine, ruleCounts, withRule, countsIf, keptRule, Kept, opensCondition, refusalOf, blankLine}
 use Rattle.gathering.proofs.DeclaredNames.{named-known, named-rules}
 use Rattle.gathering.proofs.HeldState.{fill-more, atoms-is, rules-is, occurrences-is, held-is, flat-last, sum-last, within-limits}
 
@@ -83,15 +83,20 @@ module _ {kind : Kind} {st : SoFar} {g : Gathered} {words bytes : List ℕ} (h :
   is-ruling = sym (ap ruling? (h .stage-is)) ∙ ruling
 
   -- no rule, or one with a name that is not declared
-  module _ (typed : empty? (tokens l) ≡ false) {names : List (List ℕ)} (same : names ≡ st .names) (n : NoRule names (typedForm l)) where
+  module _ (plain : opensCondition kind l ≡ false) (typed : empty? (tokens l) ≡ false) {names : List (List ℕ)} (same : names ≡ st .names) (n : NoRule names (typedForm l)) where
     faulty : (f : LineForm) → formOf l ≡ f → (f ≡ blank → ⊥) → ((hs bs ns : List (List ℕ)) → f ≡ rules hs bs ns → anyOf (undeclared names) hs bs ns ≡ true) → stepForm st f ≡ fault (refusalOf kind f)
-    unfolding declare addRule
+    unfolding declare addRule addCondition
     faulty (declares w xs) e b u = rw (ap (λ z. expects (st .kind) z w) stage-is ∙ unexpected (st .kind) w)
     faulty (rules hs bs ns) e b u = go (anyOf (some (refusedName kind)) hs bs ns) refl
       where
         go : (c : Bool) → anyOf (some (refusedName kind)) hs bs ns ≡ c → addRule st hs bs ns ≡ fault (cond c Name Undeclared)
         go true p = rw (is-ruling, ap (λ k. anyOf (some (refusedName k)) hs bs ns) (h .kind-is) ∙ p)
         go false p = rw (is-ruling, ap (λ k. anyOf (some (refusedName k)) hs bs ns) (h .kind-is) ∙ p, ap (λ x. anyOf (undeclared x) hs bs ns) (sym same) ∙ u hs bs ns refl)
+    faulty (condition ts a) e b u = go kind (h .kind-is) plain
+      where
+        go : (k : Kind) → st .kind ≡ k → opensCondition k l ≡ false → addCondition st ts a ≡ fault BrokenForm
+        go Plain q o = rw (is-ruling, q)
+        go Preference q o = absurd (let y : true ≡ false = sym (condition-opens l e) ∙ o in let x : _≡_ {A = ℕ} 0 1 = cc in omega arith)
     faulty blank e b u = absurd (b refl)
     faulty broken e b u = refl
 
@@ -218,6 +223,7 @@ module _ {kind : Kind} {st : SoFar} {g : Gathered} {words bytes : List ℕ} (h :
               stage-is = h .stage-is;
               classes-is = h .classes-is;
               counts-are = new-counts;
+              made-is = h .made-is;
               class-words = h .class-words;
               stored =
                   subst (λ x. Filled words₂ 4 (c .end) x) stored-more
@@ -229,6 +235,8 @@ module _ {kind : Kind} {st : SoFar} {g : Gathered} {words bytes : List ℕ} (h :
               short = h .short;
               counts-fit = b;
               classes-fit = h .classes-fit;
+              made-fits = h .made-fits;
+              made-kind = h .made-kind;
               no-rules = λ z. absurd (let y : true ≡ false = sym is-ruling ∙ z in let x : _≡_ {A = ℕ} 0 1 = cc in omega arith);
               words-room = ap length (after-counts q) ∙ length-sets words (g .words) (ruleWords new-rule) ∙ h .words-room;
               bytes-room = h .bytes-room;
@@ -300,5 +308,12 @@ module _ (kind : Kind) (l : List ℕ) {r : Shape} (h : ShapeIs kind l (formOf l)
   pub declared-why : {d : DeclaredShape} → r ≡ Line.Declares d → BrokenForm ≡ refusalOf kind (formOf l)
   declared-why {d} e = let w : Declared kind l (formOf l) d = subst (ShapeIs kind l (formOf l)) e h in sym (ap (refusalOf kind) (w .form))
 
-  pub broken-why : r ≡ Line.Broken → BrokenForm ≡ refusalOf kind (formOf l)
-  broken-why e = let w : formOf l ≡ broken = subst (ShapeIs kind l (formOf l)) e h in sym (ap (refusalOf kind) w)
+  pub other-why : r ≡ Line.Other → BrokenForm ≡ refusalOf kind (formOf l)
+  other-why e = go (formOf l) (subst (ShapeIs kind l (formOf l)) e h)
+    where
+      go : (f : LineForm) → Otherwise f → BrokenForm ≡ refusalOf kind f
+      go (declares w xs) o = absurd o
+      go (rules hs bs ns) o = absurd o
+      go (condition ts a) o = refl
+      go blank o = absurd o
+      go broken o = refl

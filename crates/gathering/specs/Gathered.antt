@@ -7,6 +7,7 @@ use lib.Dec.{T, leb, ltb}
 use lib.ListN.{length, take, drop}
 use lib.Seq.{sets}
 use Rattle.kinds.specs.Sizes.{longestEntry, storeWords, storeBytes}
+use Rattle.kinds.specs.Words.{whenWord}
 use Rattle.kinds.specs.Limits.{atomLimit, classLimit, within}
 use Rattle.kinds.specs.declared.limits.Counts.{Counts}
 use Rattle.kinds.specs.declared.limits.Kind.{Kind}
@@ -22,8 +23,10 @@ use Rattle.stores.specs.RuleStore.{ruleWords, wordCount, rulesFrom}
 use Rattle.gathering.specs.declared.gathered.Gathered.{Gathered}
 use Rattle.gathering.specs.declared.gathered.Line.{Line}
 use Rattle.gathering.specs.declared.gathered.Line.the-variants as Line
-use Rattle.lines.specs.Forms.{Word, LineForm, declares, rules, blank, broken}
-use Rattle.lines.specs.Faults.{SoFar, countsOf, next, fault, ruling?, stageAfter, classesAfter, classWords, refusedName, anyOf, stepForm}
+use Rattle.lines.specs.Tokens.{tokens}
+use Rattle.lines.specs.Shapes.{opensWith}
+use Rattle.lines.specs.Forms.{Word, LineForm, declares, rules, condition, blank, broken, openedOf}
+use Rattle.lines.specs.Faults.{SoFar, countsOf, next, fault, ruling?, stageAfter, classesAfter, classWords, refusedName, anyOf, conditional?, stepForm}
 
 unfoldable pub stateOf : Kind → Gathered → List ℕ → List ℕ → SoFar
 stateOf kind g words bytes = record {
@@ -33,6 +36,7 @@ stateOf kind g words bytes = record {
   words = take (wordCount kind (g .counts .atoms)) (drop 4 words);
   names = decodeNames (g .counts .atoms) bytes;
   program-rules = rulesFrom (g .counts .rules) (drop (4 + wordCount kind (g .counts .atoms)) words);
+  made = g .made;
 }
 
 -- the class words and the rules, as a rule store has them behind its header
@@ -53,6 +57,7 @@ pub record Held (kind : Kind) (st : SoFar) (g : Gathered) (words bytes : List �
   pub stage-is : g .stage ≡ st .stage
   pub classes-is : g .classes ≡ st .classes
   pub counts-are : g .counts ≡ countsOf st
+  pub made-is : g .made ≡ st .made
   pub class-words : length (st .words) ≡ wordCount kind (g .counts .atoms)
   pub stored : Filled words 4 (g .words) (storedWords st)
   pub names-allowed : All (λ x. T (allowed kind x)) (st .names)
@@ -61,6 +66,8 @@ pub record Held (kind : Kind) (st : SoFar) (g : Gathered) (words bytes : List �
   pub short : g .bytes ≤ longestEntry * g .counts .atoms
   pub counts-fit : within kind (g .counts) ≡ true
   pub classes-fit : g .classes ≤ classLimit
+  pub made-fits : g .made ≤ atomLimit Preference
+  pub made-kind : conditional? kind ≡ false → g .made ≡ 0
   pub no-rules : ruling? (st .stage) ≡ false → st .program-rules ≡ []
   pub words-room : length words ≡ storeWords
   pub bytes-room : length bytes ≡ storeBytes
@@ -93,10 +100,15 @@ MarksSay marks (Line.Fault r) = Unit {0}
 pub record MarksAre (marks : List ℕ) (r : Line) : Type 0 where
   pub says : MarksSay marks r
 
+-- a line of a preference file that opens as a condition does
+abbrev pub opensCondition : Kind → List ℕ → Bool
+opensCondition kind l = conditional? kind && opensWith whenWord (openedOf (tokens l))
+
 -- why a line behind the declarations is no rule with declared names
 abbrev pub refusalOf : Kind → LineForm → Refusal
 refusalOf kind (declares w xs) = BrokenForm
 refusalOf kind (rules hs bs ns) = cond (anyOf (some (refusedName kind)) hs bs ns) Name Undeclared
+refusalOf kind (condition ts a) = BrokenForm
 refusalOf kind blank = BrokenForm
 refusalOf kind broken = BrokenForm
 
@@ -124,6 +136,7 @@ withRule g more end = record {
   stage = g .stage;
   classes = g .classes;
   counts = ruleCounts (g .counts) more;
+  made = g .made;
   words = end;
   bytes = g .bytes;
 }
@@ -152,6 +165,7 @@ withNames g w atoms used end = record {
   stage = stageAfter w;
   classes = classesAfter w (g .classes);
   counts = atomCounts (g .counts) atoms;
+  made = g .made;
   words = end;
   bytes = used;
 }

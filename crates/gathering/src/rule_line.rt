@@ -24,7 +24,7 @@ ghost use Rattle.lines.specs.Lines.{ended?};
 ghost use Rattle.lines.specs.Tokens.{tokens};
 ghost use Rattle.lines.specs.Forms.{formOf};
 ghost use Rattle.lines.specs.Faults.{ruling?};
-ghost use Rattle.gathering.specs.Gathered.{stateOf, Held, HeldIndex, HeldMarks, LineIs, MarksAre, filledCount, Kept, refusalOf, blankLine};
+ghost use Rattle.gathering.specs.Gathered.{stateOf, Held, HeldIndex, HeldMarks, LineIs, MarksAre, filledCount, Kept, opensCondition, refusalOf, blankLine};
 
 pub fn is_ruling(stage: Stage) -> bool
     ensures { λ r. ⌜ r ≡ ruling? stage ⌝ }
@@ -88,6 +88,7 @@ fn keep_rule(kind: Kind, gathered: Gathered, rule: RuleCounts, words: &mut [u16]
         stage,
         classes,
         counts,
+        made: gathered.made,
         words: rule.end,
         bytes,
     })
@@ -122,7 +123,7 @@ fn add_rule(
     links: &[u16],
     marks: &mut [u16],
 ) -> Line
-    requires { ⌜ (length (now line) ≤ textLimit) × (ruling? (gathered .stage) ≡ true) × (empty? (tokens (now line)) ≡ false) ⌝ }
+    requires { ⌜ (length (now line) ≤ textLimit) × (ruling? (gathered .stage) ≡ true) × (opensCondition kind (now line) ≡ false) × (empty? (tokens (now line)) ≡ false) ⌝ }
     requires { ⌜ Held kind (stateOf kind gathered (now words) (now bytes)) gathered (now words) (now bytes) ⌝ }
     requires { ⌜ HeldIndex gathered (now bytes) (now starts) (now firsts) (now links) ⌝ }
     requires { ⌜ HeldMarks gathered (now marks) ⌝ }
@@ -163,7 +164,7 @@ fn pass_blank(line: &[u8], gathered: Gathered) -> Line
     Line::Fault(Refusal::BrokenForm)
 }
 
-// A line behind the declarations.
+// A line behind the declarations that does not open as a condition.
 pub fn read_rule(
     line: &[u8],
     kind: Kind,
@@ -175,7 +176,7 @@ pub fn read_rule(
     links: &[u16],
     marks: &mut [u16],
 ) -> Line
-    requires { ⌜ (length (now line) ≤ textLimit) × (ruling? (gathered .stage) ≡ true) ⌝ }
+    requires { ⌜ (length (now line) ≤ textLimit) × (ruling? (gathered .stage) ≡ true) × (opensCondition kind (now line) ≡ false) ⌝ }
     requires { ⌜ Held kind (stateOf kind gathered (now words) (now bytes)) gathered (now words) (now bytes) ⌝ }
     requires { ⌜ HeldIndex gathered (now bytes) (now starts) (now firsts) (now links) ⌝ }
     requires { ⌜ HeldMarks gathered (now marks) ⌝ }

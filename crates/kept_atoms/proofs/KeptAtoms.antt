@@ -54,11 +54,11 @@ module _ (kind : Kind) (g : Gathered) (w : Word) (count atoms used : ℕ) (befor
     classes-over l = let many = lt-leb (classesAfter w (g .classes)) classLimit (omega (arith, c)) in record { answer = rw (sym e, not-false fits d, many); words = refl }
 
     pub names-kept : classes ≤ classLimit → {stage : Stage} → stage ≡ stageAfter w → {after : List ℕ} {end : ℕ} → Emitted before (g .words) (classWords w (g .classes) count) after end
-        → KeptNames kind g w count atoms used before after (Next (record { stage = stage; classes = classes; counts = atomCounts (g .counts) atoms; words = end; bytes = used }))
+        → KeptNames kind g w count atoms used before after (Next (record { stage = stage; classes = classes; counts = atomCounts (g .counts) atoms; made = g .made; words = end; bytes = used }))
     unfolding keptNames
     names-kept l s p =
         let few = le-leb (classesAfter w (g .classes)) classLimit (omega (arith, c)) in
         record {
-          answer = rw (sym e, not-false fits d, few) (λ i. Next (record { stage = s i; classes = c i; counts = atomCounts (g .counts) atoms; words = p .place i; bytes = used }));
+          answer = rw (sym e, not-false fits d, few) (λ i. Next (record { stage = s i; classes = c i; counts = atomCounts (g .counts) atoms; made = g .made; words = p .place i; bytes = used }));
           words = p .bytes;
         }

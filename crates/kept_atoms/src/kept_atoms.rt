@@ -96,6 +96,7 @@ pub fn keep_names(
         stage,
         classes,
         counts,
+        made: gathered.made,
         words: end,
         bytes: used,
     })

@@ -9,3 +9,4 @@ pub mod Tags
 pub mod NameLists
 pub mod LineShapes
 pub mod ConditionLines
+pub mod Parsing

@@ -383,3 +383,80 @@ blank-line l f g = ap (λ ts. named (cond (ended? l) (tokenForm ts) broken)) (no
     go : (b : Bool) → named (cond b blank broken) ≡ cond b blank broken
     go true = refl
     go false = refl
+
+-- only a line that opens with `(when` is a condition
+
+abbrev NoCondition : LineForm → Type 0
+NoCondition (declares w xs) = Unit {0}
+NoCondition (rules hs bs ns) = Unit {0}
+NoCondition (condition ts a) = ⊥
+NoCondition blank = Unit {0}
+NoCondition broken = Unit {0}
+
+none-split : (p : Split) (f : List (List ℕ) → List Token → LineForm) → ((xs : List (List ℕ)) (rest : List Token) → NoCondition (f xs rest)) → NoCondition (onSplit p f)
+none-split (split xs rest) f n = n xs rest
+none-split none f n = tt
+
+none-last : (ts : List Token) (f : LineForm) → NoCondition f → NoCondition (lastly ts f)
+none-last [] f n = n
+none-last (t ∷ ts) f n = tt
+
+none-closed : (ts : List Token) (f : LineForm) → NoCondition f → NoCondition (closedLastly ts f)
+none-closed [] f n = tt
+none-closed (opening ∷ ts) f n = tt
+none-closed (closing ∷ ts) f n = none-last ts f n
+none-closed (word x ∷ ts) f n = tt
+
+declared-none : (w : Word) (ts : List Token) → NoCondition (declaredForm w ts)
+unfolding declaredForm
+declared-none w ts = none-split (splitNames ts) (λ xs rest. lastly rest (declares w xs)) (λ xs rest. none-last rest (declares w xs) tt)
+
+rule-none : (ts : List Token) → NoCondition (ruleForm ts)
+unfolding ruleForm
+rule-none ts =
+    none-split (splitList headWord ts) behindHead
+    (λ hs r. none-split (splitList bodyWord r) (behindBody hs)
+    (λ bs s. none-split (splitList notWord s) (λ ns rest. closedLastly rest (rules hs bs ns)) (λ ns rest. none-closed rest (rules hs bs ns) tt)))
+
+opened-none : (t : Opened) → opensWith whenWord t ≡ false → NoCondition (openedForm t)
+opened-none (opened x ts) n = go (sameBytes x atomsWord) (sameBytes x minWord) (sameBytes x varyWord) (sameBytes x fixWord) (sameBytes x ruleWord) (sameBytes x whenWord) n
+  where
+    go : (a b c d f g : Bool) → g ≡ false → NoCondition (cond a (declaredForm atoms ts) (cond b (declaredForm min ts) (cond c (declaredForm vary ts) (cond d (declaredForm fix ts) (cond f (ruleForm ts) (cond g (whenForm ts) broken))))))
+    go true b c d f g e = declared-none atoms ts
+    go false true c d f g e = declared-none min ts
+    go false false true d f g e = declared-none vary ts
+    go false false false true f g e = declared-none fix ts
+    go false false false false true g e = rule-none ts
+    go false false false false false true e = absurd (let z : _≡_ {A = ℕ} 0 1 = cc in omega arith)
+    go false false false false false false e = tt
+opened-none unopened n = tt
+
+named-none : (f : LineForm) → NoCondition f → NoCondition (named f)
+named-none (declares w xs) n = go (names? xs)
+  where
+    go : (b : Bool) → NoCondition (cond b (declares w xs) broken)
+    go true = tt
+    go false = tt
+named-none (rules hs bs ns) n = go (names? hs) (names? bs) (names? ns)
+  where
+    go : (a b c : Bool) → NoCondition (cond a (cond b (cond c (rules hs bs ns) broken) broken) broken)
+    go true true true = tt
+    go true true false = tt
+    go true false c = tt
+    go false b c = tt
+named-none (condition ts a) n = absurd n
+named-none blank n = tt
+named-none broken n = tt
+
+pub condition-opens : (l : List ℕ) {ts : List Token} {a : List ℕ} → formOf l ≡ condition ts a → opensWith whenWord (openedOf (tokens l)) ≡ true
+unfolding formOf typedForm tokenForm
+condition-opens l {ts} {a} e = told (opensWith whenWord (openedOf (tokens l))) refl
+  where
+    line-none : (b : Bool) (us : List Token) → opensWith whenWord (openedOf us) ≡ false → NoCondition (cond b (tokenForm us) broken)
+    line-none true [] n = tt
+    line-none true (u ∷ us) n = opened-none (openedOf (u ∷ us)) n
+    line-none false us n = tt
+
+    told : (b : Bool) → opensWith whenWord (openedOf (tokens l)) ≡ b → opensWith whenWord (openedOf (tokens l)) ≡ true
+    told true n = n
+    told false n = absurd (subst NoCondition e (named-none (typedForm l) (line-none (ended? l) (tokens l) n)))

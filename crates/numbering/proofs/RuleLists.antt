@@ -6,7 +6,7 @@ use mathlib.Core.Bool.{Bool, true, false, not, cond, _||_}
 use mathlib.Core.List.{List, [], _∷_}
 use lib.ListN.{length, drop, length-map}
 use borrow.Author.Tests.{not-true, not-false}
-use Rattle.kinds.specs.Words.{atomsWord, minWord, varyWord, fixWord, ruleWord, headWord, bodyWord, notWord}
+use Rattle.kinds.specs.Words.{atomsWord, minWord, varyWord, fixWord, ruleWord, headWord, bodyWord, notWord, whenWord}
 use Rattle.rules.proofs.Booleans.{or-true}
 use Rattle.output.proofs.Emitting.{then}
 use Rattle.name_store.specs.NameStore.{sameBytes}
@@ -14,7 +14,8 @@ use Rattle.lines.specs.declared.scan.Place.{Place}
 use Rattle.lines.specs.declared.scan.Place.the-variants as Place
 use Rattle.lines.specs.Lines.{ended?}
 use Rattle.lines.specs.Tokens.{Token, tokens, items}
-use Rattle.lines.specs.Forms.{Word, atoms, min, vary, fix, LineForm, declares, rules, broken, Opened, opened, unopened, openedOf, Split, split, none, splitNames, splitList, onSplit, lastly, closedLastly, declaredForm, ruleForm, openedForm, tokenForm, typedForm}
+use Rattle.lines.specs.Forms.{Word, atoms, min, vary, fix, LineForm, declares, rules, condition, broken, Opened, opened, unopened, openedOf, Split, split, none, splitNames, splitList, onSplit, lastly, closedLastly, declaredForm, ruleForm, Conditional, conditional, unconditional, splitThen, pairedForm, whenForm, openedForm, tokenForm, typedForm}
+use Rattle.lines.specs.Conditions.{pairs}
 use Rattle.lines.specs.Faults.{nameNumber}
 use Rattle.lines.specs.Shapes.{closesLast?, opensWith, OpenedSays, OpenedIs}
 use Rattle.lines.proofs.TokenPlaces.{items-few}
@@ -193,7 +194,7 @@ rule-opened l {q} o {p} e = ap (λ f. cond (ended? l) f broken) (go (tokens l) (
 
 module _ (names : List (List ℕ)) (l : List ℕ) (stamp : ℕ) (before : List ℕ) (at : ℕ) {q : Place} (o : OpenedIs l 0 ruleWord q) where
   pub not-rule : q ≡ Place.Absent → (marks after : List ℕ) → RuleIs names l stamp before at marks after Lists.Otherwise
-  unfolding typedForm tokenForm declaredForm
+  unfolding typedForm tokenForm declaredForm whenForm
   not-rule e marks after = record { says = λ hs bs ns i. absurd (go (ended? l) (tokens l) (subst (OpenedSays l 0 ruleWord) e (o .says)) i) }
     where
       declared : (p : Split) (f : List (List ℕ) → List Token → LineForm) {hs bs ns : List (List ℕ)} → ((xs : List (List ℕ)) (rest : List Token) → f xs rest ≡ rules hs bs ns → ⊥) → onSplit p f ≡ rules hs bs ns → ⊥
@@ -204,17 +205,26 @@ module _ (names : List (List ℕ)) (l : List ℕ) (stamp : ℕ) (before : List �
       last [] w xs i = let z : _≡_ {A = ℕ} 0 1 = cc in omega arith
       last (t ∷ rest) w xs i = let z : _≡_ {A = ℕ} 0 1 = cc in omega arith
 
-      none-of : (a b c d : Bool) (ts : List Token) {hs bs ns : List (List ℕ)} → cond a (declaredForm atoms ts) (cond b (declaredForm min ts) (cond c (declaredForm vary ts) (cond d (declaredForm fix ts) broken))) ≡ rules hs bs ns → ⊥
-      none-of true b c d ts i = declared (splitNames ts) (λ xs rest. lastly rest (declares atoms xs)) (λ xs rest. last rest atoms xs) i
-      none-of false true c d ts i = declared (splitNames ts) (λ xs rest. lastly rest (declares min xs)) (λ xs rest. last rest min xs) i
-      none-of false false true d ts i = declared (splitNames ts) (λ xs rest. lastly rest (declares vary xs)) (λ xs rest. last rest vary xs) i
-      none-of false false false true ts i = declared (splitNames ts) (λ xs rest. lastly rest (declares fix xs)) (λ xs rest. last rest fix xs) i
-      none-of false false false false ts i = let z : _≡_ {A = ℕ} 0 1 = cc in omega arith
+      no-when : (p : Conditional) {hs bs ns : List (List ℕ)} → pairedForm p ≡ rules hs bs ns → ⊥
+      no-when (conditional us x) i = paired (pairs 0 us) i
+        where
+          paired : (b : Bool) {hs bs ns : List (List ℕ)} → cond b (condition us x) broken ≡ rules hs bs ns → ⊥
+          paired true i = let z : _≡_ {A = ℕ} 0 1 = cc in omega arith
+          paired false i = let z : _≡_ {A = ℕ} 0 1 = cc in omega arith
+      no-when unconditional i = let z : _≡_ {A = ℕ} 0 1 = cc in omega arith
+
+      none-of : (a b c d g : Bool) (ts : List Token) {hs bs ns : List (List ℕ)} → cond a (declaredForm atoms ts) (cond b (declaredForm min ts) (cond c (declaredForm vary ts) (cond d (declaredForm fix ts) (cond g (whenForm ts) broken)))) ≡ rules hs bs ns → ⊥
+      none-of true b c d g ts i = declared (splitNames ts) (λ xs rest. lastly rest (declares atoms xs)) (λ xs rest. last rest atoms xs) i
+      none-of false true c d g ts i = declared (splitNames ts) (λ xs rest. lastly rest (declares min xs)) (λ xs rest. last rest min xs) i
+      none-of false false true d g ts i = declared (splitNames ts) (λ xs rest. lastly rest (declares vary xs)) (λ xs rest. last rest vary xs) i
+      none-of false false false true g ts i = declared (splitNames ts) (λ xs rest. lastly rest (declares fix xs)) (λ xs rest. last rest fix xs) i
+      none-of false false false false true ts i = no-when (splitThen ts) i
+      none-of false false false false false ts i = let z : _≡_ {A = ℕ} 0 1 = cc in omega arith
 
       other : (t : Opened) {hs bs ns : List (List ℕ)} → opensWith ruleWord t ≡ false → openedForm t ≡ rules hs bs ns → ⊥
       other (opened x ts) n i =
-          none-of (sameBytes x atomsWord) (sameBytes x minWord) (sameBytes x varyWord) (sameBytes x fixWord) ts
-          (ap (λ (c : Bool). cond (sameBytes x atomsWord) (declaredForm atoms ts) (cond (sameBytes x minWord) (declaredForm min ts) (cond (sameBytes x varyWord) (declaredForm vary ts) (cond (sameBytes x fixWord) (declaredForm fix ts) (cond c (ruleForm ts) broken))))) (sym n) ∙ i)
+          none-of (sameBytes x atomsWord) (sameBytes x minWord) (sameBytes x varyWord) (sameBytes x fixWord) (sameBytes x whenWord) ts
+          (ap (λ (c : Bool). cond (sameBytes x atomsWord) (declaredForm atoms ts) (cond (sameBytes x minWord) (declaredForm min ts) (cond (sameBytes x varyWord) (declaredForm vary ts) (cond (sameBytes x fixWord) (declaredForm fix ts) (cond c (ruleForm ts) (cond (sameBytes x whenWord) (whenForm ts) broken)))))) (sym n) ∙ i)
       other unopened n i = let z : _≡_ {A = ℕ} 0 1 = cc in omega arith
 
       go : (b : Bool) (ts : List Token) {hs bs ns : List (List ℕ)} → opensWith ruleWord (openedOf ts) ≡ false → cond b (tokenForm ts) broken ≡ rules hs bs ns → ⊥

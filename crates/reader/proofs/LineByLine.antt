@@ -25,14 +25,16 @@ use Rattle.lines.specs.declared.scan.Place.{Place}
 use Rattle.lines.specs.declared.scan.Place.the-variants as Place
 use Rattle.lines.specs.Tokens.{Token, tokens}
 use Rattle.lines.specs.Shapes.{opensWith, OpenedSays, OpenedIs}
-use Rattle.lines.specs.Forms.{Opened, opened, unopened, openedOf, LineForm, declares, rules, blank, broken, formOf}
-use Rattle.lines.specs.Faults.{SoFar, next, fault, ruling?, addRule, stepForm}
-use Rattle.lines.specs.Said.{Said, accepted, refused, kindOpened, kindBy, kindOf, onStep, readLines, start, programOf}
+use Rattle.lines.specs.Forms.{Opened, opened, unopened, openedOf, LineForm, declares, rules, condition, blank, broken, formOf}
+use Rattle.lines.specs.Faults.{SoFar, next, fault, ruling?, addRule, addCondition, stepForm}
+use Rattle.lines.specs.Said.{Said, accepted, refused, kindOpened, kindBy, kindOf, onStep, readLines, start, programOf, placed}
 use Rattle.gathering.specs.Gathered.{stateOf, Held, HeldIndex, HeldMarks, LineSays, LineIs, MarksSay, MarksAre}
+use Rattle.reader.specs.FormedState.{Formed}
 use Rattle.reader.specs.Gathering.{startCounts, passedOn, atEnd, GatherSays, GatherIs}
 use Rattle.lines.proofs.LinePlaces.{line, line-inside, lines-at}
 use Rattle.gathering.proofs.HeldState.{rules-is, held-is}
-use Rattle.reader.proofs.LineSteps.{declare-said}
+use Rattle.reader.proofs.LineSteps.{declare-said, condition-said}
+use Rattle.reader.proofs.FormedLines.{line-formed, start-formed}
 
 -- a line before the rules adds none
 
@@ -40,9 +42,14 @@ early : (st : SoFar) (hs bs ns : List (List ℕ)) → ruling? (st .stage) ≡ fa
 unfolding addRule
 early st hs bs ns n = rw n
 
+early-condition : (st : SoFar) (ts : List Token) (a : List ℕ) → ruling? (st .stage) ≡ false → addCondition st ts a ≡ fault BrokenForm
+unfolding addCondition
+early-condition st ts a n = rw n
+
 early-rules : (st after : SoFar) (f : LineForm) → ruling? (st .stage) ≡ false → stepForm st f ≡ next after → after .program-rules ≡ st .program-rules
 early-rules st after (declares w xs) n e = ap (λ z. z .program-rules) (sym (declare-said st w xs after e .1))
 early-rules st after (rules hs bs ns) n e = absurd (let i : fault BrokenForm ≡ next after = sym (early st hs bs ns n) ∙ e in let z : _≡_ {A = ℕ} 0 1 = cc in omega arith)
+early-rules st after (condition ts a) n e = absurd (let i : fault BrokenForm ≡ next after = sym (early-condition st ts a n) ∙ e in let z : _≡_ {A = ℕ} 0 1 = cc in omega arith)
 early-rules st after blank n e = let same : st ≡ after = cc in ap (λ z. z .program-rules) (sym same)
 early-rules st after broken n e = absurd (let z : _≡_ {A = ℕ} 0 1 = cc in omega arith)
 
@@ -64,6 +71,7 @@ pub record Reading (kind : Kind) (s : List ℕ) (g : Gathered) (words bytes star
   pub held : Held kind (stateOf kind g words bytes) g words bytes
   pub index : HeldIndex g bytes starts firsts links
   pub marked : HeldMarks g marks
+  pub formed : Formed (stateOf kind g words bytes)
   pub left : readLines number (stateOf kind g words bytes) (lines (drop at s)) ≡ readLines 1 (start s) (lines s)
 
 pub reading : {kind : Kind} {s : List ℕ} {g : Gathered} {words bytes starts firsts links marks : List ℕ}
@@ -77,6 +85,7 @@ reading {kind} {s} {g} {words} {bytes} {starts} {firsts} {links} {marks} h x m e
       held = subst (λ st. Held kind st startCounts words bytes) is h;
       index = x;
       marked = m;
+      formed = subst Formed is (start-formed s);
       left = ap (λ st. readLines 1 st (lines s)) (sym is);
     })
 
@@ -88,7 +97,7 @@ module _ {kind : Kind} {s : List ℕ} {g : Gathered} {words bytes starts firsts 
   whole = readLines 1 (start s) (lines s)
 
   module _ (o : length s ≤ at) where
-    lines-end : cond (ruling? (st .stage)) (accepted (programOf st) (st .names)) (refused BrokenForm number) ≡ whole
+    lines-end : cond (ruling? (st .stage)) (accepted (programOf (placed st)) (placed st .names)) (refused BrokenForm number) ≡ whole
     unfolding readLines lines linesFrom
     lines-end = ap (λ l. readLines number st (linesFrom 0 l)) (sym (drop-of-length-le s o)) ∙ h .left
 
@@ -96,7 +105,7 @@ module _ {kind : Kind} {s : List ℕ} {g : Gathered} {words bytes starts firsts 
     no-line-left k = record { says = subst (GatherSays kind whole words bytes) (sym k) (go (ruling? (g .stage)) (sym (ap ruling? (h .held .stage-is)))) }
       where
         go : (r : Bool) → ruling? (st .stage) ≡ r → GatherSays kind whole words bytes (cond r (Whole g) (Refused BrokenForm number))
-        go true d = (sym (rw d at lines-end), h .held)
+        go true d = (sym (rw d at lines-end), h .held, h .formed)
         go false d = sym (rw d at lines-end)
 
   module _ (l : at < length s) {n : ℕ} (e : n ≡ lineLength (drop at s)) where
@@ -120,6 +129,7 @@ module _ {kind : Kind} {s : List ℕ} {g : Gathered} {words bytes starts firsts 
             held = k .1;
             index = k .2;
             marked = subst (MarksSay marks′) d (m .says);
+            formed = line-formed st (stateOf kind g′ words′ bytes′) (formOf (line s at l e)) (h .formed) (k .0);
             left = ap (λ m. readLines m (stateOf kind g′ words′ bytes′) (lines (drop (at + n) s))) (add-one number) ∙ (rw (k .0) at step);
           }
 

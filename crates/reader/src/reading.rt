@@ -61,6 +61,7 @@ pub fn start_counts() -> Gathered
         stage: Stage::Declaring,
         classes: 0,
         counts,
+        made: 0,
         words: 4,
         bytes: 0,
     }

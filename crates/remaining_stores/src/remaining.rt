@@ -47,6 +47,7 @@ fn put_left(
         stage,
         classes: gathered.classes,
         counts,
+        made: gathered.made,
         words: gathered.words,
         bytes: gathered.bytes,
     };

@@ -1,7 +1,7 @@
 use mathlib.Core.Path.{subst}
 use Rattle.lines.specs.Forms.{formOf}
 use Rattle.lines.specs.Shapes.{ShapeIs}
-use Rattle.declaring.proofs.DeclaredSteps.{blank-passed, rule-early, form-broken}
+use Rattle.declaring.proofs.DeclaredSteps.{blank-passed, rule-early, other-early}
 use borrow.Author.Needs.{needs}
 use Rattle.declaring.proofs.declared_line.read_declared.Statement.{statement}
 use Rattle.declaring.proofs.declared_line.read_declared.Tie as tie
@@ -49,7 +49,7 @@ returns-3 : tie.Need-returns-3
 returns-3 c = rule-early (c .before .before .before .before .before .before .before .before .before .pre .1 .0) (c .before .before .before .before .before .before .before .before .before .pre .1 .1) (c .before .before .before .before .before .before .before .before .before .args .line .now) (c .before .before .shape-of .ensures) (c .before .before .before .before .before .before .before .before .before .pre .0 .1) (c .enum-told2 .given .1)
 
 returns-4 : tie.Need-returns-4
-returns-4 c = form-broken (c .before .before .before .before .before .before .before .before .before .pre .1 .0) (c .before .before .before .before .before .before .before .before .before .pre .1 .1) (c .before .before .before .before .before .before .before .before .before .args .line .now) (c .before .before .shape-of .ensures) (c .enum-told3 .given .1)
+returns-4 c = other-early (c .before .before .before .before .before .before .before .before .before .pre .1 .0) (c .before .before .before .before .before .before .before .before .before .pre .1 .1) (c .before .before .before .before .before .before .before .before .before .args .line .now) (c .before .before .shape-of .ensures) (c .before .before .before .before .before .before .before .before .before .pre .0 .1) (c .enum-told3 .given .1)
 
 pub read-declared-spec : {M : Type 1} → statement M
 read-declared-spec =

@@ -14,7 +14,7 @@ returns : tie.Need-returns
 returns c = (blank-passed (c .before .before .before .before .before .before .before .before .before .before .pre .1 .0) (c .before .before .before .before .before .before .before .before .before .before .pre .1 .1 .0) (c .before .before .before .before .before .before .before .before .before .before .args .line .now) (c .before .before .nothing-at .ensures) (c .before .if1 .taken) (c .pass-blank .ensures), blank-marks (c .before .before .before .before .before .before .before .before .before .before .pre .1 .0) (c .before .before .before .before .before .before .before .before .before .before .pre .1 .1 .0) (c .before .before .before .before .before .before .before .before .before .before .args .line .now) (c .before .before .nothing-at .ensures) (c .before .if1 .taken) (c .pass-blank .ensures) (c .before .before .before .before .before .before .before .before .before .before .pre .1 .1 .1))
 
 add-rule-requires : tie.Need-add-rule-requires
-add-rule-requires c κs = ((c .before .before .before .before .before .before .before .before .before .before .before .pre .0 .0, c .before .before .before .before .before .before .before .before .before .before .before .pre .0 .1, sym (c .before .before .before .nothing-at .ensures) ∙ c .before .before .if1 .left), ((c .before .before .before .before .before .before .before .before .before .before .before .pre .1 .0), ((c .before .before .before .before .before .before .before .before .before .before .before .pre .1 .1 .0), (c .before .before .before .before .before .before .before .before .before .before .before .pre .1 .1 .1))))
+add-rule-requires c κs = ((c .before .before .before .before .before .before .before .before .before .before .before .pre .0 .0, c .before .before .before .before .before .before .before .before .before .before .before .pre .0 .1, c .before .before .before .before .before .before .before .before .before .before .before .pre .0 .2, sym (c .before .before .before .nothing-at .ensures) ∙ c .before .before .if1 .left), ((c .before .before .before .before .before .before .before .before .before .before .before .pre .1 .0), ((c .before .before .before .before .before .before .before .before .before .before .before .pre .1 .1 .0), (c .before .before .before .before .before .before .before .before .before .before .before .pre .1 .1 .1))))
 
 same-length : tie.Need-same-length
 same-length c = search needs

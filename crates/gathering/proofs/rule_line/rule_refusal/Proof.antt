@@ -1,7 +1,7 @@
 use mathlib.Core.Path.{sym, ap, _∙_}
 use mathlib.Core.Bool.{cond}
 use Rattle.kinds.specs.declared.refusals.Refusal.the-variants.{Name, Undeclared}
-use Rattle.gathering.proofs.RuleSteps.{rule-why, blank-why, declared-why, broken-why}
+use Rattle.gathering.proofs.RuleSteps.{rule-why, blank-why, declared-why, other-why}
 use borrow.Author.Needs.{needs}
 use Rattle.gathering.proofs.rule_line.rule_refusal.Statement.{statement}
 use Rattle.gathering.proofs.rule_line.rule_refusal.Tie as tie
@@ -34,7 +34,7 @@ returns-4 : tie.Need-returns-4
 returns-4 c = declared-why (c .before .before .before .before .args .kind) (c .before .before .before .before .args .line .now) (c .before .before .shape-of .ensures) (c .enum-told2 .given .1)
 
 returns-5 : tie.Need-returns-5
-returns-5 c = broken-why (c .before .before .before .before .args .kind) (c .before .before .before .before .args .line .now) (c .before .before .shape-of .ensures) (c .enum-told3 .given .1)
+returns-5 c = other-why (c .before .before .before .before .args .kind) (c .before .before .before .before .args .line .now) (c .before .before .shape-of .ensures) (c .enum-told3 .given .1)
 
 pub rule-refusal-spec : {M : Type 1} → statement M
 rule-refusal-spec =

@@ -7,7 +7,7 @@ use Rattle.reader.proofs.reading.start_counts.Statement.{statement}
 use Rattle.reader.proofs.reading.start_counts.Tie as tie
 
 with-counts : Counts → Gathered
-with-counts k = record { stage = Declaring; classes = 0; counts = k; words = 4; bytes = 0 }
+with-counts k = record { stage = Declaring; classes = 0; counts = k; made = 0; words = 4; bytes = 0 }
 
 empty-requires : tie.Need-empty-requires
 empty-requires c κs = search needs
