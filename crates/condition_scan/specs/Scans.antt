@@ -69,8 +69,8 @@ afterOf st Symbol.Undeclared = record { part = false; depth = st .depth; deep = 
 -- no bracket closes that is not open, and the counts fit their words
 pub record Countable (st : Seen) (symbol : Symbol) : Type 0 where
   pub opened : symbol ≡ Symbol.Closing → 1 ≤ st .depth
-  pub few-open : st .depth < 2 ^ 63
-  pub few : st .connectives < 2 ^ 63
+  pub few-open : st .depth + 1 < 2 ^ 64
+  pub few : st .connectives + 1 < 2 ^ 64
 
 -- what the answer says of tokens with brackets that pair, however names and connectives are numbered
 pub record Scanned (names : List (List ℕ)) (ts : List Token) (deep : Bool) (connectives : ℕ) (missing : Bool) : Type 0 where

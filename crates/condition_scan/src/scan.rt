@@ -71,16 +71,15 @@ fn step_at(s: &[u8], at: usize, bytes: &[u8], starts: &[u16], firsts: &[u16], li
     };
     let start = at + gap;
     let to = start + size;
-    let symbol = match sort_of(&s[start..to]) {
-        Sort::Not => Symbol::Negation,
-        Sort::And => Symbol::Joint,
-        Sort::Or => Symbol::Joint,
+    match sort_of(&s[start..to]) {
+        Sort::Not => Step::To { to, symbol: Symbol::Negation },
+        Sort::And => Step::To { to, symbol: Symbol::Joint },
+        Sort::Or => Step::To { to, symbol: Symbol::Joint },
         Sort::Name => match index::find_hashed(bytes, starts, firsts, links, &s[start..to], hash) {
-            Found::At(_) => Symbol::Declared,
-            Found::Missing => Symbol::Undeclared,
+            Found::At(_) => Step::To { to, symbol: Symbol::Declared },
+            Found::Missing => Step::To { to, symbol: Symbol::Undeclared },
         },
-    };
-    Step::To { to, symbol }
+    }
 }
 
 // Whether the symbol may come next.
@@ -104,23 +103,27 @@ fn after(seen: Seen, symbol: Symbol) -> Seen
             if Preference::BRACKETS < next.depth {
                 next.deep = true;
             }
+            next
         }
         Symbol::Closing => {
             next.depth -= 1;
+            next
         }
         Symbol::Negation | Symbol::Joint => {
             next.connectives += 1;
             next.part = true;
+            next
         }
         Symbol::Declared => {
             next.part = false;
+            next
         }
         Symbol::Undeclared => {
             next.part = false;
             next.undeclared = true;
+            next
         }
     }
-    next
 }
 
 pub fn scan_condition(s: &[u8], bytes: &[u8], starts: &[u16], firsts: &[u16], links: &[u16]) -> Scan

@@ -10,7 +10,7 @@ use Rattle.kinds.specs.Words.{notWord, andWord, orWord, whenWord, thenWord}
 use Rattle.kinds.specs.declared.limits.Kind.{Kind}
 use Rattle.kinds.specs.declared.limits.Kind.the-variants.{Plain, Preference}
 use Rattle.rules.specs.Lists.{some}
-use Rattle.names.specs.Names.{house?, nameClass, allowed}
+use Rattle.names.specs.Names.{house?, commonName?, nameClass, allowed}
 use Rattle.name_store.specs.NameStore.{sameBytes}
 use Rattle.name_store.proofs.NameStores.{same-law}
 use Rattle.lines.specs.Tokens.{Token, opening, closing, word, run, leading, behind}
@@ -122,7 +122,7 @@ words-app (closing ∷ ts) us = words-app ts us
 words-app (word x ∷ ts) us = ap (λ l. x ∷ l) (words-app ts us)
 
 then-name : isName (nameClass thenWord) ≡ true
-unfolding nameClass house?
+unfolding nameClass commonName? house?
 then-name = refl
 
 -- `then` is a name
@@ -136,22 +136,22 @@ then-names ts a = ap names? (words-app ts (thenTokens a)) ∙ go (wordsIn ts)
 
 -- words of the house are taken in every kind
 then-taken : (kind : Kind) → refusedName kind thenWord ≡ false
-unfolding allowed nameClass house?
+unfolding allowed nameClass commonName? house?
 then-taken Plain = refl
 then-taken Preference = refl
 
 not-taken : (kind : Kind) → refusedName kind notWord ≡ false
-unfolding allowed nameClass house?
+unfolding allowed nameClass commonName? house?
 not-taken Plain = refl
 not-taken Preference = refl
 
 and-taken : (kind : Kind) → refusedName kind andWord ≡ false
-unfolding allowed nameClass house?
+unfolding allowed nameClass commonName? house?
 and-taken Plain = refl
 and-taken Preference = refl
 
 or-taken : (kind : Kind) → refusedName kind orWord ≡ false
-unfolding allowed nameClass house?
+unfolding allowed nameClass commonName? house?
 or-taken Plain = refl
 or-taken Preference = refl
 
