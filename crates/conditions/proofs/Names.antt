@@ -8,7 +8,8 @@ use Rattle.rules.specs.Lists.{from}
 use Rattle.rules.proofs.Lists.{length-from, map-from-at}
 use Rattle.conditions.specs.Conditions.{planner, made}
 use Rattle.conditions.specs.Numbers.{place}
-use Rattle.conditions.specs.Left.{madeName, writtenNames}
+use Rattle.names.specs.Names.{madeName}
+use Rattle.conditions.specs.Left.{writtenNames}
 use Rattle.conditions.proofs.Placed.{inserted-made, inserted-planner}
 
 module _ (q k : ℕ) (names : List (List ℕ)) (fits : q ≤ length names) where

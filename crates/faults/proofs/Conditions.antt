@@ -16,7 +16,8 @@ use Rattle.name_store.specs.NameStore.{sameBytes}
 use Rattle.name_store.proofs.NameStores.{same-law, same-equal}
 use Rattle.conditions.specs.Conditions.{Cond, name, NOT, AND, OR}
 use Rattle.lines.specs.Tokens.{Token, opening, closing, word}
-use Rattle.lines.specs.Conditions.{WordSort, negation as not-sort, conjunction as and-sort, disjunction as or-sort, called as name-sort, sortOf, bySort, connectivesIn, Pending, bracket, negate, conjoin, disjoin, withAnd, withOr, Ending, bracketed, free, endingOf, Parsed, parsed, unparsed, onClosing, wholeOf, Turn, part, after, parseFrom, parse, deeper}
+use Rattle.lines.specs.Conditions.{WordSort, negation as not-sort, conjunction as and-sort, disjunction as or-sort, called as name-sort, sortOf, bySort, wordsIn, namesIn, connectivesIn, Pending, bracket, negate, conjoin, disjoin, withAnd, withOr, Ending, bracketed, free, endingOf, Parsed, parsed, unparsed, onClosing, wholeOf, Turn, part, after, parseFrom, parse, deeper}
+use Rattle.faults.specs.Sentences.{Among}
 use Rattle.faults.specs.Conditions.{Typed, called, brackets, negation, conjunction, disjunction, typedAs, NoConnective, binding, Grouped, Spells, IsCondition, connectivesTyped, meant, depth, DeeperThan}
 
 -- the sorts of words
@@ -515,3 +516,39 @@ connectives-law c ts (g, e) = ap connectivesIn (sym e ∙ sym (append-nil (typed
         let b = counted r (h .3) us in
         let w = one-word orWord (typedAs r ++ us) or-is in
         ap connectivesIn (append-assoc (typedAs l) (word orWord ∷ typedAs r) us) ∙ omega arith
+
+-- what the sentences go by, said of the words and of the condition
+
+pub names-in : (ts : List Token) (x : List ℕ) → Among (namesIn ts) x ↔ (Among (wordsIn ts) x × NoConnective x)
+unfolding namesIn wordsIn
+names-in [] x = (λ h. absurd h, λ h. absurd (h .0))
+names-in (opening ∷ ts) x = names-in ts x
+names-in (closing ∷ ts) x = names-in ts x
+names-in (word y ∷ ts) x = go (sortOf y) (sort-says y) (names-in ts x)
+  where
+    Told : List (List ℕ) → Type 0
+    Told xs = Among xs x ↔ (((x ≡ y) ⊎ Among (wordsIn ts) x) × NoConnective x)
+
+    passed : (x ≡ y → NoConnective x → ⊥) → Among (namesIn ts) x ↔ (Among (wordsIn ts) x × NoConnective x) → Told (namesIn ts)
+    passed n law = (λ h. let r = law .0 h in (inr (r .0), r .1), λ h. law .1 (other (h .0) (h .1), h .1))
+      where
+        other : (x ≡ y) ⊎ Among (wordsIn ts) x → NoConnective x → Among (wordsIn ts) x
+        other (inl q) k = absurd (n q k)
+        other (inr h) k = h
+
+    kept : NoConnective y → Among (namesIn ts) x ↔ (Among (wordsIn ts) x × NoConnective x) → Told (y ∷ namesIn ts)
+    kept e law = (there, λ h. back (h .0) (h .1))
+      where
+        there : (x ≡ y) ⊎ Among (namesIn ts) x → ((x ≡ y) ⊎ Among (wordsIn ts) x) × NoConnective x
+        there (inl q) = (inl q, subst NoConnective (sym q) e)
+        there (inr h) = let r = law .0 h in (inr (r .0), r .1)
+
+        back : (x ≡ y) ⊎ Among (wordsIn ts) x → NoConnective x → (x ≡ y) ⊎ Among (namesIn ts) x
+        back (inl q) k = inl q
+        back (inr h) k = inr (law .1 (h, k))
+
+    go : (s : WordSort) → SortSays y s → Among (namesIn ts) x ↔ (Among (wordsIn ts) x × NoConnective x) → Told (bySort s (namesIn ts) (namesIn ts) (namesIn ts) (y ∷ namesIn ts))
+    go not-sort e law = passed (λ q n. n .0 (q ∙ e)) law
+    go and-sort e law = passed (λ q n. n .1 (q ∙ e)) law
+    go or-sort e law = passed (λ q n. n .2 (q ∙ e)) law
+    go name-sort e law = kept e law

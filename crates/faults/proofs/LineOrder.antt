@@ -39,11 +39,10 @@ after-rule kind stage f fs r e c = subst (λ s. Came kind s (fs ++ (f ∷ []))) 
         (ms, xs, ys, rs ++ (f ∷ []), m, all-app (AmongRules Preference) rs (f ∷ []) h (a, tt), ap (λ l. l ++ (f ∷ [])) q ∙ append-assoc ms (declares vary xs ∷ declares fix ys ∷ rs) (f ∷ []))
 
 rule-among : (kind : Kind) (hs bs ns : List (List ℕ)) → AmongRules kind (rules hs bs ns)
-rule-among Plain hs bs ns = (hs, bs, ns, refl)
-rule-among Preference hs bs ns = inl (hs, bs, ns, refl)
+rule-among kind hs bs ns = inl (hs, bs, ns, refl)
 
 when-among : (kind : Kind) (ts : List Token) (a : List ℕ) → kind ≡ Preference → AmongRules kind (condition ts a)
-when-among kind ts a e = subst (λ k. AmongRules k (condition ts a)) (sym e) (inr (ts, a, refl))
+when-among kind ts a e = inr (e, (ts, a, refl))
 
 after-line : (st : SoFar) (f : LineForm) (fs : List LineForm) → Faultless st f → Came (st .kind) (st .stage) fs → Came (added st f .kind) (added st f .stage) (fs ++ unlessBlank f)
 after-line st (declares w xs) fs none c = after-declaring xs fs (comes-stable (st .kind) (st .stage) w (none BrokenForm)) c
@@ -53,9 +52,15 @@ after-line st (condition ts a) fs none c = go (conditionOf st ts)
     order : (st .stage ≡ Ruling) × (st .kind ≡ Preference)
     order = among-stable (st .kind) (st .stage) (none BrokenForm)
 
-    go : (p : Parsed) → Came (parsedOr p (λ d. with-condition st d (connectivesIn ts) (nameNumber (st .names) a)) st .kind) (parsedOr p (λ d. with-condition st d (connectivesIn ts) (nameNumber (st .names) a)) st .stage) (fs ++ (condition ts a ∷ []))
-    go (parsed d) = after-rule (st .kind) (st .stage) (condition ts a) fs (when-among (st .kind) ts a (order .1)) (order .0) c
-    go unparsed = after-rule (st .kind) (st .stage) (condition ts a) fs (when-among (st .kind) ts a (order .1)) (order .0) c
+    stays : Came (st .kind) (st .stage) (fs ++ (condition ts a ∷ []))
+    stays = after-rule (st .kind) (st .stage) (condition ts a) fs (when-among (st .kind) ts a (order .1)) (order .0) c
+
+    state : Parsed → SoFar
+    state p = parsedOr p (λ d. with-condition st d (connectivesIn ts) (nameNumber (st .names) a)) st
+
+    go : (p : Parsed) → Came (state p .kind) (state p .stage) (fs ++ (condition ts a ∷ []))
+    go (parsed d) = stays
+    go unparsed = stays
 after-line st blank fs none c = subst (Came (st .kind) (st .stage)) (sym (append-nil fs)) c
 after-line st broken fs none c = absurd (none BrokenForm tt)
 
@@ -96,9 +101,8 @@ after-vary : (ms ns : List LineForm) (xs ys : List (List ℕ)) (r s : List LineF
 after-vary ms ns xs ys r s h k e = first-without IsMin ms ns (declares vary xs) (declares vary ys) r s h k vary-not-min vary-not-min e
 
 among-fits : (kind : Kind) (f : LineForm) → AmongRules kind f → Fits kind Ruling f
-among-fits Plain f (hs, bs, ns, e) = subst (Fits Plain Ruling) (sym e) refl
-among-fits Preference f (inl (hs, bs, ns, e)) = subst (Fits Preference Ruling) (sym e) refl
-among-fits Preference f (inr (ts, a, e)) = subst (Fits Preference Ruling) (sym e) (refl, refl)
+among-fits kind f (inl (hs, bs, ns, e)) = subst (Fits kind Ruling) (sym e) refl
+among-fits kind f (inr (k, (ts, a, e))) = subst (Fits kind Ruling) (sym e) (refl, k)
 
 -- a line after which the lines are still in order fits
 next-fits : (kind : Kind) (stage then : Stage) (f : LineForm) (fs : List LineForm) → Came kind stage fs → Came kind then (fs ++ (f ∷ [])) → Fits kind stage f

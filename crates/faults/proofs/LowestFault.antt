@@ -4,10 +4,9 @@ use native.Mathlib.Omega.{arith}
 use native.Mathlib.Decide.{decLt}
 use mathlib.Core.Path.{_≡_, refl, sym, ap, _∙_, subst}
 use mathlib.Core.Logic.{_⊎_, inl, inr, _↔_}
-use mathlib.Core.Bool.{Bool, true, false, not, _&&_}
+use mathlib.Core.Bool.{Bool, true, false, cond, not, _&&_}
 use mathlib.Core.List.{List, [], _∷_, _++_}
-use lib.Dec.{T, leb}
-use lib.ListN.{getD}
+use lib.Dec.{T, eqb, leb}
 use Rattle.name_store.specs.NameStore.{among}
 use Rattle.kinds.specs.Limits.{classLimit, bracketLimit, within}
 use Rattle.kinds.specs.declared.refusals.Refusal.{Refusal}
@@ -21,22 +20,26 @@ use Rattle.lines.specs.Conditions.{namesIn, connectivesIn, deeper, Parsed, pars
 use Rattle.lines.specs.Forms.{Word, LineForm, declares, rules, condition, blank, broken, formOf}
 use Rattle.lines.specs.Faults.{SoFar, Step, next, fault, first, countsOf, expects, ruling?, classesAfter, twice, refusedName, anyOf, declared, numbered, with-rule, filled, nameNumber, with-condition, allCounts, taken, conditional?, onParsed, declare, addRule, addCondition, stepForm}
 use Rattle.lines.specs.Said.{start}
-use Rattle.faults.specs.Conditions.{IsCondition}
+use Rattle.faults.specs.Conditions.{Typed, Spells, IsCondition, connectivesTyped, meant}
 use Rattle.faults.specs.LineForms.{IsName}
 use Rattle.faults.specs.Sentences.{namesOf, Among, NotAllowed, LacksCondition, HasDeepBrackets, parsedOr, conditionOf, lineRank, Says, Lowest, Faultless, added, Sound, PassesLimit, atoms-pass, rules-pass, occurrences-pass, classes-pass}
-use Rattle.faults.proofs.Conditions.{parse-iff, unparsed-iff, deep-law}
+use Rattle.faults.proofs.Conditions.{parse-iff, unparsed-iff, deep-law, connectives-law}
 use Rattle.faults.proofs.LimitTests.{declared-limit, declared-within, rule-limit, rule-within, condition-limit, condition-within}
 use Rattle.faults.proofs.Tests.{comes-law, comes-before, comes-stable, ruling-law, conditional-law, names-law, any-law, twice-law, lists-law, undeclared-law, taken-law, filled-law}
 use Rattle.faults.proofs.LineForms.{line-names}
 
 -- refusals of one rank are the same
 
-abbrev by-rank : List Refusal
-by-rank =
-    TextTooLong ∷ TextTooLong ∷ BrokenForm ∷ BrokenCondition ∷ DeepBrackets ∷ Name ∷ DeclaredTwice ∷ Undeclared ∷ TwiceInList ∷ Limit ∷ FilledNot
-    ∷ Output ∷ RuleStore ∷ TooManyAtoms ∷ SetNumber ∷ Budget ∷ NameStore ∷ BrokenClauses ∷ LiteralBeyond ∷ []
+abbrev all-refusals : List Refusal
+all-refusals =
+    TextTooLong ∷ BrokenForm ∷ Name ∷ DeclaredTwice ∷ Undeclared ∷ TwiceInList ∷ Limit ∷ FilledNot ∷ Output
+    ∷ RuleStore ∷ TooManyAtoms ∷ SetNumber ∷ Budget ∷ NameStore ∷ BrokenClauses ∷ LiteralBeyond ∷ BrokenCondition ∷ DeepBrackets ∷ []
 
-of-rank : (r : Refusal) → getD by-rank (lineRank r) TextTooLong ≡ r
+abbrev ranked : List Refusal → ℕ → Refusal
+ranked [] n = TextTooLong
+ranked (r ∷ rs) n = cond (eqb (lineRank r) n) r (ranked rs n)
+
+of-rank : (r : Refusal) → ranked all-refusals (lineRank r) ≡ r
 of-rank TextTooLong = refl
 of-rank BrokenForm = refl
 of-rank Name = refl
@@ -57,7 +60,7 @@ of-rank BrokenCondition = refl
 of-rank DeepBrackets = refl
 
 one-rank : (q r : Refusal) → lineRank q ≡ lineRank r → q ≡ r
-one-rank q r e = sym (of-rank q) ∙ ap (λ n. getD by-rank n TextTooLong) e ∙ of-rank r
+one-rank q r e = sym (of-rank q) ∙ ap (ranked all-refusals) e ∙ of-rank r
 
 -- what a line's step answers: its lowest fault, or the state after it where it has none
 module _ (st : SoFar) (f : LineForm) where
@@ -130,6 +133,13 @@ module _ (st : SoFar) (f : LineForm) where
 
 condition-adds : (st : SoFar) (ts : List Token) (a : List ℕ) (c : Cond) → conditionOf st ts ≡ parsed c → added st (condition ts a) ≡ with-condition st c (connectivesIn ts) (nameNumber (st .names) a)
 condition-adds st ts a c e = ap (λ p. parsedOr p (λ d. with-condition st d (connectivesIn ts) (nameNumber (st .names) a)) st) e
+
+-- a condition's line adds what its condition means, with as many atoms as it has connectives
+pub typed-adds : (st : SoFar) (ts : List Token) (a : List ℕ) (c : Typed) → Spells c ts → added st (condition ts a) ≡ with-condition st (meant (nameNumber (st .names)) (suc (st .made)) c) (connectivesTyped c) (nameNumber (st .names) a)
+typed-adds st ts a c s =
+    let d = meant (nameNumber (st .names)) (suc (st .made)) c in
+    condition-adds st ts a d (parse-iff (nameNumber (st .names)) (suc (st .made)) ts d .1 (c, s, refl))
+    ∙ ap (λ k. with-condition st d k (nameNumber (st .names) a)) (connectives-law c ts s)
 
 module _ (st : SoFar) (sound : Sound st) where
   declare-answers : (w : Word) (xs : List (List ℕ)) → All IsName xs → Answers st (declares w xs) (declare st w xs)

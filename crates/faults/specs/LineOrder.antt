@@ -33,8 +33,7 @@ IsWhen f = (ts : List Token) × (a : List ℕ) × (f ≡ condition ts a)
 
 -- "A line `(when COND (then a))` may stand among a preference file's rules." (document 02, W-208)
 abbrev pub AmongRules : Kind → LineForm → Type 0
-AmongRules Plain f = IsRule f
-AmongRules Preference f = IsRule f ⊎ IsWhen f
+AmongRules kind f = IsRule f ⊎ ((kind ≡ Preference) × IsWhen f)
 
 -- "A plain program has one `(atoms ..)` line, then rules."
 -- "A preference file has 0 to 16 `min` lines .., one `vary` line, one `fix` line, then rules."

@@ -10,6 +10,7 @@ pub mod UsedNames
 pub mod LineSteps
 pub mod FormedLines
 pub mod PlacedLines
+pub mod Delivering
 pub mod Progress
 pub mod WrittenLines
 pub mod SameLines

@@ -5,7 +5,7 @@ use native.Mathlib.Omega.{arith}
 use mathlib.Core.Path.{_≡_, refl, sym, ap, _∙_, subst}
 use mathlib.Core.Bool.{Bool, true, false, not, cond}
 use mathlib.Core.List.{List, [], _∷_}
-use lib.ListN.{length, drop, drop-of-length-le}
+use lib.ListN.{length, length-append, drop, drop-of-length-le}
 use borrow.Author.Tests.{not-true, not-false}
 use Rattle.kinds.specs.Words.{atomsWord}
 use Rattle.kinds.specs.declared.limits.Kind.{Kind}
@@ -26,43 +26,37 @@ use Rattle.lines.specs.declared.scan.Place.the-variants as Place
 use Rattle.lines.specs.Tokens.{Token, tokens}
 use Rattle.lines.specs.Shapes.{opensWith, OpenedSays, OpenedIs}
 use Rattle.lines.specs.Forms.{Opened, opened, unopened, openedOf, LineForm, declares, rules, condition, blank, broken, formOf}
-use Rattle.lines.specs.Faults.{SoFar, next, fault, ruling?, addRule, addCondition, stepForm}
+use Rattle.conditions.specs.Numbers.{conditionRules}
+use Rattle.lines.specs.Faults.{SoFar, next, fault, ruling?, nameNumber, numbered, stepForm}
 use Rattle.lines.specs.Said.{Said, accepted, refused, kindOpened, kindBy, kindOf, onStep, readLines, start, programOf, placed}
 use Rattle.gathering.specs.Gathered.{stateOf, Held, HeldIndex, HeldMarks, LineSays, LineIs, MarksSay, MarksAre}
 use Rattle.reader.specs.FormedState.{Formed}
 use Rattle.reader.specs.Gathering.{startCounts, passedOn, atEnd, GatherSays, GatherIs}
 use Rattle.lines.proofs.LinePlaces.{line, line-inside, lines-at}
 use Rattle.gathering.proofs.HeldState.{rules-is, held-is}
-use Rattle.reader.proofs.LineSteps.{declare-said, condition-said}
+use Rattle.reader.proofs.LineSteps.{declare-said, rule-said, condition-said}
 use Rattle.reader.proofs.FormedLines.{line-formed, start-formed}
 
--- a line before the rules adds none
+-- rules are only added, so marks of earlier rules stay below the next one's
 
-early : (st : SoFar) (hs bs ns : List (List ℕ)) → ruling? (st .stage) ≡ false → addRule st hs bs ns ≡ fault BrokenForm
-unfolding addRule
-early st hs bs ns n = rw n
+more-rules : (st after : SoFar) (f : LineForm) → stepForm st f ≡ next after → length (st .program-rules) ≤ length (after .program-rules)
+more-rules st after (declares w xs) e = omega (arith, ap (λ z. length (z .program-rules)) (declare-said st w xs after e .1))
+more-rules st after (rules hs bs ns) e = omega (arith, ap (λ z. length (z .program-rules)) (rule-said st hs bs ns after e .1), length-append (st .program-rules) (numbered (st .names) hs bs ns ∷ []))
+more-rules st after (condition ts a) e =
+    let d = condition-said st ts a after e in
+    omega (arith, ap (λ z. length (z .program-rules)) (d .2), length-append (st .program-rules) (conditionRules (length (st .names)) (d .0) (nameNumber (st .names) a)))
+more-rules st after blank e = let same : st ≡ after = cc in omega (arith, ap (λ z. length (z .program-rules)) same)
+more-rules st after broken e = absurd (let z : _≡_ {A = ℕ} 0 1 = cc in omega arith)
 
-early-condition : (st : SoFar) (ts : List Token) (a : List ℕ) → ruling? (st .stage) ≡ false → addCondition st ts a ≡ fault BrokenForm
-unfolding addCondition
-early-condition st ts a n = rw n
-
-early-rules : (st after : SoFar) (f : LineForm) → ruling? (st .stage) ≡ false → stepForm st f ≡ next after → after .program-rules ≡ st .program-rules
-early-rules st after (declares w xs) n e = ap (λ z. z .program-rules) (sym (declare-said st w xs after e .1))
-early-rules st after (rules hs bs ns) n e = absurd (let i : fault BrokenForm ≡ next after = sym (early st hs bs ns n) ∙ e in let z : _≡_ {A = ℕ} 0 1 = cc in omega arith)
-early-rules st after (condition ts a) n e = absurd (let i : fault BrokenForm ≡ next after = sym (early-condition st ts a n) ∙ e in let z : _≡_ {A = ℕ} 0 1 = cc in omega arith)
-early-rules st after blank n e = let same : st ≡ after = cc in ap (λ z. z .program-rules) (sym same)
-early-rules st after broken n e = absurd (let z : _≡_ {A = ℕ} 0 1 = cc in omega arith)
-
-module _ {kind : Kind} {g : Gathered} {words bytes : List ℕ} (h : Held kind (stateOf kind g words bytes) g words bytes) (n : ruling? (g .stage) ≡ false) {f : LineForm} where
-  pub early-marks : {words′ bytes′ starts′ firsts′ links′ : List ℕ} {a : Line} → LineIs kind (stateOf kind g words bytes) f words′ bytes′ starts′ firsts′ links′ a → {marks : List ℕ} → HeldMarks g marks → MarksAre marks a
-  early-marks {words′} {bytes′} {starts′} {firsts′} {links′} {a} w {marks} m = record { says = go a (w .says) }
+module _ {kind : Kind} {g : Gathered} {words bytes : List ℕ} (h : Held kind (stateOf kind g words bytes) g words bytes) {f : LineForm} where
+  pub later-marks : {words′ bytes′ starts′ firsts′ links′ : List ℕ} {a : Line} → LineIs kind (stateOf kind g words bytes) f words′ bytes′ starts′ firsts′ links′ a → {marks : List ℕ} → HeldMarks g marks → MarksAre marks a
+  later-marks {words′} {bytes′} {starts′} {firsts′} {links′} {a} w {marks} m = record { says = go a (w .says) }
     where
       go : (b : Line) → LineSays kind (stateOf kind g words bytes) f words′ bytes′ starts′ firsts′ links′ b → MarksSay marks b
       go (Fault r) k = tt
       go (Next g′) k =
-          let same = early-rules (stateOf kind g words bytes) (stateOf kind g′ words′ bytes′) f (sym (ap ruling? (h .stage-is)) ∙ n) (k .0) in
-          let count : g′ .counts .rules ≡ g .counts .rules = rules-is (k .1) ∙ ap length same ∙ sym (rules-is h) in
-          record { below = subst (λ c. Below (3 * c + 1) marks) (sym count) (m .below); room = m .room }
+          let more = more-rules (stateOf kind g words bytes) (stateOf kind g′ words′ bytes′) f (k .0) in
+          record { below = record { mark = λ x. omega (arith, m .below .mark x, more, rules-is (k .1), rules-is h) }; room = m .room }
 
 -- the lines before `at` are read
 pub record Reading (kind : Kind) (s : List ℕ) (g : Gathered) (words bytes starts firsts links marks : List ℕ) (at number : ℕ) : Type 0 where
