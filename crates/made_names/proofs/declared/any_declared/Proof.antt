@@ -23,7 +23,7 @@ add-number : tie.Need-add-number Inv-loop μ-loop
 add-number c = omega (arith, c .before .before .before .before .before .pre .1 .1)
 
 loop-holds : tie.Need-loop-holds Inv-loop μ-loop
-loop-holds c = (omega (arith, c .last-named .ensures), look-first (c .last-named .ensures) (c .before .before .before .before .before .pre .1 .1 .0) (past-limit _ (c .before .before .before .before .before .pre .1 .0) (c .before .before .before .before .before .pre .1 .1 .0) (c .before .before .before .before .before .pre .1 .1 .1)))
+loop-holds c = (omega (arith, c .last-named .ensures), look-first (c .last-named .ensures) (c .before .before .before .before .before .pre .1 .1 .0) (past-limit (decodeNames (length (c .before .before .before .before .before .args .starts .now)) (c .before .before .before .before .before .args .bytes .now)) (c .before .before .before .before .before .pre .1 .0) (c .before .before .before .before .before .pre .1 .1 .0) (c .before .before .before .before .before .pre .1 .1 .1)))
 
 is-declared-requires : tie.Need-is-declared-requires Inv-loop μ-loop
 is-declared-requires c κs = c .before .before .before .before .before .before .before .pre .0
