@@ -6,7 +6,7 @@ use mathlib.Core.Path.{_≡_, sym, ap, _∙_}
 use mathlib.Core.List.{List, [], _∷_}
 use mathlib.Core.Logic.{_⊎_, inl, inr, ⊎-elim, _↔_}
 use borrow.Author.Tests.{lt-ltb, le-ltb}
-use Rattle.clauses.specs.Numerals.{valueFrom}
+use Rattle.names.specs.Numerals.{valueFrom}
 use Rattle.clause_items.specs.Found.{largest, capped}
 
 capped-is : (v : ℕ) → ((v < largest) × (capped v ≡ v)) ⊎ ((largest ≤ v) × (capped v ≡ largest))

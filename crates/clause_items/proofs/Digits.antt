@@ -5,22 +5,19 @@ use native.Mathlib.Omega.{arith}
 use mathlib.Core.Path.{_≡_, refl, sym, ap, _∙_}
 use mathlib.Core.List.{List, [], _∷_}
 use mathlib.Core.Bool.{Bool, true, false, not, _||_, or-true}
-use lib.Dec.{eqb, leb}
+use lib.Dec.{eqb}
 use lib.ListN.{length, getD, take, drop}
 use lib.Seq.{length-take-le, getD-take, getD-drop}
-use borrow.Author.Tests.{leb-true, eq-eqb, ne-eqb}
+use borrow.Author.Tests.{eq-eqb, ne-eqb}
 use Rattle.rules.specs.Lists.{every}
-use Rattle.rules.proofs.Booleans.{both-true, and-false}
-use Rattle.names.specs.Names.{digit?}
-use Rattle.clauses.specs.Numerals.{numeral?, valueFrom, value}
+use Rattle.rules.proofs.Booleans.{and-false}
+use Rattle.names.specs.Numerals.{digit?, numeral?, valueFrom, value}
+use Rattle.names.proofs.Numerals.{digit-range}
 use Rattle.clauses.specs.Items.{separator?, run}
 use Rattle.clause_items.specs.Found.{largest, capped, front, numberAt}
 use Rattle.clause_items.specs.declared.numbers.Number.the-variants.{Value, Broken}
 use Rattle.clause_items.proofs.CappedLaws.{capped-le, capped-small, capped-digits}
 use Rattle.clause_items.proofs.Gaps.{run-le, run-out, run-ends, run-goes-on, front-goes-on}
-
-pub digit-range : (b : ℕ) → digit? b ≡ true → (48 ≤ b) × (b ≤ 57)
-digit-range b e = let t = both-true (leb 48 b) (leb b 57) e in (leb-true 48 b (t .0), leb-true b 57 (t .1))
 
 digit-inside : (b : ℕ) → digit? b ≡ true → separator? b ≡ false
 digit-inside b e = let r = digit-range b e in simp (ne-eqb b 32 (λ q. omega arith), ne-eqb b 10 (λ q. omega arith))

@@ -15,7 +15,7 @@ use Rattle.name_store.specs.NameStore.{sameBytes}
 use Rattle.name_store.proofs.NameStores.{same-equal}
 use Rattle.name_store.proofs.ByteLoops.{other-length}
 use Rattle.lines.specs.Shapes.{begins}
-use Rattle.clauses.specs.Numerals.{numeral?}
+use Rattle.names.specs.Numerals.{numeral?}
 use Rattle.clauses.specs.Items.{separator?, run, itemsFrom, items}
 use Rattle.clause_items.specs.Found.{gap, front}
 use Rattle.clause_items.proofs.Gaps.{run-le, run-out, run-ends, run-goes-on, behind-gap, item-byte, items-gap, items-first}

@@ -4,7 +4,7 @@ use native.Mathlib.Omega.{arith}
 use mathlib.Core.Path.{_≡_, refl, sym, _∙_}
 use mathlib.Core.List.{List}
 use mathlib.Core.Bool.{Bool, true, false, cond}
-use Rattle.clauses.specs.Numerals.{numeral?, value}
+use Rattle.names.specs.Numerals.{numeral?, value}
 use Rattle.clauses.specs.Items.{run}
 use Rattle.clause_items.specs.Found.{capped, front, numberAt}
 use Rattle.clause_items.specs.declared.numbers.Number.{Number}

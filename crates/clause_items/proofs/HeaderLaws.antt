@@ -10,7 +10,7 @@ use borrow.Author.Tests.{lt-ltb}
 use Rattle.kinds.specs.Words.{bytes}
 use Rattle.kinds.specs.declared.refusals.Refusal.the-variants.{BrokenClauses}
 use Rattle.name_store.specs.NameStore.{sameBytes}
-use Rattle.clauses.specs.Numerals.{numeral?, value}
+use Rattle.names.specs.Numerals.{numeral?, value}
 use Rattle.clauses.specs.Items.{items}
 use Rattle.clauses.specs.Faults.{Step, fault, headerWith, headerLine}
 use Rattle.clause_items.specs.Found.{capped, gap, front, numberAt}

@@ -8,7 +8,7 @@ use lib.Dec.{eqb}
 use lib.ListN.{length, getD, drop, drop-of-length-le}
 use lib.Seq.{drop-cons}
 use borrow.Author.Tests.{eq-eqb, ne-eqb, eqb-true, eqb-false}
-use Rattle.clauses.specs.Numerals.{numeral?, value}
+use Rattle.names.specs.Numerals.{numeral?, value}
 use Rattle.clauses.specs.Items.{run}
 use Rattle.clauses.specs.Literals.{signed}
 use Rattle.clauses.specs.Tokens.{Token, ends, wrong, valued, numbered, tokenOf}

@@ -7,7 +7,7 @@ use lib.Dec.{ltb}
 use lib.ListN.{length, take, drop}
 use Rattle.kinds.specs.declared.refusals.Refusal.the-variants.{BrokenClauses, Limit}
 use Rattle.rules.specs.Lists.{some}
-use Rattle.clauses.specs.Numerals.{numeral?, value}
+use Rattle.names.specs.Numerals.{numeral?, value}
 use Rattle.clauses.specs.Items.{separator?, run}
 use Rattle.clauses.specs.Literals.{positive, negative, signed}
 use Rattle.clauses.specs.Tokens.{Token, literal, ends, wrong, tokenOf, wrong?, lineTokens}

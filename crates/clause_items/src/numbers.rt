@@ -5,7 +5,7 @@ ghost use mathlib.Core.Bool.{true};
 ghost use Prim.Native.Nat.{_+_, _-_, _*_, _≤_, _<_};
 ghost use mathlib.Core.Logic.{_≢_};
 ghost use lib.ListN.{length, getD, drop};
-ghost use Rattle.names.specs.Names.{digit?};
+ghost use Rattle.names.specs.Numerals.{digit?};
 ghost use Rattle.kinds.specs.Words.{byte};
 ghost use Rattle.clauses.specs.Items.{separator?};
 ghost use Rattle.clause_items.specs.Found.{largest, capped, gap, numberAt};

@@ -16,7 +16,7 @@ use Rattle.restriction.specs.Atoms.{used}
 use Rattle.restriction.specs.Remaining.{restrict, remaining, remainingNames}
 use Rattle.lines.specs.Lines.{lines, linesFrom, lineLength}
 use Rattle.lines.specs.Said.{Said, accepted, refused, whatRemains}
-use Rattle.clauses.specs.Numerals.{value}
+use Rattle.names.specs.Numerals.{value}
 use Rattle.clauses.specs.Items.{run, itemsFrom, items}
 use Rattle.clauses.specs.Literals.{positive, negative}
 use Rattle.clauses.specs.Tokens.{tokenOf, clausesFrom}

@@ -15,10 +15,11 @@ use Rattle.rules.specs.Lists.{every, from}
 use Rattle.rules.proofs.Booleans.{T-or, is-true}
 use Rattle.rules.proofs.Lists.{all-imp, all-map, all-from, every-all, length-from, distinct-from, distinct-map}
 use Rattle.rules.proofs.ListLaws.{all-each}
-use Rattle.names.specs.Names.{letter?, digit?, nameByte?, house?, nameClass, allowed}
+use Rattle.names.specs.Numerals.{digit?}
+use Rattle.names.specs.Names.{letter?, nameByte?, house?, commonName?, nameClass, allowed}
+use Rattle.names.proofs.Decimals.{digits-few, digits-all, decimal-inj}
 use Rattle.name_store.specs.NameStore.{NamesForm}
 use Rattle.clauses.specs.Written.{clauseName, clauseNames}
-use Rattle.clauses.proofs.Decimals.{digits-few, digits-all, decimal-inj}
 
 digit-byte : (b : ℕ) → T (digit? b) → T (nameByte? b)
 digit-byte b h = T-or (letter? b) (digit? b || eqb b 95) (inr (T-or (digit? b) (eqb b 95) (inl h)))
@@ -28,7 +29,7 @@ unfolding house?
 name-house a = is-true (every nameByte? (decimal (suc a))) (every-all nameByte? (λ b. T (nameByte? b)) (λ b. Iff·rfl) (decimal (suc a)) .1 (all-imp (λ b. T (digit? b)) (λ b. T (nameByte? b)) digit-byte (decimal (suc a)) (digits-all 20 (suc a))))
 
 name-allowed : (a : ℕ) → T (allowed Preference (clauseName a))
-unfolding allowed nameClass
+unfolding allowed nameClass commonName?
 name-allowed a =
     let short : leb (length (clauseName a)) 24 ≡ true = le-leb (length (clauseName a)) 24 (omega (arith, digits-few 20 (suc a))) in
     simp (name-house a, short) tt

@@ -18,7 +18,7 @@ use Rattle.rules.proofs.Lists.{all-app}
 use Rattle.stores.specs.Program.{Program}
 use Rattle.name_store.specs.NameStore.{sameBytes}
 use Rattle.lines.specs.Said.{Said, accepted, refused}
-use Rattle.clauses.specs.Numerals.{numeral?, value}
+use Rattle.names.specs.Numerals.{numeral?, value}
 use Rattle.clauses.specs.Items.{items, comment?}
 use Rattle.lines.specs.Lines.{ended?}
 use Rattle.clauses.specs.Literals.{atomOf}

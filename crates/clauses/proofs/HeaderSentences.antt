@@ -12,11 +12,11 @@ use Rattle.kinds.specs.declared.refusals.Refusal.the-variants.{BrokenClauses}
 use Rattle.rules.proofs.Connectives.{and-law}
 use Rattle.name_store.specs.NameStore.{sameBytes}
 use Rattle.name_store.proofs.NameStores.{same-law}
-use Rattle.clauses.specs.Numerals.{numeral?, value, DecimalWriting}
+use Rattle.names.specs.Numerals.{numeral?, value, DecimalWriting}
+use Rattle.names.proofs.Numerals.{numeral-iff}
 use Rattle.clauses.specs.Items.{items}
 use Rattle.clauses.specs.Faults.{Step, fault, first, headerWith, headerLine}
 use Rattle.clauses.specs.Sentences.{Header}
-use Rattle.clauses.proofs.Numerals.{numeral-iff}
 
 module _ (l : List ℕ) where
   pub one-header : {n m i j : ℕ} → Header l n m → Header l i j → (n ≡ i) × (m ≡ j)

@@ -1,14 +1,12 @@
 -- Laws of clause files.
 pub mod ClauseExamples
 pub mod Tests
-pub mod Decimals
 pub mod ClauseNames
 pub mod HeadedLines
 pub mod ClauseForms
 pub mod RenamedRules
 pub mod ClauseRules
 pub mod Satisfying
-pub mod Numerals
 pub mod LineTests
 pub mod HeaderSentences
 pub mod LineSentences

@@ -10,12 +10,11 @@ use lib.ListN.{length}
 use Rattle.kinds.specs.Words.{bytes, byte, digits}
 use Rattle.rules.specs.Lists.{every}
 use Rattle.rules.proofs.Booleans.{T-and-l, is-true, is-false}
-use Rattle.names.specs.Names.{digit?}
-use Rattle.clauses.specs.Numerals.{numeral?, value, DecimalWriting}
+use Rattle.names.specs.Numerals.{digit?, numeral?, value, DecimalWriting}
+use Rattle.names.proofs.Numerals.{numeral-iff}
 use Rattle.clauses.specs.Literals.{Literal, positive, negative}
 use Rattle.clauses.specs.Tokens.{Token, literal, ends, wrong, valued, numbered, tokenOf}
 use Rattle.clauses.specs.Sentences.{RightItem, IsToken}
-use Rattle.clauses.proofs.Numerals.{numeral-iff}
 
 -- a number that is not 0, with its sign
 written : (none : Token) (sign : ℕ → Literal) (x : List ℕ) (a : ℕ) → DecimalWriting x → value x ≡ suc a → numbered none sign x ≡ literal (sign a)

@@ -10,7 +10,7 @@ use Rattle.kinds.specs.declared.refusals.Refusal.{Refusal}
 use Rattle.kinds.specs.declared.refusals.Refusal.the-variants.{BrokenClauses, LiteralBeyond, Limit}
 use Rattle.rules.specs.Lists.{some}
 use Rattle.name_store.specs.NameStore.{sameBytes}
-use Rattle.clauses.specs.Numerals.{numeral?, value}
+use Rattle.names.specs.Numerals.{numeral?, value}
 use Rattle.clauses.specs.Items.{items, comment?}
 use Rattle.lines.specs.Lines.{ended?}
 use Rattle.clauses.specs.Tokens.{Token, tokenOf, wrong?, beyond?}

@@ -1,5 +1,4 @@
--- Clause files (document 02, W-202): numbers, items, literals, lines with their faults, and the program that is written.
-pub mod Numerals
+-- Clause files (document 02, W-202): items, literals, lines with their faults, and the program that is written.
 pub mod Items
 pub mod Literals
 pub mod Tokens

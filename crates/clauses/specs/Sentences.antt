@@ -13,7 +13,7 @@ use Rattle.rules.specs.Lists.{All, Any}
 use Rattle.stores.specs.Program.{Program}
 use Rattle.restriction.specs.Remaining.{remaining, remainingNames}
 use Rattle.lines.specs.Lines.{lines}
-use Rattle.clauses.specs.Numerals.{DecimalWriting, value}
+use Rattle.names.specs.Numerals.{DecimalWriting, value}
 use Rattle.clauses.specs.Items.{items}
 use Rattle.clauses.specs.Literals.{positive, negative, atomOf}
 use Rattle.clauses.specs.Tokens.{Token, literal, ends, wrong, lineTokens}

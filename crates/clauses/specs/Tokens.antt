@@ -1,10 +1,10 @@
--- What an item is among clauses: a literal, the 0 that ends a clause, or something wrong.
+-- What an item is among clauses: a literal, the 0 that ends a clause, or something wrong; "a number has no plus, leading zero or `-0`" (document 02, W-202).
 use Prim.Native.Nat.{ℕ, zero, suc}
 use mathlib.Core.Bool.{Bool, true, false, cond}
 use mathlib.Core.List.{List, [], _∷_, _++_, map}
 use lib.Dec.{eqb, leb}
 use Rattle.kinds.specs.Words.{byte}
-use Rattle.clauses.specs.Numerals.{numeral?, value}
+use Rattle.names.specs.Numerals.{numeral?, value}
 use Rattle.clauses.specs.Items.{items}
 use Rattle.clauses.specs.Literals.{Literal, positive, negative, atomOf}
 

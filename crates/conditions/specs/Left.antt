@@ -1,12 +1,12 @@
 -- What is left of a file with conditions: the planner's atoms that stand in a rule or a condition (document 02, W-203 and W-208).
 use Prim.Native.Nat.{ℕ}
 use mathlib.Core.List.{List, _++_, map}
-use lib.ListN.{take, drop}
-use Rattle.kinds.specs.Words.{bytes, decimal}
+use Rattle.names.specs.Names.{madeName}
 use Rattle.rules.specs.Lists.{filter, flat, from}
 use Rattle.rules.specs.Rules.{rename}
 use Rattle.restriction.specs.Atoms.{member?, placeIn}
 use Rattle.conditions.specs.Conditions.{Cond, name, NOT, AND, OR, Statement, states, when, statementNames}
+use Rattle.conditions.specs.Numbers.{inserted}
 
 -- of n declared atoms those that stand in a rule or a condition, in declared order
 unfoldable pub spoken : ℕ → List Statement → List ℕ
@@ -27,10 +27,6 @@ renameStatement f (when c a) = when (renameCond f c) (f a)
 abbrev pub leftStatements : List ℕ → List Statement → List Statement
 leftStatements xs ls = map (renameStatement (placeIn xs)) ls
 
--- "named `T.` and a number from 1"
-abbrev pub madeName : ℕ → List ℕ
-madeName t = bytes "T." ++ decimal t
-
 -- the names with those of the k made atoms after the q unfixed ones
 unfoldable pub writtenNames : ℕ → ℕ → List (List ℕ) → List (List ℕ)
-writtenNames q k names = take q names ++ (map madeName (from 1 k) ++ drop q names)
+writtenNames q k names = inserted q (map madeName (from 1 k)) names

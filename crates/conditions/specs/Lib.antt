@@ -6,3 +6,4 @@ pub mod Readings
 pub mod Numbers
 pub mod Programs
 pub mod Left
+pub mod DirectReading

@@ -1,13 +1,14 @@
 -- The two readings of a file with conditions: directly, and by the written program (document 02, W-208). Definition 3 is stated once, for any atoms and any models.
-use Prim.Native.Nat.{ℕ, _≤_, _<_}
+use Prim.Native.Nat.{ℕ, _^_, _≤_, _<_}
 use mathlib.Core.Path.{_≡_}
 use mathlib.Core.List.{List}
 use mathlib.Core.Bool.{Bool}
 use mathlib.Core.Logic.{_↔_}
 use lib.Dec.{T}
+use lib.ListN.{length}
 use Rattle.kinds.specs.Limits.{classLimit, varying, fixed}
 use Rattle.rules.specs.Lists.{All, flat}
-use Rattle.rules.specs.Sets.{In, Out}
+use Rattle.rules.specs.Sets.{has, In, Out}
 use Rattle.rules.specs.Rules.{Holds, Model}
 use Rattle.rules.specs.Preferred.{OfClass}
 use Rattle.conditions.specs.Conditions.{Atom, planner, made, Statement, states, when, truth, statementValues}
@@ -41,6 +42,11 @@ DirectModel ls m = All (StatementHolds m) ls
 -- preferred directly: Definition 3 over those models, the planner's classes
 abbrev pub DirectPreferred : List ℕ → List Statement → (ℕ → Bool) → Type 0
 DirectPreferred ws ls m = PreferredOver (DirectModel ls) (OfClass ws) m
+
+-- the same of a set by its number, as `Preferred` has it
+pub record DirectSet (ws : List ℕ) (ls : List Statement) (s : ℕ) : Type 0 where
+  pub model : DirectModel ls (has s)
+  pub unbeaten : (u : ℕ) → u < 2 ^ length ws → BeatsOver (DirectModel ls) (OfClass ws) (has u) (has s) → ⊥
 
 -- the planner's classes; T atoms are varying
 abbrev pub WrittenClass : List ℕ → ℕ → Atom → Type 0

@@ -56,8 +56,3 @@ statementRules (when c a) = connectiveRules c ++ (thenRule c a ∷ [])
 -- the written program's rules
 abbrev pub written : List Statement → List (Rule Atom)
 written ls = flat statementRules ls
-
--- those of them that the connectives add
-abbrev pub added : Statement → List (Rule Atom)
-added (states r) = []
-added (when c a) = connectiveRules c

@@ -17,7 +17,7 @@ use Rattle.lines.specs.declared.stage.Stage.the-variants.{Ruling}
 use Rattle.lines.specs.Lines.{lines}
 use Rattle.lines.specs.Forms.{formOf}
 use Rattle.lines.specs.Faults.{SoFar, next, fault, ruling?, stepForm}
-use Rattle.lines.specs.Said.{Said, accepted, refused, start, programOf, onStep, readLines, typed, whatRemains, said}
+use Rattle.lines.specs.Said.{Said, accepted, refused, start, placed, programOf, onStep, readLines, typed, whatRemains, said}
 use Rattle.faults.specs.Sentences.{Lowest, Faultless, added, Sound}
 use Rattle.faults.specs.EarliestFault.{Passed, RefusedAt, DeclaredAs, Refuses, Accepts}
 use Rattle.faults.proofs.Tests.{ruling-law}
@@ -33,13 +33,13 @@ next-read : (k : ℕ) (st : SoFar) (l : List ℕ) (ls : List (List ℕ)) (after 
 unfolding readLines
 next-read k st l ls after e = ap (λ s. onStep s k (λ after. readLines (suc k) after ls)) e
 
-end-complete : (k : ℕ) (st : SoFar) → st .stage ≡ Ruling → readLines k st [] ≡ accepted (programOf st) (st .names)
+end-complete : (k : ℕ) (st : SoFar) → st .stage ≡ Ruling → readLines k st [] ≡ accepted (programOf (placed st)) (placed st .names)
 unfolding readLines
-end-complete k st e = ap (λ b. cond b (accepted (programOf st) (st .names)) (refused BrokenForm k)) (is-true (ruling? (st .stage)) (ruling-law (st .stage) .1 e))
+end-complete k st e = ap (λ b. cond b (accepted (programOf (placed st)) (placed st .names)) (refused BrokenForm k)) (is-true (ruling? (st .stage)) (ruling-law (st .stage) .1 e))
 
 end-incomplete : (k : ℕ) (st : SoFar) → st .stage ≢ Ruling → readLines k st [] ≡ refused BrokenForm k
 unfolding readLines
-end-incomplete k st n = ap (λ b. cond b (accepted (programOf st) (st .names)) (refused BrokenForm k)) (is-false (ruling? (st .stage)) (λ t. n (ruling-law (st .stage) .0 t)))
+end-incomplete k st n = ap (λ b. cond b (accepted (programOf (placed st)) (placed st .names)) (refused BrokenForm k)) (is-false (ruling? (st .stage)) (λ t. n (ruling-law (st .stage) .0 t)))
 
 -- lines without fault are passed over
 

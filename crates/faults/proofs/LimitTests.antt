@@ -1,8 +1,8 @@
 -- The counts tested say sentence 7.
-use Prim.Native.Nat.{ℕ, suc, _≤_, _<_}
+use Prim.Native.Nat.{ℕ, suc, _+_, _≤_, _<_}
 use native.Mathlib.Omega.{arith}
 use native.Mathlib.Decide.{decLt}
-use mathlib.Core.Path.{_≡_, refl, sym, ap, ap₂, subst}
+use mathlib.Core.Path.{_≡_, refl, sym, ap, _∙_, subst}
 use mathlib.Core.Logic.{_⊎_, inl, inr, _↔_}
 use mathlib.Core.Bool.{not, _&&_}
 use mathlib.Core.List.{List, [], _∷_, _++_}
@@ -15,9 +15,13 @@ use Rattle.rules.specs.Lists.{sum}
 use Rattle.rules.specs.Rules.{Rule, occurrences}
 use Rattle.rules.proofs.Lists.{sum-app}
 use Rattle.rules.proofs.Connectives.{not-law, not-and}
-use Rattle.lines.specs.Forms.{Word, atoms, min, vary, fix, LineForm, declares, rules, blank}
-use Rattle.lines.specs.Faults.{SoFar, countsOf, classesAfter, nameNumber, declared, numbered, with-rule}
-use Rattle.faults.specs.Sentences.{atomsWith, rulesWith, occurrencesWith, classesWith, PassesLimit, atoms-pass, rules-pass, occurrences-pass, classes-pass}
+use Rattle.conditions.specs.Conditions.{Cond}
+use Rattle.conditions.specs.Numbers.{conditionRules}
+use Rattle.lines.specs.Tokens.{Token}
+use Rattle.lines.specs.Conditions.{connectivesIn, parsed}
+use Rattle.lines.specs.Forms.{Word, atoms, min, vary, fix, LineForm, declares, rules, condition, blank}
+use Rattle.lines.specs.Faults.{SoFar, countsOf, classesAfter, nameNumber, declared, numbered, with-rule, with-condition, allCounts}
+use Rattle.faults.specs.Sentences.{parsedOr, conditionOf, addedRules, atomsWith, rulesWith, occurrencesWith, classesWith, PassesLimit, atoms-pass, rules-pass, occurrences-pass, classes-pass}
 
 passes-law : (n limit : ℕ) → T (not (leb n limit)) ↔ (limit < n)
 passes-law n limit = let law = not-law (leb n limit) (leb→le n limit, le→leb n limit) in (λ t. past (law .0 t) (decLt limit n), λ h. law .1 (λ k. omega arith))
@@ -55,8 +59,10 @@ limit-law st f = (there, back)
     back (classes-pass h) = inr (omega arith)
 
 module _ (st : SoFar) where
-  declared-counts : (w : Word) (xs : List (List ℕ)) → countsOf (declared st w xs) ≡ countsWith st (declares w xs)
-  declared-counts w xs = ap (λ n. record { atoms = n; rules = length (st .program-rules); occurrences = sum occurrences (st .program-rules) }) (length-append (st .names) xs)
+  declared-counts : (w : Word) (xs : List (List ℕ)) → st .made ≡ 0 → countsOf (declared st w xs) ≡ countsWith st (declares w xs)
+  declared-counts w xs none =
+      let e : length (st .names ++ xs) ≡ length (st .names) + st .made + length xs = omega (arith, length-append (st .names) xs) in
+      ap (λ n. record { atoms = n; rules = length (st .program-rules); occurrences = sum occurrences (st .program-rules) }) e
 
   pub classes-counted : (w : Word) (xs : List (List ℕ)) → classesAfter w (st .classes) ≡ classesWith st (declares w xs)
   classes-counted atoms xs = refl
@@ -64,9 +70,9 @@ module _ (st : SoFar) where
   classes-counted vary xs = refl
   classes-counted fix xs = refl
 
-  pub declared-limit : (w : Word) (xs : List (List ℕ)) → T (not (within (st .kind) (countsOf (declared st w xs)) && leb (classesAfter w (st .classes)) classLimit)) ↔ PassesLimit st (declares w xs)
-  declared-limit w xs =
-      let counts = subst (λ c. T (not (within (st .kind) c)) ↔ CountPasses (st .kind) (countsWith st (declares w xs))) (sym (declared-counts w xs)) (within-law (st .kind) (countsWith st (declares w xs))) in
+  pub declared-limit : (w : Word) (xs : List (List ℕ)) → st .made ≡ 0 → T (not (within (st .kind) (countsOf (declared st w xs)) && leb (classesAfter w (st .classes)) classLimit)) ↔ PassesLimit st (declares w xs)
+  declared-limit w xs none =
+      let counts = subst (λ c. T (not (within (st .kind) c)) ↔ CountPasses (st .kind) (countsWith st (declares w xs))) (sym (declared-counts w xs none)) (within-law (st .kind) (countsWith st (declares w xs))) in
       let classes = subst (λ n. T (not (leb n classLimit)) ↔ (classLimit < classesWith st (declares w xs))) (sym (classes-counted w xs)) (passes-law (classesWith st (declares w xs)) classLimit) in
       let law = not-and (within (st .kind) (countsOf (declared st w xs))) (leb (classesAfter w (st .classes)) classLimit) counts classes in
       let limit = limit-law st (declares w xs) in
@@ -83,27 +89,65 @@ module _ (st : SoFar) where
     abbrev line-rule : Rule ℕ
     line-rule = numbered (st .names) hs bs ns
 
-    rule-counts : countsOf (with-rule st line-rule) ≡ countsWith st (rules hs bs ns)
-    rule-counts = ap₂ (λ r o. record { atoms = length (st .names); rules = r; occurrences = o }) one-more places
-      where
-        one-more : length (st .program-rules ++ (line-rule ∷ [])) ≡ suc (length (st .program-rules))
-        one-more = omega (arith, length-append (st .program-rules) (line-rule ∷ []))
+    one-more : length (st .program-rules ++ (line-rule ∷ [])) ≡ suc (length (st .program-rules))
+    one-more = omega (arith, length-append (st .program-rules) (line-rule ∷ []))
 
-        places : sum occurrences (st .program-rules ++ (line-rule ∷ [])) ≡ occurrencesWith st (rules hs bs ns)
-        places = omega (arith, sum-app occurrences (st .program-rules) (line-rule ∷ []), length-map hs (nameNumber (st .names)), length-map bs (nameNumber (st .names)), length-map ns (nameNumber (st .names)))
+    places : sum occurrences (st .program-rules ++ (line-rule ∷ [])) ≡ occurrencesWith st (rules hs bs ns)
+    places = omega (arith, sum-app occurrences (st .program-rules) (line-rule ∷ []), length-map hs (nameNumber (st .names)), length-map bs (nameNumber (st .names)), length-map ns (nameNumber (st .names)))
 
+    -- a rule declares no atom, so their count is not tested again with those that conditions made
     pub rule-limit : (PassesLimit st blank → ⊥) → T (not (within (st .kind) (countsOf (with-rule st line-rule)))) ↔ PassesLimit st (rules hs bs ns)
-    rule-limit fits =
-        let law = subst (λ c. T (not (within (st .kind) c)) ↔ CountPasses (st .kind) (countsWith st (rules hs bs ns))) (sym rule-counts) (within-law (st .kind) (countsWith st (rules hs bs ns))) in
-        let limit = limit-law st (rules hs bs ns) in
-        (λ t. limit .0 (inl (law .0 t)), λ h. law .1 (no-class (limit .1 h)))
+    rule-limit fits = let law = within-law (st .kind) (countsOf (with-rule st line-rule)) in (λ t. there (law .0 t), λ h. law .1 (back h))
       where
-        no-class : CountPasses (st .kind) (countsWith st (rules hs bs ns)) ⊎ (classLimit < st .classes) → CountPasses (st .kind) (countsWith st (rules hs bs ns))
-        no-class (inl h) = h
-        no-class (inr h) = absurd (fits (classes-pass h))
+        there : CountPasses (st .kind) (countsOf (with-rule st line-rule)) → PassesLimit st (rules hs bs ns)
+        there (inl h) = atoms-pass (omega arith)
+        there (inr (inl h)) = rules-pass (omega (arith, one-more))
+        there (inr (inr h)) = occurrences-pass (omega (arith, places))
+
+        back : PassesLimit st (rules hs bs ns) → CountPasses (st .kind) (countsOf (with-rule st line-rule))
+        back (atoms-pass h) = absurd (fits (atoms-pass h))
+        back (rules-pass h) = inr (inl (omega (arith, one-more)))
+        back (occurrences-pass h) = inr (inr (omega (arith, places)))
+        back (classes-pass h) = absurd (fits (classes-pass h))
 
     pub rule-within : (PassesLimit st (rules hs bs ns) → ⊥) → PassesLimit (with-rule st line-rule) blank → ⊥
     rule-within n (atoms-pass h) = n (atoms-pass (omega arith))
-    rule-within n (rules-pass h) = n (rules-pass (omega (arith, ap (λ c. c .rules) rule-counts)))
-    rule-within n (occurrences-pass h) = n (occurrences-pass (omega (arith, ap (λ c. c .occurrences) rule-counts)))
+    rule-within n (rules-pass h) = n (rules-pass (omega (arith, one-more)))
+    rule-within n (occurrences-pass h) = n (occurrences-pass (omega (arith, places)))
     rule-within n (classes-pass h) = n (classes-pass (omega arith))
+
+  module _ (ts : List Token) (a : List ℕ) (c : Cond) (is : conditionOf st ts ≡ parsed c) where
+    abbrev line-rules : List (Rule ℕ)
+    line-rules = conditionRules (length (st .names)) c (nameNumber (st .names) a)
+
+    abbrev with-line : SoFar
+    with-line = with-condition st c (connectivesIn ts) (nameNumber (st .names) a)
+
+    line-adds : addedRules st ts a ≡ line-rules
+    line-adds = ap (λ p. parsedOr p (λ d. conditionRules (length (st .names)) d (nameNumber (st .names) a)) []) is
+
+    rules-added : length (st .program-rules ++ line-rules) ≡ rulesWith st (condition ts a)
+    rules-added = length-append (st .program-rules) line-rules ∙ ap (λ l. length (st .program-rules) + length l) (sym line-adds)
+
+    occurrences-added : sum occurrences (st .program-rules ++ line-rules) ≡ occurrencesWith st (condition ts a)
+    occurrences-added = sum-app occurrences (st .program-rules) line-rules ∙ ap (λ l. sum occurrences (st .program-rules) + sum occurrences l) (sym line-adds)
+
+    pub condition-limit : (PassesLimit st blank → ⊥) → T (not (within (st .kind) (allCounts with-line))) ↔ PassesLimit st (condition ts a)
+    condition-limit fits = let law = within-law (st .kind) (allCounts with-line) in (λ t. there (law .0 t), λ h. law .1 (back h))
+      where
+        there : CountPasses (st .kind) (allCounts with-line) → PassesLimit st (condition ts a)
+        there (inl h) = atoms-pass (omega arith)
+        there (inr (inl h)) = rules-pass (omega (arith, rules-added))
+        there (inr (inr h)) = occurrences-pass (omega (arith, occurrences-added))
+
+        back : PassesLimit st (condition ts a) → CountPasses (st .kind) (allCounts with-line)
+        back (atoms-pass h) = inl (omega arith)
+        back (rules-pass h) = inr (inl (omega (arith, rules-added)))
+        back (occurrences-pass h) = inr (inr (omega (arith, occurrences-added)))
+        back (classes-pass h) = absurd (fits (classes-pass h))
+
+    pub condition-within : (PassesLimit st (condition ts a) → ⊥) → PassesLimit with-line blank → ⊥
+    condition-within n (atoms-pass h) = n (atoms-pass (omega arith))
+    condition-within n (rules-pass h) = n (rules-pass (omega (arith, rules-added)))
+    condition-within n (occurrences-pass h) = n (occurrences-pass (omega (arith, occurrences-added)))
+    condition-within n (classes-pass h) = n (classes-pass (omega arith))

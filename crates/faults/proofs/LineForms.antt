@@ -6,25 +6,30 @@ use mathlib.Core.Logic.{_⊎_, inl, inr, _↔_, _≢_}
 use mathlib.Core.Bool.{true, cond}
 use mathlib.Core.List.{List, [], _∷_, _++_, map}
 use lib.Dec.{T, eqb→eq}
-use lib.ListN.{length, getD, drop}
-use Rattle.kinds.specs.Words.{line-end, ruleWord, headWord, bodyWord, notWord}
+use lib.ListN.{length, length-append, getD, drop}
+use Rattle.kinds.specs.Words.{decimal, line-end, ruleWord, headWord, bodyWord, notWord, whenWord, thenWord}
 use Rattle.rules.specs.Lists.{All}
 use Rattle.rules.proofs.Booleans.{eq→eqb, is-true}
 use Rattle.rules.proofs.Connectives.{on-cond}
-use Rattle.rules.proofs.Lists.{all-app, all-imp, every-all}
+use Rattle.rules.proofs.Lists.{all-app, all-app-l, all-app-r, all-imp, every-all}
 use Rattle.names.specs.declared.forms.NameClass.{NameClass}
-use Rattle.names.specs.declared.forms.NameClass.the-variants.{House, Generated, TooLong, Wrong}
+use Rattle.names.specs.declared.forms.NameClass.the-variants.{Common, Generated, TooLong, Wrong}
+use Rattle.names.specs.Numerals.{digit?}
 use Rattle.names.specs.Names.{nameClass}
+use Rattle.names.proofs.Decimals.{digits-all}
+use Rattle.names.proofs.Numerals.{digit-range}
 use Rattle.name_store.specs.NameStore.{sameBytes}
 use Rattle.name_store.proofs.NameStores.{same-equal, same-self}
 use Rattle.lines.specs.Lines.{ended?}
 use Rattle.lines.specs.Tokens.{Token, opening, closing, word, tokens, leading, behind}
-use Rattle.lines.specs.Forms.{Word, wordBytes, atoms, min, vary, fix, LineForm, declares, rules, blank, broken, Opened, opened, unopened, openedBy, openedOf, Split, split, none, closedBy, splitNames, onOpened, splitList, onSplit, lastly, closedLastly, declaredForm, ruleForm, openedForm, tokenForm, typedForm, isName, names?, named, formOf}
-use Rattle.faults.specs.NameForms.{Letter, Digit, NameByte, HouseBytes, Marked, ClassNumber}
-use Rattle.faults.specs.LineForms.{WordByte, IsWord, IsName, Ended, listThen, declaringTokens, ruleTokens, DeclaringLine, RuleLine, BlankLine, HasForm}
+use Rattle.lines.specs.Conditions.{WordSort, negation, conjunction, disjunction, called, sortOf, bySort, wordsIn, namesIn, pairs}
+use Rattle.lines.specs.Forms.{Word, wordBytes, atoms, min, vary, fix, LineForm, declares, rules, condition, blank, broken, Opened, opened, unopened, openedBy, openedOf, Split, split, none, closedBy, splitNames, onOpened, splitList, onSplit, lastly, closedLastly, declaredForm, ruleForm, Conditional, conditional, unconditional, onlyClosing, onlyName, thenOr, inFront, splitThen, pairedForm, whenForm, openedForm, tokenForm, typedForm, isName, names?, named, formOf}
+use Rattle.faults.specs.NameForms.{Letter, Digit, NameByte, HouseBytes, CommonName, Marked, ClassNumber}
+use Rattle.faults.specs.LineForms.{WordByte, IsWord, IsName, Ended, listThen, declaringTokens, ruleTokens, conditionTokens, Paired, DeclaringLine, RuleLine, ConditionLine, BlankLine, HasForm}
 use Rattle.faults.specs.Sentences.{namesOf}
-use Rattle.faults.proofs.NameClasses.{house-iff, long-iff, generated-iff}
+use Rattle.faults.proofs.NameClasses.{common-iff, long-iff, generated-iff}
 use Rattle.faults.proofs.LineTokens.{tokens-iff}
+use Rattle.faults.proofs.Pairs.{pairs-law}
 
 -- a name is a word
 
@@ -50,34 +55,41 @@ house-word (b ∷ x) h = (some-bytes b x, (first-byte b (h .0), all-imp NameByte
 marked-word : (a : ℕ) (y : List ℕ) → 60 ≤ a → All WordByte y → IsWord (a ∷ 46 ∷ y)
 marked-word a y l h = (some-bytes a (46 ∷ y), (name-byte a (omega arith) (λ e. omega arith), (name-byte 46 (omega arith) (λ e. omega arith), h)))
 
-marked-house : (x y : List ℕ) → Marked x y → HouseBytes y → IsWord x
-marked-house x y (inl e) h = subst IsWord (sym e) (marked-word 78 y (omega arith) (house-word y h .1))
-marked-house x y (inr (inl e)) h = subst IsWord (sym e) (marked-word 83 y (omega arith) (house-word y h .1))
-marked-house x y (inr (inr e)) h = subst IsWord (sym e) (marked-word 68 y (omega arith) (house-word y h .1))
+marked-name : (x y : List ℕ) → Marked x y → All WordByte y → IsWord x
+marked-name x y (inl e) h = subst IsWord (sym e) (marked-word 78 y (omega arith) h)
+marked-name x y (inr (inl e)) h = subst IsWord (sym e) (marked-word 83 y (omega arith) h)
+marked-name x y (inr (inr e)) h = subst IsWord (sym e) (marked-word 68 y (omega arith) h)
 
 number-bytes : (y : List ℕ) → ClassNumber y → All WordByte y
 number-bytes y (inl (d, l, e)) = subst (All WordByte) (sym e) (name-byte _ (omega arith) (λ q. omega arith), tt)
 number-bytes y (inr (d, l, e)) = subst (All WordByte) (sym e) (name-byte 49 (omega arith) (λ q. omega arith), (name-byte _ (omega arith) (λ q. omega arith), tt))
 
+common-word : (x : List ℕ) → CommonName x → IsWord x
+common-word x (inl h) = house-word x (h .0)
+common-word x (inr (t, l, u, e)) = subst IsWord (sym e) (marked-word 84 (decimal t) (omega arith) (all-imp (λ b. T (digit? b)) WordByte digit-byte (decimal t) (digits-all 20 t)))
+  where
+    digit-byte : (b : ℕ) → T (digit? b) → WordByte b
+    digit-byte b h = one-byte b (inr (inl (digit-range b (is-true (digit? b) h))))
+
 pub name-word : (x : List ℕ) → IsName x → IsWord x
-name-word x (inl h) = house-word x (h .0)
-name-word x (inr (inl (inl (y, m, h)))) = marked-house x y m (h .0)
+name-word x (inl h) = common-word x h
+name-word x (inr (inl (inl (y, m, h)))) = marked-name x y m (common-word y h .1)
 name-word x (inr (inl (inr (inl (y, e, h))))) = subst IsWord (sym e) (marked-word 69 y (omega arith) (number-bytes y h))
 name-word x (inr (inl (inr (inr e)))) = subst IsWord (sym e) (some-bytes 85 [], (name-byte 85 (omega arith) (λ q. omega arith), tt))
 name-word x (inr (inr (inl h))) = house-word x (h .0)
-name-word x (inr (inr (inr (y, m, h)))) = marked-house x y m (h .0)
+name-word x (inr (inr (inr (y, m, h)))) = marked-name x y m (house-word y (h .0) .1)
 
 pub name-law : (x : List ℕ) → T (isName (nameClass x)) ↔ IsName x
 name-law x = (λ t. there (nameClass x) refl t, back)
   where
     there : (c : NameClass) → nameClass x ≡ c → T (isName c) → IsName x
-    there House e t = inl (house-iff x .0 e)
+    there Common e t = inl (common-iff x .0 e)
     there Generated e t = inr (inl (generated-iff x .0 e))
     there TooLong e t = inr (inr (long-iff x .0 e))
     there Wrong e t = absurd t
 
     back : IsName x → T (isName (nameClass x))
-    back (inl h) = subst (λ c. T (isName c)) (sym (house-iff x .1 h)) tt
+    back (inl h) = subst (λ c. T (isName c)) (sym (common-iff x .1 h)) tt
     back (inr (inl h)) = subst (λ c. T (isName c)) (sym (generated-iff x .1 h)) tt
     back (inr (inr h)) = subst (λ c. T (isName c)) (sym (long-iff x .1 h)) tt
 
@@ -180,11 +192,64 @@ unfolding splitList openedOf
 list-cut w xs rest =
     ap (λ b. cond b (splitNames (map word xs ++ (closing ∷ rest))) none) (is-true (sameBytes w w) (same-self w)) ∙ names-cut xs rest
 
+-- the last `(then a))`
+
+abbrev thenTokens : List ℕ → List Token
+thenTokens a = listThen thenWord (a ∷ []) (closing ∷ [])
+
+abbrev ThenCut : List Token → Conditional → Type 0
+ThenCut ts (conditional us a) = ts ≡ us ++ thenTokens a
+ThenCut ts unconditional = Unit {0}
+
+cut-then : (ts : List Token) → ThenCut ts (splitThen ts)
+unfolding splitThen
+cut-then [] = tt
+cut-then (t ∷ ts) = go (splitList thenWord (t ∷ ts)) (cut-list thenWord (t ∷ ts)) (splitThen ts) (cut-then ts)
+  where
+    later : (d : Conditional) → ThenCut ts d → ThenCut (t ∷ ts) (inFront t d)
+    later (conditional us a) h = ap (λ l. t ∷ l) h
+    later unconditional h = tt
+
+    closed : (a : List ℕ) (rest : List Token) → t ∷ ts ≡ listThen thenWord (a ∷ []) rest → (d : Conditional) → ThenCut ts d → ThenCut (t ∷ ts) (thenOr (onlyClosing rest a) (inFront t d))
+    closed a [] e d h = later d h
+    closed a (opening ∷ rest) e d h = later d h
+    closed a (closing ∷ []) e d h = e
+    closed a (closing ∷ k ∷ rest) e d h = later d h
+    closed a (word x ∷ rest) e d h = later d h
+
+    go : (c : Split) → ListCut thenWord (t ∷ ts) c → (d : Conditional) → ThenCut ts d → ThenCut (t ∷ ts) (thenOr (onlyName c) (inFront t d))
+    go (split [] rest) e d h = later d h
+    go (split (a ∷ []) rest) e d h = closed a rest e d h
+    go (split (a ∷ b ∷ xs) rest) e d h = later d h
+    go none e d h = later d h
+
+then-cut : (us : List Token) (a : List ℕ) → splitThen (us ++ thenTokens a) ≡ conditional us a
+unfolding splitThen
+then-cut [] a = ap (λ c. thenOr (onlyName c) (inFront opening (splitThen (word thenWord ∷ word a ∷ closing ∷ closing ∷ [])))) (list-cut thenWord (a ∷ []) (closing ∷ []))
+then-cut (t ∷ us) a = go (splitList thenWord (t ∷ ts)) (cut-list thenWord (t ∷ ts)) ∙ ap (inFront t) (then-cut us a)
+  where
+    ts : List Token
+    ts = us ++ thenTokens a
+
+    closed : (b : List ℕ) (rest : List Token) → t ∷ ts ≡ listThen thenWord (b ∷ []) rest → thenOr (onlyClosing rest b) (inFront t (splitThen ts)) ≡ inFront t (splitThen ts)
+    closed b [] e = refl
+    closed b (opening ∷ rest) e = refl
+    closed b (closing ∷ []) e = absurd (let z : suc (length ts) ≡ 5 = ap length e in omega (arith, length-append us (thenTokens a)))
+    closed b (closing ∷ k ∷ rest) e = refl
+    closed b (word x ∷ rest) e = refl
+
+    go : (c : Split) → ListCut thenWord (t ∷ ts) c → thenOr (onlyName c) (inFront t (splitThen ts)) ≡ inFront t (splitThen ts)
+    go (split [] rest) e = refl
+    go (split (b ∷ []) rest) e = closed b rest e
+    go (split (b ∷ d ∷ xs) rest) e = refl
+    go none e = refl
+
 -- the form found says what the tokens are
 
 abbrev Reads : List Token → LineForm → Type 0
 Reads ts (declares w xs) = ts ≡ declaringTokens w xs
 Reads ts (rules hs bs ns) = ts ≡ ruleTokens hs bs ns
+Reads ts (condition us a) = (ts ≡ conditionTokens us a) × Paired us
 Reads ts blank = ts ≡ []
 Reads ts broken = Unit {0}
 
@@ -225,6 +290,14 @@ reads-rule x us e =
     reads-closed ts rest (rules hs bs ns) (λ k.
     ap₂ (λ y vs. opening ∷ word y ∷ vs) e (e₁ ∙ ap (listThen headWord hs) (e₂ ∙ ap (listThen bodyWord bs) (e₃ ∙ ap (listThen notWord ns) k)))))))
 
+reads-when : (x : List ℕ) (us : List Token) → x ≡ whenWord → Reads (opening ∷ word x ∷ us) (whenForm us)
+unfolding whenForm
+reads-when x us e = go (splitThen us) (cut-then us)
+  where
+    go : (d : Conditional) → ThenCut us d → Reads (opening ∷ word x ∷ us) (pairedForm d)
+    go (conditional vs a) h = on-cond (Reads (opening ∷ word x ∷ us)) (pairs 0 vs) (condition vs a) broken (λ t. (ap₂ (λ y l. opening ∷ word y ∷ l) e h, pairs-law vs .0 t)) (λ n. tt)
+    go unconditional h = tt
+
 reads-tokens : (ts : List Token) → Reads ts (tokenForm ts)
 unfolding tokenForm
 reads-tokens [] = refl
@@ -236,7 +309,8 @@ reads-tokens (t ∷ ts) = go (openedOf (t ∷ ts)) (opened-from (t ∷ ts))
     all : (x : List ℕ) (us : List Token) → Reads (opening ∷ word x ∷ us) (openedForm (opened x us))
     all x us =
         choice x us atoms _ (choice x us min _ (choice x us vary _ (choice x us fix _
-        (on-cond (Reads (opening ∷ word x ∷ us)) (sameBytes x ruleWord) (ruleForm us) broken (λ q. reads-rule x us (same-equal x ruleWord q)) (λ n. tt)))))
+        (on-cond (Reads (opening ∷ word x ∷ us)) (sameBytes x ruleWord) (ruleForm us) _ (λ q. reads-rule x us (same-equal x ruleWord q)) (λ n.
+        on-cond (Reads (opening ∷ word x ∷ us)) (sameBytes x whenWord) (whenForm us) broken (λ q. reads-when x us (same-equal x whenWord q)) (λ m. tt))))))
 
     go : (o : Opened) → OpenedFrom (t ∷ ts) o → Reads (t ∷ ts) (openedForm o)
     go (opened x us) e = subst (λ vs. Reads vs (openedForm (opened x us))) (sym e) (all x us)
@@ -266,6 +340,10 @@ rule-form hs bs ns =
     ∙ ap (λ c. onSplit c (f₂ hs)) (list-cut bodyWord bs third)
     ∙ ap (λ c. onSplit c (f₃ hs bs)) (list-cut notWord ns (closing ∷ []))
 
+condition-form : (ts : List Token) (a : List ℕ) → Paired ts → tokenForm (conditionTokens ts a) ≡ condition ts a
+unfolding tokenForm openedOf whenForm sameBytes
+condition-form ts a p = ap pairedForm (then-cut ts a) ∙ ap (λ b. cond b (condition ts a) broken) (is-true (pairs 0 ts) (pairs-law ts .1 p))
+
 blank-form : tokenForm [] ≡ blank
 unfolding tokenForm
 blank-form = refl
@@ -275,6 +353,7 @@ blank-form = refl
 whole? : LineForm → Type 0
 whole? (declares w xs) = Unit {0}
 whole? (rules hs bs ns) = Unit {0}
+whole? (condition ts a) = Unit {0}
 whole? blank = Unit {0}
 whole? broken = ⊥
 
@@ -282,6 +361,7 @@ module _ (l : List ℕ) where
   abbrev Found : LineForm → Type 0
   Found (declares w xs) = DeclaringLine l w xs
   Found (rules hs bs ns) = RuleLine l hs bs ns
+  Found (condition ts a) = ConditionLine l ts a
   Found blank = BlankLine l
   Found broken = Unit {0}
 
@@ -292,6 +372,9 @@ module _ (l : List ℕ) where
       on-cond Found (names? bs) (cond (names? ns) (rules hs bs ns) broken) broken (λ b.
       on-cond Found (names? ns) (rules hs bs ns) broken (λ n.
       (e, tokens-iff l (ruleTokens hs bs ns) .0 r, every-name hs .0 h, every-name bs .0 b, every-name ns .0 n)) (λ n. tt)) (λ n. tt)) (λ n. tt)
+  named-found e (condition ts a) r =
+      let words = wordsIn ts ++ (a ∷ []) in
+      on-cond Found (names? words) (condition ts a) broken (λ h. (e, tokens-iff l (conditionTokens ts a) .0 (r .0), r .1, every-name words .0 h)) (λ n. tt)
   named-found e blank r = (e, tokens-iff l [] .0 r)
   named-found e broken r = tt
 
@@ -315,6 +398,11 @@ module _ (l : List ℕ) where
       ∙ ap (λ b. cond b (cond (names? bs) (cond (names? ns) (rules hs bs ns) broken) broken) broken) (are-names hs (h .2))
       ∙ ap₂ (λ b c. cond b (cond c (rules hs bs ns) broken) broken) (are-names bs (h .3)) (are-names ns (h .4))
 
+  condition-found : (ts : List Token) (a : List ℕ) → ConditionLine l ts a → formOf l ≡ condition ts a
+  condition-found ts a h =
+      form-of (h .0) (tokens-iff l (conditionTokens ts a) .1 (h .1)) (condition-form ts a (h .2))
+      ∙ ap (λ b. cond b (condition ts a) broken) (are-names (wordsIn ts ++ (a ∷ [])) (h .3))
+
   blank-found : BlankLine l → formOf l ≡ blank
   blank-found h = form-of (h .0) (tokens-iff l [] .1 (h .1)) blank-form
 
@@ -322,17 +410,37 @@ module _ (l : List ℕ) where
   unfolding whole?
   form-iff (declares w xs) = (λ e. subst Found e found-line, declares-found w xs)
   form-iff (rules hs bs ns) = (λ e. subst Found e found-line, rules-found hs bs ns)
+  form-iff (condition ts a) = (λ e. subst Found e found-line, condition-found ts a)
   form-iff blank = (λ e. subst Found e found-line, blank-found)
   form-iff broken = (
-    λ e. (λ w xs h. subst whole? (sym (declares-found w xs h) ∙ e) tt, λ hs bs ns h. subst whole? (sym (rules-found hs bs ns h) ∙ e) tt, λ h. subst whole? (sym (blank-found h) ∙ e) tt),
+    λ e. (
+      λ w xs h. subst whole? (sym (declares-found w xs h) ∙ e) tt,
+      λ hs bs ns h. subst whole? (sym (rules-found hs bs ns h) ∙ e) tt,
+      λ ts a h. subst whole? (sym (condition-found ts a h) ∙ e) tt,
+      λ h. subst whole? (sym (blank-found h) ∙ e) tt,
+    ),
     λ h. back h (formOf l) refl found-line,
   )
     where
       back : HasForm l broken → (f : LineForm) → formOf l ≡ f → Found (formOf l) → formOf l ≡ broken
       back h (declares w xs) e r = absurd (h .0 w xs (subst Found e r))
       back h (rules hs bs ns) e r = absurd (h .1 hs bs ns (subst Found e r))
-      back h blank e r = absurd (h .2 (subst Found e r))
+      back h (condition ts a) e r = absurd (h .2 ts a (subst Found e r))
+      back h blank e r = absurd (h .3 (subst Found e r))
       back h broken e r = e
+
+  names-among : (ts : List Token) → All IsName (wordsIn ts) → All IsName (namesIn ts)
+  unfolding wordsIn namesIn
+  names-among [] h = tt
+  names-among (opening ∷ ts) h = names-among ts h
+  names-among (closing ∷ ts) h = names-among ts h
+  names-among (word x ∷ ts) h = go (sortOf x) (names-among ts (h .1))
+    where
+      go : (s : WordSort) → All IsName (namesIn ts) → All IsName (bySort s (namesIn ts) (namesIn ts) (namesIn ts) (x ∷ namesIn ts))
+      go negation k = k
+      go conjunction k = k
+      go disjunction k = k
+      go called k = (h .0, k)
 
   pub line-names : All IsName (namesOf (formOf l))
   line-names = go (formOf l) found-line
@@ -340,5 +448,6 @@ module _ (l : List ℕ) where
       go : (f : LineForm) → Found f → All IsName (namesOf f)
       go (declares w xs) h = h .2
       go (rules hs bs ns) h = all-app IsName hs (bs ++ ns) (h .2) (all-app IsName bs ns (h .3) (h .4))
+      go (condition ts a) h = all-app IsName (namesIn ts) (a ∷ []) (names-among ts (all-app-l IsName (wordsIn ts) (a ∷ []) (h .3))) (all-app-r IsName (wordsIn ts) (a ∷ []) (h .3))
       go blank h = tt
       go broken h = tt

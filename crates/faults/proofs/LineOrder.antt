@@ -2,7 +2,7 @@
 use Prim.Native.Nat.{ℕ}
 use native.Mathlib.Omega.{arith}
 use mathlib.Core.Path.{_≡_, refl, sym, ap, ap₂, _∙_, subst}
-use mathlib.Core.Logic.{_↔_}
+use mathlib.Core.Logic.{inl, inr, _↔_}
 use mathlib.Core.List.{List, [], _∷_, _++_, append-assoc, append-nil}
 use lib.Seq.{append-snoc}
 use Rattle.kinds.specs.declared.limits.Kind.{Kind}
@@ -12,15 +12,17 @@ use Rattle.rules.specs.Lists.{All}
 use Rattle.rules.proofs.Lists.{all-app, all-app-r}
 use Rattle.lines.specs.declared.stage.Stage.{Stage}
 use Rattle.lines.specs.declared.stage.Stage.the-variants.{Declaring, Fixing, Ruling}
-use Rattle.lines.specs.Forms.{Word, atoms, min, vary, fix, LineForm, declares, rules, blank, broken, formOf}
-use Rattle.lines.specs.Faults.{SoFar, stageAfter}
+use Rattle.lines.specs.Tokens.{Token}
+use Rattle.lines.specs.Conditions.{connectivesIn, Parsed, parsed, unparsed}
+use Rattle.lines.specs.Forms.{Word, atoms, min, vary, fix, LineForm, declares, rules, condition, blank, broken, formOf}
+use Rattle.lines.specs.Faults.{SoFar, stageAfter, nameNumber, with-condition}
 use Rattle.lines.specs.Lines.{lines}
 use Rattle.lines.specs.Said.{kindOf, start}
-use Rattle.faults.specs.Sentences.{Comes, atoms-line, min-line, vary-line, fix-line, BreaksForm, Faultless, added}
+use Rattle.faults.specs.Sentences.{Comes, atoms-line, min-line, vary-line, fix-line, BreaksForm, parsedOr, conditionOf, Faultless, added}
 use Rattle.faults.specs.EarliestFault.{Passed}
-use Rattle.faults.specs.LineOrder.{unlessBlank, formsOf, IsMin, IsRule, Came, OutOfOrder}
+use Rattle.faults.specs.LineOrder.{unlessBlank, formsOf, IsMin, AmongRules, Came, OutOfOrder}
 use Rattle.faults.proofs.Entries.{cons-same, no-cons, no-append}
-use Rattle.faults.proofs.Tests.{comes-stable, ruling-stable}
+use Rattle.faults.proofs.Tests.{comes-stable, ruling-stable, among-stable}
 
 after-declaring : {kind : Kind} {stage : Stage} {w : Word} (xs : List (List ℕ)) (fs : List LineForm) → Comes kind stage w → Came kind stage fs → Came kind (stageAfter w) (fs ++ (declares w xs ∷ []))
 after-declaring xs fs atoms-line c = (xs, [], tt, ap (λ l. l ++ (declares atoms xs ∷ [])) c)
@@ -28,17 +30,37 @@ after-declaring xs fs min-line c = all-app IsMin fs (declares min xs ∷ []) c (
 after-declaring xs fs vary-line c = (fs, xs, c, refl)
 after-declaring xs fs fix-line (ms, ys, h, e) = (ms, ys, xs, [], h, tt, ap (λ l. l ++ (declares fix xs ∷ [])) e ∙ append-snoc ms (declares vary ys) (declares fix xs ∷ []))
 
-after-rule : (kind : Kind) (stage : Stage) (f : LineForm) (fs : List LineForm) → IsRule f → stage ≡ Ruling → Came kind stage fs → Came kind stage (fs ++ (f ∷ []))
-after-rule kind stage f fs r e c = subst (λ s. Came kind s (fs ++ (f ∷ []))) (sym e) (go kind (subst (λ s. Came kind s fs) e c))
+after-rule : (kind : Kind) (stage : Stage) (f : LineForm) (fs : List LineForm) → AmongRules kind f → stage ≡ Ruling → Came kind stage fs → Came kind stage (fs ++ (f ∷ []))
+after-rule kind stage f fs r e c = subst (λ s. Came kind s (fs ++ (f ∷ []))) (sym e) (go kind r (subst (λ s. Came kind s fs) e c))
   where
-    go : (k : Kind) → Came k Ruling fs → Came k Ruling (fs ++ (f ∷ []))
-    go Plain (xs, rs, h, q) = (xs, rs ++ (f ∷ []), all-app IsRule rs (f ∷ []) h (r, tt), ap (λ l. l ++ (f ∷ [])) q)
-    go Preference (ms, xs, ys, rs, m, h, q) =
-        (ms, xs, ys, rs ++ (f ∷ []), m, all-app IsRule rs (f ∷ []) h (r, tt), ap (λ l. l ++ (f ∷ [])) q ∙ append-assoc ms (declares vary xs ∷ declares fix ys ∷ rs) (f ∷ []))
+    go : (k : Kind) → AmongRules k f → Came k Ruling fs → Came k Ruling (fs ++ (f ∷ []))
+    go Plain a (xs, rs, h, q) = (xs, rs ++ (f ∷ []), all-app (AmongRules Plain) rs (f ∷ []) h (a, tt), ap (λ l. l ++ (f ∷ [])) q)
+    go Preference a (ms, xs, ys, rs, m, h, q) =
+        (ms, xs, ys, rs ++ (f ∷ []), m, all-app (AmongRules Preference) rs (f ∷ []) h (a, tt), ap (λ l. l ++ (f ∷ [])) q ∙ append-assoc ms (declares vary xs ∷ declares fix ys ∷ rs) (f ∷ []))
+
+rule-among : (kind : Kind) (hs bs ns : List (List ℕ)) → AmongRules kind (rules hs bs ns)
+rule-among kind hs bs ns = inl (hs, bs, ns, refl)
+
+when-among : (kind : Kind) (ts : List Token) (a : List ℕ) → kind ≡ Preference → AmongRules kind (condition ts a)
+when-among kind ts a e = inr (e, (ts, a, refl))
 
 after-line : (st : SoFar) (f : LineForm) (fs : List LineForm) → Faultless st f → Came (st .kind) (st .stage) fs → Came (added st f .kind) (added st f .stage) (fs ++ unlessBlank f)
 after-line st (declares w xs) fs none c = after-declaring xs fs (comes-stable (st .kind) (st .stage) w (none BrokenForm)) c
-after-line st (rules hs bs ns) fs none c = after-rule (st .kind) (st .stage) (rules hs bs ns) fs (hs, bs, ns, refl) (ruling-stable (st .stage) (none BrokenForm)) c
+after-line st (rules hs bs ns) fs none c = after-rule (st .kind) (st .stage) (rules hs bs ns) fs (rule-among (st .kind) hs bs ns) (ruling-stable (st .stage) (none BrokenForm)) c
+after-line st (condition ts a) fs none c = go (conditionOf st ts)
+  where
+    order : (st .stage ≡ Ruling) × (st .kind ≡ Preference)
+    order = among-stable (st .kind) (st .stage) (none BrokenForm)
+
+    stays : Came (st .kind) (st .stage) (fs ++ (condition ts a ∷ []))
+    stays = after-rule (st .kind) (st .stage) (condition ts a) fs (when-among (st .kind) ts a (order .1)) (order .0) c
+
+    state : Parsed → SoFar
+    state p = parsedOr p (λ d. with-condition st d (connectivesIn ts) (nameNumber (st .names) a)) st
+
+    go : (p : Parsed) → Came (state p .kind) (state p .stage) (fs ++ (condition ts a ∷ []))
+    go (parsed d) = stays
+    go unparsed = stays
 after-line st blank fs none c = subst (Came (st .kind) (st .stage)) (sym (append-nil fs)) c
 after-line st broken fs none c = absurd (none BrokenForm tt)
 
@@ -46,6 +68,7 @@ after-line st broken fs none c = absurd (none BrokenForm tt)
 abbrev Fits : Kind → Stage → LineForm → Type 0
 Fits kind stage (declares w xs) = Comes kind stage w
 Fits kind stage (rules hs bs ns) = stage ≡ Ruling
+Fits kind stage (condition ts a) = (stage ≡ Ruling) × (kind ≡ Preference)
 Fits kind stage blank = ⊥
 Fits kind stage broken = ⊥
 
@@ -77,8 +100,9 @@ vary-not-min (ys, e) = absurd (let z : _≡_ {A = ℕ} 0 1 = cc in omega arith)
 after-vary : (ms ns : List LineForm) (xs ys : List (List ℕ)) (r s : List LineForm) → All IsMin ms → All IsMin ns → ms ++ (declares vary xs ∷ r) ≡ ns ++ (declares vary ys ∷ s) → r ≡ s
 after-vary ms ns xs ys r s h k e = first-without IsMin ms ns (declares vary xs) (declares vary ys) r s h k vary-not-min vary-not-min e
 
-rule-fits : (kind : Kind) (f : LineForm) → IsRule f → Fits kind Ruling f
-rule-fits kind f (hs, bs, ns, e) = subst (Fits kind Ruling) (sym e) refl
+among-fits : (kind : Kind) (f : LineForm) → AmongRules kind f → Fits kind Ruling f
+among-fits kind f (inl (hs, bs, ns, e)) = subst (Fits kind Ruling) (sym e) refl
+among-fits kind f (inr (k, (ts, a, e))) = subst (Fits kind Ruling) (sym e) (refl, k)
 
 -- a line after which the lines are still in order fits
 next-fits : (kind : Kind) (stage then : Stage) (f : LineForm) (fs : List LineForm) → Came kind stage fs → Came kind then (fs ++ (f ∷ [])) → Fits kind stage f
@@ -90,7 +114,7 @@ next-fits Plain Ruling Declaring f fs c n = absurd (no-append fs f [] n)
 next-fits Plain Ruling Fixing f fs c n = absurd n
 next-fits Plain Ruling Ruling f fs (xs, rs, h, e) (ys, ss, k, q) =
     let t : rs ++ (f ∷ []) ≡ ss = cons-same (sym (ap (λ l. l ++ (f ∷ [])) e) ∙ q) .1 in
-    rule-fits Plain f (all-app-r IsRule rs (f ∷ []) (subst (All IsRule) (sym t) k) .0)
+    among-fits Plain f (all-app-r (AmongRules Plain) rs (f ∷ []) (subst (All (AmongRules Plain)) (sym t) k) .0)
 next-fits Preference Declaring Declaring f fs c n = let m = all-app-r IsMin fs (f ∷ []) n .0 in subst (Fits Preference Declaring) (sym (m .1)) min-line
 next-fits Preference Declaring Fixing f fs c (ms, xs, h, q) = subst (Fits Preference Declaring) (sym (last-same fs ms f (declares vary xs) q .1)) vary-line
 next-fits Preference Declaring Ruling f fs c (ms, xs, ys, rs, h, k, q) = absurd (vary-not-min (not-last IsMin fs ms f (declares vary xs) (declares fix ys) rs c q))
@@ -113,14 +137,18 @@ next-fits Preference Ruling then f fs (ms, xs, ys, rs, h, r, e) n = go then n
     go Fixing (ns, zs, k, q) = absurd (no-cons (after-vary ms ns xs zs (declares fix ys ∷ (rs ++ (f ∷ []))) [] h k (sym is ∙ q)))
     go Ruling (ns, zs, us, ss, k, t, q) =
         let tail : rs ++ (f ∷ []) ≡ ss = cons-same (after-vary ms ns xs zs (declares fix ys ∷ (rs ++ (f ∷ []))) (declares fix us ∷ ss) h k (sym is ∙ q)) .1 in
-        rule-fits Preference f (all-app-r IsRule rs (f ∷ []) (subst (All IsRule) (sym tail) t) .0)
+        among-fits Preference f (all-app-r (AmongRules Preference) rs (f ∷ []) (subst (All (AmongRules Preference)) (sym tail) t) .0)
 
 -- a line breaks the form or the order exactly when the lines with it are no beginning of a file
 order-of : (st : SoFar) (f : LineForm) (fs : List LineForm) → Came (st .kind) (st .stage) fs → BreaksForm st f ↔ OutOfOrder (st .kind) (fs ++ unlessBlank f)
 order-of st (declares w xs) fs c = (λ b s n. b (next-fits (st .kind) (st .stage) s (declares w xs) fs c n), λ o k. o (stageAfter w) (after-declaring xs fs k c))
 order-of st (rules hs bs ns) fs c = (
   λ b s n. b (next-fits (st .kind) (st .stage) s (rules hs bs ns) fs c n),
-  λ o e. o (st .stage) (after-rule (st .kind) (st .stage) (rules hs bs ns) fs (hs, bs, ns, refl) e c),
+  λ o e. o (st .stage) (after-rule (st .kind) (st .stage) (rules hs bs ns) fs (rule-among (st .kind) hs bs ns) e c),
+)
+order-of st (condition ts a) fs c = (
+  λ b s n. b (next-fits (st .kind) (st .stage) s (condition ts a) fs c n),
+  λ o e. o (st .stage) (after-rule (st .kind) (st .stage) (condition ts a) fs (when-among (st .kind) ts a (e .1)) (e .0) c),
 )
 order-of st blank fs c = (λ b. absurd b, λ o. o (st .stage) (subst (Came (st .kind) (st .stage)) (sym (append-nil fs)) c))
 order-of st broken fs c = (λ b s n. next-fits (st .kind) (st .stage) s broken fs c n, λ o. tt)

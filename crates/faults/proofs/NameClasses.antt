@@ -1,8 +1,8 @@
--- The class of a name by its bytes: it is what document 01's words say.
+-- The class of a name by its bytes: it is what the documents' words say.
 use Prim.Native.Nat.{ℕ, suc, _+_, _-_, _≤_, _<_}
 use native.Mathlib.Omega.{arith}
 use native.Mathlib.Decide.{decLt}
-use mathlib.Core.Path.{_≡_, refl, ap, ap₂, _∙_, subst}
+use mathlib.Core.Path.{_≡_, refl, sym, ap, ap₂, _∙_, subst}
 use mathlib.Core.Logic.{_⊎_, inl, inr, _↔_}
 use mathlib.Core.Bool.{true, false, cond, _&&_, _||_}
 use mathlib.Core.List.{List, [], _∷_}
@@ -15,9 +15,11 @@ use Rattle.rules.proofs.Booleans.{eq→eqb, is-true, is-false}
 use Rattle.rules.proofs.Connectives.{or-law, and-law, on-cond}
 use Rattle.rules.proofs.Lists.{every-all}
 use Rattle.names.specs.declared.forms.NameClass.{NameClass}
-use Rattle.names.specs.declared.forms.NameClass.the-variants.{House, Generated, TooLong, Wrong}
-use Rattle.names.specs.Names.{letter?, digit?, firstByte?, nameByte?, house?, classNumber?, byLength, dotted, generated, nameClass}
-use Rattle.faults.specs.NameForms.{NameByte, HouseBytes, HouseName, Marked, ClassNumber, GeneratedName, TooLongName}
+use Rattle.names.specs.declared.forms.NameClass.the-variants.{Common, Generated, TooLong, Wrong}
+use Rattle.names.specs.Numerals.{digit?, value}
+use Rattle.names.specs.Names.{letter?, firstByte?, nameByte?, house?, atomNumber?, madeName?, madeName, commonName?, classNumber?, byLength, dotted, generated, nameClass}
+use Rattle.names.proofs.MadeNames.{made-name-of, made-is, made-short}
+use Rattle.faults.specs.NameForms.{NameByte, HouseBytes, LongHouseName, MadeName, CommonName, Marked, ClassNumber, GeneratedName, TooLongName}
 
 pub eq-law : (m n : ℕ) → T (eqb m n) ↔ (m ≡ n)
 eq-law m n = (eqb→eq m n, eq→eqb m n)
@@ -35,6 +37,34 @@ house-law : (x : List ℕ) → T (house? x) ↔ HouseBytes x
 unfolding house?
 house-law [] = (λ t. t, λ h. h)
 house-law (b ∷ x) = and-law (firstByte? b) (every nameByte? x) (or-law (letter? b) (digit? b) (between 97 b 122) (between 48 b 57)) (every-all nameByte? NameByte byte-law x)
+
+made-law : (x : List ℕ) → T (madeName? x) ↔ MadeName x
+unfolding madeName
+made-law x = (λ t. let m = made-name-of x t in (value (drop 2 x), m .1, m .2, m .0), λ m. subst (λ y. T (madeName? y)) (sym (m .3)) (made-is (m .0) (m .1) (m .2)))
+
+made-sized : (x : List ℕ) → MadeName x → length x ≤ nameLimit
+unfolding madeName
+made-sized x (t, l, u, e) = omega (arith, ap length e, made-short t l u)
+
+-- a name of both kinds, of any length
+abbrev CommonBytes : List ℕ → Type 0
+CommonBytes x = HouseBytes x ⊎ MadeName x
+
+common-law : (x : List ℕ) → T (commonName? x) ↔ CommonBytes x
+unfolding commonName?
+common-law x = or-law (house? x) (madeName? x) (house-law x) (made-law x)
+
+common-short : (x : List ℕ) → CommonBytes x → length x ≤ nameLimit → CommonName x
+common-short x (inl h) l = inl (h, l)
+common-short x (inr m) l = inr m
+
+common-long : (x : List ℕ) → CommonBytes x → nameLimit < length x → LongHouseName x
+common-long x (inl h) l = (h, l)
+common-long x (inr m) l = absurd (omega (arith, made-sized x m))
+
+common-bytes : (x : List ℕ) → CommonName x → CommonBytes x × (length x ≤ nameLimit)
+common-bytes x (inl h) = (inl (h .0), h .1)
+common-bytes x (inr m) = (inr m, made-sized x m)
 
 -- a name of one or two bytes
 
@@ -96,7 +126,7 @@ number-law y = (λ t. there (law .0 t), λ h. law .1 (back h))
 
 -- what a class says of the bytes
 abbrev Classed : List ℕ → NameClass → Type 0
-Classed x House = HouseName x
+Classed x Common = CommonName x
 Classed x Generated = GeneratedName x
 Classed x TooLong = TooLongName x
 Classed x Wrong = Unit {0}
@@ -115,12 +145,12 @@ marked x y c e (inr (inr m)) = inr (inr (e ∙ ap (λ b. b ∷ 46 ∷ y) m))
 
 dotted-classed : (x y : List ℕ) (c : ℕ) → x ≡ c ∷ 46 ∷ y → Classed x (dotted c y)
 dotted-classed x y c e =
-    on-cond (Classed x) ((eqb c 78 || (eqb c 83 || eqb c 68)) && house? y) (byLength y Generated) (cond (eqb c 69 && classNumber? y) Generated Wrong)
-    (λ t. let h = copy .0 t in on-size (Classed x) y Generated (λ l. inl (y, marked x y c e (h .0), (h .1, l))) (λ l. inr (y, marked x y c e (h .0), (h .1, l))))
+    on-cond (Classed x) ((eqb c 78 || (eqb c 83 || eqb c 68)) && commonName? y) (byLength y Generated) (cond (eqb c 69 && classNumber? y) Generated Wrong)
+    (λ t. let h = copy .0 t in on-size (Classed x) y Generated (λ l. inl (y, marked x y c e (h .0), common-short y (h .1) l)) (λ l. inr (y, marked x y c e (h .0), common-long y (h .1) l)))
     (λ f. on-cond (Classed x) (eqb c 69 && classNumber? y) Generated Wrong (λ t. let h = class .0 t in inr (inl (y, e ∙ ap (λ b. b ∷ 46 ∷ y) (h .0), h .1))) (λ g. tt))
   where
-    copy : T ((eqb c 78 || (eqb c 83 || eqb c 68)) && house? y) ↔ (((c ≡ 78) ⊎ ((c ≡ 83) ⊎ (c ≡ 68))) × HouseBytes y)
-    copy = and-law (eqb c 78 || (eqb c 83 || eqb c 68)) (house? y) (or-law (eqb c 78) (eqb c 83 || eqb c 68) (eq-law c 78) (or-law (eqb c 83) (eqb c 68) (eq-law c 83) (eq-law c 68))) (house-law y)
+    copy : T ((eqb c 78 || (eqb c 83 || eqb c 68)) && commonName? y) ↔ (((c ≡ 78) ⊎ ((c ≡ 83) ⊎ (c ≡ 68))) × CommonBytes y)
+    copy = and-law (eqb c 78 || (eqb c 83 || eqb c 68)) (commonName? y) (or-law (eqb c 78) (eqb c 83 || eqb c 68) (eq-law c 78) (or-law (eqb c 83) (eqb c 68) (eq-law c 83) (eq-law c 68))) (common-law y)
 
     class : T (eqb c 69 && classNumber? y) ↔ ((c ≡ 69) × ClassNumber y)
     class = and-law (eqb c 69) (classNumber? y) (eq-law c 69) (number-law y)
@@ -142,8 +172,8 @@ generated-classed x =
 class-says : (x : List ℕ) → Classed x (nameClass x)
 unfolding nameClass
 class-says x =
-    on-cond (Classed x) (house? x) (byLength x House) (generated x)
-    (λ t. let h = house-law x .0 t in on-size (Classed x) x House (λ l. (h, l)) (λ l. inl (h, l)))
+    on-cond (Classed x) (commonName? x) (byLength x Common) (generated x)
+    (λ t. let h = common-law x .0 t in on-size (Classed x) x Common (common-short x h) (λ l. inl (common-long x h l)))
     (λ f. generated-classed x)
 
 -- and back
@@ -154,49 +184,49 @@ sized-short y c l = ap (λ b. cond b c TooLong) (is-true (leb (length y) nameLim
 sized-long : (y : List ℕ) (c : NameClass) → nameLimit < length y → byLength y c ≡ TooLong
 sized-long y c l = ap (λ b. cond b c TooLong) (is-false (leb (length y) nameLimit) (λ t. omega (arith, leb→le (length y) nameLimit t)))
 
-house-class : (x : List ℕ) → HouseBytes x → nameClass x ≡ byLength x House
+common-class : (x : List ℕ) → CommonBytes x → nameClass x ≡ byLength x Common
 unfolding nameClass
-house-class x h = ap (λ b. cond b (byLength x House) (generated x)) (is-true (house? x) (house-law x .1 h))
+common-class x h = ap (λ b. cond b (byLength x Common) (generated x)) (is-true (commonName? x) (common-law x .1 h))
 
-dotted-class : (c : ℕ) (y : List ℕ) → firstByte? c ≡ false → nameClass (c ∷ 46 ∷ y) ≡ dotted c y
-unfolding nameClass house?
-dotted-class c y n =
-    ap (λ b. cond (b && every nameByte? (46 ∷ y)) (byLength (c ∷ 46 ∷ y) House) (generated (c ∷ 46 ∷ y))) n
+dotted-class : (c : ℕ) (y : List ℕ) → firstByte? c ≡ false → eqb c 84 ≡ false → nameClass (c ∷ 46 ∷ y) ≡ dotted c y
+unfolding nameClass commonName? madeName? house?
+dotted-class c y n m =
+    ap₂ (λ a b. cond ((a && every nameByte? (46 ∷ y)) || (b && atomNumber? y)) (byLength (c ∷ 46 ∷ y) Common) (generated (c ∷ 46 ∷ y))) n m
     ∙ ap (λ b. cond (b && eqb c 85) Generated (cond (leb 2 (suc (suc (length y))) && true) (dotted c y) Wrong)) (ne-eqb (suc (suc (length y))) 1 (λ e. omega arith))
     ∙ ap (λ b. cond (b && true) (dotted c y) Wrong) (le-leb 2 (suc (suc (length y))) (omega arith))
 
-marked-class : (x y : List ℕ) → Marked x y → HouseBytes y → nameClass x ≡ byLength y Generated
+marked-class : (x y : List ℕ) → Marked x y → CommonBytes y → nameClass x ≡ byLength y Generated
 marked-class x y m h = go m
   where
-    is-house : cond (house? y) (byLength y Generated) Wrong ≡ byLength y Generated
-    is-house = ap (λ b. cond b (byLength y Generated) Wrong) (is-true (house? y) (house-law y .1 h))
+    is-common : cond (commonName? y) (byLength y Generated) Wrong ≡ byLength y Generated
+    is-common = ap (λ b. cond b (byLength y Generated) Wrong) (is-true (commonName? y) (common-law y .1 h))
 
     go : Marked x y → nameClass x ≡ byLength y Generated
-    go (inl e) = ap nameClass e ∙ dotted-class 78 y refl ∙ is-house
-    go (inr (inl e)) = ap nameClass e ∙ dotted-class 83 y refl ∙ is-house
-    go (inr (inr e)) = ap nameClass e ∙ dotted-class 68 y refl ∙ is-house
+    go (inl e) = ap nameClass e ∙ dotted-class 78 y refl refl ∙ is-common
+    go (inr (inl e)) = ap nameClass e ∙ dotted-class 83 y refl refl ∙ is-common
+    go (inr (inr e)) = ap nameClass e ∙ dotted-class 68 y refl refl ∙ is-common
 
 end-class : (y : List ℕ) → ClassNumber y → nameClass (69 ∷ 46 ∷ y) ≡ Generated
-end-class y h = dotted-class 69 y refl ∙ ap (λ b. cond b Generated Wrong) (is-true (classNumber? y) (number-law y .1 h))
+end-class y h = dotted-class 69 y refl refl ∙ ap (λ b. cond b Generated Wrong) (is-true (classNumber? y) (number-law y .1 h))
 
 u-class : nameClass (85 ∷ []) ≡ Generated
-unfolding nameClass house?
+unfolding nameClass commonName? madeName? house?
 u-class = refl
 
-pub house-iff : (x : List ℕ) → nameClass x ≡ House ↔ HouseName x
-house-iff x = (λ e. subst (Classed x) e (class-says x), λ h. house-class x (h .0) ∙ sized-short x House (h .1))
+pub common-iff : (x : List ℕ) → nameClass x ≡ Common ↔ CommonName x
+common-iff x = (λ e. subst (Classed x) e (class-says x), λ h. let c = common-bytes x h in common-class x (c .0) ∙ sized-short x Common (c .1))
 
 pub long-iff : (x : List ℕ) → nameClass x ≡ TooLong ↔ TooLongName x
 long-iff x = (λ e. subst (Classed x) e (class-says x), back)
   where
     back : TooLongName x → nameClass x ≡ TooLong
-    back (inl h) = house-class x (h .0) ∙ sized-long x House (h .1)
-    back (inr (y, m, h)) = marked-class x y m (h .0) ∙ sized-long y Generated (h .1)
+    back (inl h) = common-class x (inl (h .0)) ∙ sized-long x Common (h .1)
+    back (inr (y, m, h)) = marked-class x y m (inl (h .0)) ∙ sized-long y Generated (h .1)
 
 pub generated-iff : (x : List ℕ) → nameClass x ≡ Generated ↔ GeneratedName x
 generated-iff x = (λ e. subst (Classed x) e (class-says x), back)
   where
     back : GeneratedName x → nameClass x ≡ Generated
-    back (inl (y, m, h)) = marked-class x y m (h .0) ∙ sized-short y Generated (h .1)
+    back (inl (y, m, h)) = let c = common-bytes y h in marked-class x y m (c .0) ∙ sized-short y Generated (c .1)
     back (inr (inl (y, e, h))) = ap nameClass e ∙ end-class y h
     back (inr (inr e)) = ap nameClass e ∙ u-class

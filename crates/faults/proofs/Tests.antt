@@ -1,27 +1,27 @@
--- Each computed test of a line says its sentence of document 01.
-use Prim.Native.Nat.{ℕ}
+-- Each computed test of a line says its sentence of the documents.
+use Prim.Native.Nat.{ℕ, suc, _+_, _≤_, _<_}
 use native.Mathlib.Omega.{arith}
 use mathlib.Core.Path.{_≡_, refl, sym, subst}
 use mathlib.Core.Logic.{_⊎_, inl, inr, _↔_, _≢_}
-use mathlib.Core.Bool.{Bool, not, _||_}
+use mathlib.Core.Bool.{Bool, not, _&&_, _||_}
 use mathlib.Core.List.{List, [], _∷_, _++_, append-nil}
 use lib.Dec.{T}
 use lib.Seq.{append-snoc}
 use Rattle.kinds.specs.declared.limits.Kind.{Kind}
 use Rattle.kinds.specs.declared.limits.Kind.the-variants.{Plain, Preference}
-use Rattle.rules.specs.Lists.{All, Any, Distinct, some}
+use Rattle.rules.specs.Lists.{All, Any, Distinct, some, from}
 use Rattle.rules.proofs.Booleans.{stable, decide, T-or, T-or-out}
-use Rattle.rules.proofs.Connectives.{not-law, or-law}
-use Rattle.rules.proofs.Lists.{all-any, any-imp, any-with, any-app, app-any, some-any}
+use Rattle.rules.proofs.Connectives.{not-law, or-law, and-law}
+use Rattle.rules.proofs.Lists.{all-any, any-imp, any-with, any-app, app-any, some-any, any-from, from-any}
 use Rattle.names.specs.declared.forms.NameClass.{NameClass}
-use Rattle.names.specs.declared.forms.NameClass.the-variants.{House, Generated, TooLong, Wrong}
-use Rattle.names.specs.Names.{nameClass, takes, allowed}
+use Rattle.names.specs.declared.forms.NameClass.the-variants.{Common, Generated, TooLong, Wrong}
+use Rattle.names.specs.Names.{nameClass, takes, allowed, madeName}
 use Rattle.name_store.specs.NameStore.{sameBytes, among}
 use Rattle.name_store.proofs.NameStores.{same-law}
 use Rattle.lines.specs.declared.stage.Stage.{Stage}
 use Rattle.lines.specs.declared.stage.Stage.the-variants.{Declaring, Fixing, Ruling}
 use Rattle.lines.specs.Forms.{Word, atoms, min, vary, fix}
-use Rattle.lines.specs.Faults.{expects, ruling?, twice, refusedName, anyOf, filled}
+use Rattle.lines.specs.Faults.{SoFar, expects, ruling?, conditional?, twice, taken, refusedName, anyOf, filled}
 use Rattle.faults.proofs.NameClasses.{long-iff, generated-iff}
 use Rattle.faults.proofs.LineForms.{not-wrong}
 use Rattle.faults.specs.LineForms.{IsName}
@@ -63,12 +63,31 @@ ruling-law stage = (there stage, λ e. subst (λ s. T (ruling? s)) (sym e) tt)
     there Fixing t = absurd t
     there Ruling t = refl
 
+pub conditional-law : (kind : Kind) → T (conditional? kind) ↔ (kind ≡ Preference)
+conditional-law kind = (there kind, λ e. subst (λ k. T (conditional? k)) (sym e) tt)
+  where
+    there : (k : Kind) → T (conditional? k) → k ≡ Preference
+    there Plain t = absurd t
+    there Preference t = refl
+
+-- no declaring line comes among the rules
+pub comes-before : {kind : Kind} {stage : Stage} {w : Word} → Comes kind stage w → stage ≢ Ruling
+comes-before atoms-line e = absurd (let z : _≡_ {A = ℕ} 0 1 = cc in omega arith)
+comes-before min-line e = absurd (let z : _≡_ {A = ℕ} 0 1 = cc in omega arith)
+comes-before vary-line e = absurd (let z : _≡_ {A = ℕ} 0 1 = cc in omega arith)
+comes-before fix-line e = absurd (let z : _≡_ {A = ℕ} 0 1 = cc in omega arith)
+
 -- the order is decided
 pub comes-stable : (kind : Kind) (stage : Stage) (w : Word) → ((Comes kind stage w → ⊥) → ⊥) → Comes kind stage w
 comes-stable kind stage w h = let law = comes-law kind stage w in law .0 (stable (expects kind stage w) (λ n. h (λ c. n (law .1 c))))
 
 pub ruling-stable : (stage : Stage) → ((stage ≢ Ruling) → ⊥) → stage ≡ Ruling
 ruling-stable stage h = let law = ruling-law stage in law .0 (stable (ruling? stage) (λ n. h (λ c. n (law .1 c))))
+
+pub among-stable : (kind : Kind) (stage : Stage) → (((stage ≡ Ruling) × (kind ≡ Preference) → ⊥) → ⊥) → (stage ≡ Ruling) × (kind ≡ Preference)
+among-stable kind stage h =
+    let law = and-law (ruling? stage) (conditional? kind) (ruling-law stage) (conditional-law kind) in
+    law .0 (stable (ruling? stage && conditional? kind) (λ n. h (λ c. n (law .1 c))))
 
 -- 3
 
@@ -82,11 +101,11 @@ module _ (kind : Kind) (x : List ℕ) where
   class-law = (there kind (nameClass x), back kind (nameClass x))
     where
       there : (k : Kind) (c : NameClass) → T (not (takes k c)) → ClassRefused k c
-      there Plain House t = absurd t
+      there Plain Common t = absurd t
       there Plain Generated t = absurd t
       there Plain TooLong t = inl (inl refl)
       there Plain Wrong t = inr refl
-      there Preference House t = absurd t
+      there Preference Common t = absurd t
       there Preference Generated t = inl (inr (refl, refl))
       there Preference TooLong t = inl (inl refl)
       there Preference Wrong t = inr refl
@@ -224,6 +243,17 @@ lists-law hs bs ns = or-law (twice [] hs) (twice [] bs || twice [] ns) (one hs) 
 
 pub undeclared-law : (names : List (List ℕ)) (x : List ℕ) → T (not (among names x)) ↔ (Among names x → ⊥)
 undeclared-law names x = not-law (among names x) (among-law names x)
+
+-- 4, of the atoms that a condition makes
+
+pub taken-law : (st : SoFar) (count : ℕ) → T (taken st count) ↔ ((t : ℕ) × (st .made < t) × (t ≤ st .made + count) × Among (st .names) (madeName t))
+taken-law st count = let law = some-any (λ t. among (st .names) (madeName t)) Declared (λ t. among-law (st .names) (madeName t)) (from (suc (st .made)) count) in (
+  λ h. let r = from-any Declared (suc (st .made)) count (law .0 h) in (r .0, omega arith, omega arith, r .3),
+  λ (t, l, u, d). law .1 (any-from Declared (suc (st .made)) count t (omega arith) (omega arith) d),
+)
+  where
+    Declared : ℕ → Type 0
+    Declared t = Among (st .names) (madeName t)
 
 -- 8
 

@@ -13,7 +13,7 @@ use Rattle.lines.specs.declared.stage.Stage.the-variants.{Ruling}
 use Rattle.lines.specs.Lines.{lines}
 use Rattle.lines.specs.Forms.{formOf}
 use Rattle.lines.specs.Faults.{SoFar}
-use Rattle.lines.specs.Said.{start, programOf}
+use Rattle.lines.specs.Said.{start, placed, programOf}
 use Rattle.faults.specs.Sentences.{Lowest, Faultless, added}
 
 -- none of the lines has a fault, and they lead from one state to the other
@@ -43,13 +43,13 @@ pub record MissingLine (text : List ℕ) (r : Refusal) (k : ℕ) : Type 0 where
 abbrev pub RefusedAt : List ℕ → Refusal → ℕ → Type 0
 RefusedAt text r k = FaultyLine text r k ⊎ MissingLine text r k
 
--- no line has a fault, none is missing, and they declare this program with these names
+-- no line has a fault, none is missing, and they declare this program with these names; the atoms that conditions made stand in their place (document 02, W-208)
 pub record DeclaredAs (text : List ℕ) (p : Program) (names : List (List ℕ)) : Type 0 where
   pub state : SoFar
   pub passed : Passed (start text) (lines text) state
   pub complete : state .stage ≡ Ruling
-  pub program : p ≡ programOf state
-  pub are-names : names ≡ state .names
+  pub program : p ≡ programOf (placed state)
+  pub are-names : names ≡ placed state .names
 
 -- and this is what remains of it: a preference program without the atoms that stand in no rule (document 02, W-203)
 pub record AcceptedAs (text : List ℕ) (p : Program) (names : List (List ℕ)) : Type 0 where

@@ -4,11 +4,12 @@ use mathlib.Core.Path.{_≡_}
 use mathlib.Core.Logic.{_⊎_, _≢_}
 use mathlib.Core.List.{List, [], _∷_, _++_, map}
 use lib.ListN.{replicate}
-use Rattle.kinds.specs.Words.{space, open-bracket, close-bracket, line-end, comment-mark, ruleWord, headWord, bodyWord, notWord}
+use Rattle.kinds.specs.Words.{space, open-bracket, close-bracket, line-end, comment-mark, ruleWord, headWord, bodyWord, notWord, whenWord, thenWord}
 use Rattle.rules.specs.Lists.{All}
 use Rattle.lines.specs.Tokens.{Token, opening, closing, word}
-use Rattle.lines.specs.Forms.{Word, wordBytes, LineForm, declares, rules, blank, broken}
-use Rattle.faults.specs.NameForms.{HouseName, GeneratedName, TooLongName}
+use Rattle.lines.specs.Conditions.{wordsIn}
+use Rattle.lines.specs.Forms.{Word, wordBytes, LineForm, declares, rules, condition, blank, broken}
+use Rattle.faults.specs.NameForms.{CommonName, GeneratedName, TooLongName}
 
 -- brackets and words
 
@@ -42,7 +43,7 @@ AreTokens l (word x ∷ ts) = (k : ℕ) × (s : List ℕ) × (l ≡ behindSpaces
 
 -- a name, allowed in its file or not
 abbrev pub IsName : List ℕ → Type 0
-IsName x = HouseName x ⊎ (GeneratedName x ⊎ TooLongName x)
+IsName x = CommonName x ⊎ (GeneratedName x ⊎ TooLongName x)
 
 -- byte 10 is its last
 abbrev pub Ended : List ℕ → Type 0
@@ -60,11 +61,25 @@ declaringTokens w xs = listThen (wordBytes w) xs []
 abbrev pub ruleTokens : List (List ℕ) → List (List ℕ) → List (List ℕ) → List Token
 ruleTokens hs bs ns = opening ∷ word ruleWord ∷ listThen headWord hs (listThen bodyWord bs (listThen notWord ns (closing ∷ [])))
 
+-- `(when COND (then a))`, whatever stands for COND (document 02, W-208)
+abbrev pub conditionTokens : List Token → List ℕ → List Token
+conditionTokens ts a = opening ∷ word whenWord ∷ (ts ++ (opening ∷ word thenWord ∷ word a ∷ closing ∷ closing ∷ []))
+
+-- the brackets pair
+pub data Paired : List Token → Type 0 where
+  nothing : Paired []
+  a-word : {x : List ℕ} {ts : List Token} → Paired ts → Paired (word x ∷ ts)
+  in-brackets : {us vs : List Token} → Paired us → Paired vs → Paired (opening ∷ (us ++ (closing ∷ vs)))
+
 abbrev pub DeclaringLine : List ℕ → Word → List (List ℕ) → Type 0
 DeclaringLine l w xs = Ended l × AreTokens l (declaringTokens w xs) × All IsName xs
 
 abbrev pub RuleLine : List ℕ → List (List ℕ) → List (List ℕ) → List (List ℕ) → Type 0
 RuleLine l hs bs ns = Ended l × AreTokens l (ruleTokens hs bs ns) × All IsName hs × All IsName bs × All IsName ns
+
+-- its lack of "a last `(then a))`" is 2, "as are brackets that don't pair as one form"
+abbrev pub ConditionLine : List ℕ → List Token → List ℕ → Type 0
+ConditionLine l ts a = Ended l × AreTokens l (conditionTokens ts a) × Paired ts × All IsName (wordsIn ts ++ (a ∷ []))
 
 abbrev pub BlankLine : List ℕ → Type 0
 BlankLine l = Ended l × AreTokens l []
@@ -73,5 +88,8 @@ BlankLine l = Ended l × AreTokens l []
 abbrev pub HasForm : List ℕ → LineForm → Type 0
 HasForm l (declares w xs) = DeclaringLine l w xs
 HasForm l (rules hs bs ns) = RuleLine l hs bs ns
+HasForm l (condition ts a) = ConditionLine l ts a
 HasForm l blank = BlankLine l
-HasForm l broken = ((w : Word) (xs : List (List ℕ)) → DeclaringLine l w xs → ⊥) × ((hs bs ns : List (List ℕ)) → RuleLine l hs bs ns → ⊥) × (BlankLine l → ⊥)
+HasForm l broken =
+    ((w : Word) (xs : List (List ℕ)) → DeclaringLine l w xs → ⊥) × ((hs bs ns : List (List ℕ)) → RuleLine l hs bs ns → ⊥)
+    × ((ts : List Token) (a : List ℕ) → ConditionLine l ts a → ⊥) × (BlankLine l → ⊥)

@@ -10,7 +10,7 @@ use Rattle.kinds.specs.declared.limits.Kind.the-variants.{Plain, Preference}
 use Rattle.rules.specs.Lists.{All, some}
 use Rattle.rules.proofs.Booleans.{is-true}
 use Rattle.names.specs.declared.forms.NameClass.{NameClass}
-use Rattle.names.specs.declared.forms.NameClass.the-variants.{House, Generated, TooLong, Wrong}
+use Rattle.names.specs.declared.forms.NameClass.the-variants.{Common, Generated, TooLong, Wrong}
 use Rattle.names.specs.Names.{nameClass, takes, allowed}
 use Rattle.name_store.specs.NameStore.{sameBytes, among}
 use Rattle.name_store.proofs.NameStores.{same-law}
@@ -20,7 +20,7 @@ use Rattle.lines.specs.Faults.{refusedName}
 use Rattle.numbering.specs.Numbers.{undeclared}
 
 taken : (kind : Kind) (c : NameClass) → takes kind c ≡ true → isName c ≡ true
-taken kind House e = refl
+taken kind Common e = refl
 taken kind Generated e = refl
 taken kind TooLong e = refl
 taken Plain Wrong e = e

@@ -7,3 +7,4 @@ pub mod LinePlaces
 pub mod Tags
 pub mod NameLists
 pub mod LineShapes
+pub mod Parsing

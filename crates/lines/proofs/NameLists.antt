@@ -9,7 +9,7 @@ use lib.ListN.{length, drop}
 use Rattle.kinds.specs.declared.limits.Kind.{Kind}
 use Rattle.kinds.specs.declared.limits.Kind.the-variants.{Plain, Preference}
 use Rattle.names.specs.declared.forms.NameClass.{NameClass}
-use Rattle.names.specs.declared.forms.NameClass.the-variants.{House, Generated, TooLong, Wrong}
+use Rattle.names.specs.declared.forms.NameClass.the-variants.{Common, Generated, TooLong, Wrong}
 use Rattle.names.specs.Names.{nameClass, takes, allowed}
 use Rattle.name_store.specs.NameStore.{sameBytes}
 use Rattle.name_store.proofs.NameStores.{same-self}
@@ -41,11 +41,11 @@ Says kind c Fit.Refused = (isName c ≡ true) × (not (takes kind c) ≡ true)
 Says kind c Fit.Wrong = isName c ≡ false
 
 says : (kind : Kind) (c : NameClass) → Says kind c (classFit kind c)
-says Plain House = (refl, refl)
+says Plain Common = (refl, refl)
 says Plain Generated = (refl, refl)
 says Plain TooLong = (refl, refl)
 says Plain Wrong = refl
-says Preference House = (refl, refl)
+says Preference Common = (refl, refl)
 says Preference Generated = (refl, refl)
 says Preference TooLong = (refl, refl)
 says Preference Wrong = refl

@@ -12,8 +12,7 @@ use Rattle.kinds.specs.declared.refusals.Refusal.{Refusal}
 use Rattle.kinds.specs.declared.refusals.Refusal.the-variants.{BrokenForm, Name, DeclaredTwice, Undeclared, TwiceInList, Limit, FilledNot, BrokenCondition, DeepBrackets}
 use Rattle.rules.specs.Lists.{some, sum, from}
 use Rattle.rules.specs.Rules.{Rule, rule, occurrences}
-use Rattle.names.specs.Names.{allowed}
-use Rattle.conditions.specs.Left.{madeName}
+use Rattle.names.specs.Names.{allowed, madeName}
 use Rattle.name_store.specs.NameStore.{sameBytes, among}
 use Rattle.conditions.specs.Conditions.{Cond}
 use Rattle.conditions.specs.Numbers.{conditionRules}

@@ -4,7 +4,7 @@ use mathlib.Core.Bool.{Bool, true, false, cond}
 use mathlib.Core.List.{List, [], _∷_, _++_}
 use Rattle.rules.specs.Lists.{every}
 use Rattle.names.specs.declared.forms.NameClass.{NameClass}
-use Rattle.names.specs.declared.forms.NameClass.the-variants.{House, Generated, TooLong, Wrong}
+use Rattle.names.specs.declared.forms.NameClass.the-variants.{Common, Generated, TooLong, Wrong}
 use Rattle.names.specs.Names.{nameClass}
 use Rattle.name_store.specs.NameStore.{sameBytes}
 use Rattle.kinds.specs.Words.{atomsWord, minWord, varyWord, fixWord, ruleWord, headWord, bodyWord, notWord, whenWord, thenWord}
@@ -154,7 +154,7 @@ unfoldable pub typedForm : List ℕ → LineForm
 typedForm l = cond (ended? l) (tokenForm (tokens l)) broken
 
 abbrev pub isName : NameClass → Bool
-isName House = true
+isName Common = true
 isName Generated = true
 isName TooLong = true
 isName Wrong = false

@@ -9,7 +9,7 @@ use Rattle.kinds.specs.declared.limits.Kind.{Kind}
 use Rattle.kinds.specs.declared.limits.Kind.the-variants.{Plain, Preference}
 use Rattle.rules.specs.Lists.{some, empty?}
 use Rattle.names.specs.declared.forms.NameClass.{NameClass}
-use Rattle.names.specs.declared.forms.NameClass.the-variants.{House, Generated, TooLong, Wrong}
+use Rattle.names.specs.declared.forms.NameClass.the-variants.{Common, Generated, TooLong, Wrong}
 use Rattle.names.specs.Names.{nameClass}
 use Rattle.name_store.specs.NameStore.{sameBytes}
 use Rattle.kinds.specs.Words.{space}
@@ -92,7 +92,7 @@ pub record OpenedIs (s : List ℕ) (at : ℕ) (w : List ℕ) (r : Place) : Type 
 
 -- what names of a class are to a kind
 abbrev pub classFit : Kind → NameClass → NameFit
-classFit kind House = Fit.Taken
+classFit kind Common = Fit.Taken
 classFit Plain Generated = Fit.Taken
 classFit Preference Generated = Fit.Refused
 classFit kind TooLong = Fit.Refused

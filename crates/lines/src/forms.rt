@@ -58,7 +58,7 @@ pub fn name_fit(name: &[u8], kind: Kind) -> NameFit
     ensures { λ r. ⌜ r ≡ nameFit kind (now (name .entry)) ⌝ }
 {
     match names::forms::name_class(name) {
-        NameClass::House => NameFit::Taken,
+        NameClass::Common => NameFit::Taken,
         NameClass::Generated => match kind {
             Kind::Plain => NameFit::Taken,
             Kind::Preference => NameFit::Refused,

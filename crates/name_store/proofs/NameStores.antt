@@ -17,8 +17,9 @@ use Rattle.rules.specs.Lists.{All, Distinct, some}
 use Rattle.rules.proofs.Booleans.{T-and, T-and-l, T-and-r, T-or, T-or-out, T-of, T-not-in, T-not-out}
 use Rattle.rules.proofs.Lists.{all-app, all-app-l, all-app-r, all-imp}
 use Rattle.names.specs.declared.forms.NameClass.{NameClass}
-use Rattle.names.specs.declared.forms.NameClass.the-variants.{House, Generated, TooLong, Wrong}
-use Rattle.names.specs.Names.{house?, classNumber?, digit?, byLength, dotted, generated, nameClass, takes, allowed}
+use Rattle.names.specs.declared.forms.NameClass.the-variants.{Common, Generated, TooLong, Wrong}
+use Rattle.names.specs.Numerals.{digit?}
+use Rattle.names.specs.Names.{commonName?, classNumber?, byLength, dotted, generated, nameClass, takes, allowed}
 use Rattle.name_store.specs.NameStore.{nameBytes, encodeNames, NamesForm, NamesOf, firstName, decodeNames, sameBytes, namesFrom?, names?}
 
 -- the test of two names is equality
@@ -76,7 +77,7 @@ module _ (kind : Kind) where
 
   dotted-short : (c : ℕ) (bs : List ℕ) → T (takes kind (dotted c bs)) → length bs ≤ nameLimit
   dotted-short c bs h =
-      picked ((eqb c 78 || (eqb c 83 || eqb c 68)) && house? bs) (byLength bs Generated) (cond (eqb c 69 && classNumber? bs) Generated Wrong)
+      picked ((eqb c 78 || (eqb c 83 || eqb c 68)) && commonName? bs) (byLength bs Generated) (cond (eqb c 69 && classNumber? bs) Generated Wrong)
       (λ t k. sized-short bs Generated k)
       (picked (eqb c 69 && classNumber? bs) Generated Wrong
       (λ t k. omega (arith, number-short bs (T-and-r (eqb c 69) (classNumber? bs) t)))
@@ -86,8 +87,8 @@ module _ (kind : Kind) where
   class-short : (bs : List ℕ) → T (takes kind (nameClass bs)) → length bs ≤ longestName
   unfolding nameClass
   class-short bs h =
-      picked (house? bs) (byLength bs House) (generated bs)
-      (λ t k. omega (arith, sized-short bs House k))
+      picked (commonName? bs) (byLength bs Common) (generated bs)
+      (λ t k. omega (arith, sized-short bs Common k))
       (picked (eqb (length bs) 1 && eqb (getD bs 0 0) 85) Generated (cond (leb 2 (length bs) && eqb (getD bs 1 0) 46) (dotted (getD bs 0 0) (drop 2 bs)) Wrong)
       (λ t k. omega (arith, eqb→eq (length bs) 1 (T-and-l (eqb (length bs) 1) (eqb (getD bs 0 0) 85) t)))
       (picked (leb 2 (length bs) && eqb (getD bs 1 0) 46) (dotted (getD bs 0 0) (drop 2 bs)) Wrong

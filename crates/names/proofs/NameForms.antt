@@ -13,9 +13,10 @@ use borrow.Author.Tests.{le-leb, lt-leb, ne-eqb}
 use Rattle.kinds.specs.declared.limits.Kind.{Kind}
 use Rattle.kinds.specs.declared.limits.Kind.the-variants.{Plain, Preference}
 use Rattle.rules.specs.Lists.{every}
-use Rattle.names.specs.Names.{letter?, digit?, firstByte?, nameByte?, house?, classNumber?, byLength, dotted, generated, nameClass, takes}
+use Rattle.names.specs.Names.{letter?, firstByte?, nameByte?, house?, commonName?, classNumber?, byLength, dotted, generated, nameClass, takes}
+use Rattle.names.specs.Numerals.{digit?}
 use Rattle.names.specs.declared.forms.NameClass.{NameClass}
-use Rattle.names.specs.declared.forms.NameClass.the-variants.{House, Generated, TooLong, Wrong}
+use Rattle.names.specs.declared.forms.NameClass.the-variants.{Common, Generated, TooLong, Wrong}
 
 -- a loop that tests every entry, at i
 pub record Every (p : ℕ → Bool) (xs : List ℕ) (i : ℕ) : Type 0 where
@@ -88,19 +89,19 @@ pub number-none : (bs : List ℕ) → (length bs ≡ 1 → ⊥) → (length bs �
 unfolding classNumber?
 number-none bs a b = simp (ne-eqb _ _ a, ne-eqb _ _ b)
 
--- a mark before a house name
+-- a mark before a name of both kinds
 abbrev pub Copy : ℕ → Type 0
 Copy c = (c ≡ 68) ⊎ ((c ≡ 78) ⊎ (c ≡ 83))
 
-pub dotted-copy : (c : ℕ) (bs : List ℕ) {r : Bool} → Copy c → r ≡ house? bs → r ≡ true → byLength bs Generated ≡ dotted c bs
+pub dotted-copy : (c : ℕ) (bs : List ℕ) {r : Bool} → Copy c → r ≡ commonName? bs → r ≡ true → byLength bs Generated ≡ dotted c bs
 dotted-copy c bs (inl e) f g = simp (e, sym f ∙ g)
 dotted-copy c bs (inr (inl e)) f g = simp (e, sym f ∙ g)
 dotted-copy c bs (inr (inr e)) f g = simp (e, sym f ∙ g)
 
-pub dotted-no-house : (c : ℕ) (bs : List ℕ) {r : Bool} → Copy c → r ≡ house? bs → r ≡ false → Wrong ≡ dotted c bs
-dotted-no-house c bs (inl e) f g = simp (e, sym f ∙ g)
-dotted-no-house c bs (inr (inl e)) f g = simp (e, sym f ∙ g)
-dotted-no-house c bs (inr (inr e)) f g = simp (e, sym f ∙ g)
+pub dotted-no-common : (c : ℕ) (bs : List ℕ) {r : Bool} → Copy c → r ≡ commonName? bs → r ≡ false → Wrong ≡ dotted c bs
+dotted-no-common c bs (inl e) f g = simp (e, sym f ∙ g)
+dotted-no-common c bs (inr (inl e)) f g = simp (e, sym f ∙ g)
+dotted-no-common c bs (inr (inr e)) f g = simp (e, sym f ∙ g)
 
 pub dotted-number : (c : ℕ) (bs : List ℕ) {r : Bool} → c ≡ 69 → r ≡ classNumber? bs → r ≡ true → Generated ≡ dotted c bs
 dotted-number c bs e f g = simp (e, sym f ∙ g)
@@ -131,17 +132,17 @@ module _ (bs : List ℕ) (some : length bs ≡ 0 → ⊥) (more : length bs ≡ 
   pub generated-plain : (getD bs 1 0 ≡ 46 → ⊥) → Wrong ≡ generated bs
   generated-plain e = simp (ne-eqb _ _ more, two, ne-eqb _ _ e)
 
-pub class-house : (bs : List ℕ) {r : Bool} → r ≡ house? bs → r ≡ true → byLength bs House ≡ nameClass bs
+pub class-common : (bs : List ℕ) {r : Bool} → r ≡ commonName? bs → r ≡ true → byLength bs Common ≡ nameClass bs
 unfolding nameClass
-class-house bs f g = simp (sym f ∙ g)
+class-common bs f g = simp (sym f ∙ g)
 
-pub class-generated : (bs : List ℕ) {r : Bool} → r ≡ house? bs → r ≡ false → generated bs ≡ nameClass bs
+pub class-generated : (bs : List ℕ) {r : Bool} → r ≡ commonName? bs → r ≡ false → generated bs ≡ nameClass bs
 unfolding nameClass
 class-generated bs f g = simp (sym f ∙ g)
 
-pub takes-house : (kind : Kind) {class : NameClass} → class ≡ House → true ≡ takes kind class
-takes-house Plain e = sym (ap (takes Plain) e)
-takes-house Preference e = sym (ap (takes Preference) e)
+pub takes-common : (kind : Kind) {class : NameClass} → class ≡ Common → true ≡ takes kind class
+takes-common Plain e = sym (ap (takes Plain) e)
+takes-common Preference e = sym (ap (takes Preference) e)
 
 pub takes-long : (kind : Kind) {class : NameClass} → class ≡ TooLong → false ≡ takes kind class
 takes-long Plain e = sym (ap (takes Plain) e)

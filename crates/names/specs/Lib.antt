@@ -1,2 +1,3 @@
--- Which bytes are names.
+-- Decimal numbers, and which bytes are names.
+pub mod Numerals
 pub mod Names

@@ -1,12 +1,14 @@
 // What the bytes of a name are (document 01, "The two kinds of file"; refusals 2 and 3).
 use kinds::limits::Kind;
+use kinds::limits::Preference;
 ghost use mathlib.Core.Path.{_≡_};
 ghost use Rattle.rules.specs.Lists.{every};
-ghost use Rattle.names.specs.Names.{letter?, digit?, firstByte?, nameByte?, house?, classNumber?, byLength, dotted, generated, nameClass, takes};
+ghost use Rattle.names.specs.Numerals.{digit?};
+ghost use Rattle.names.specs.Names.{letter?, firstByte?, nameByte?, house?, atomNumber, madeNumber, commonName?, classNumber?, byLength, dotted, generated, nameClass, takes};
 
 pub enum NameClass {
-    // A house name.
-    House,
+    // A name of both kinds: a house name, or `T.` and a number.
+    Common,
     // A name that only a plain program takes.
     Generated,
     // A house name that is too long, also after `N.`, `S.` or `D.`.
@@ -71,6 +73,57 @@ pub fn house_form(bytes: &[u8]) -> bool
     is_first_byte(bytes[0]) && all_name_bytes(&bytes[1..])
 }
 
+// The number from 1 to 256 that digits say without leading zero, 0 for other bytes.
+pub fn atom_number(bytes: &[u8]) -> usize
+    ensures { λ r. ⌜ r ≡ atomNumber (now (bytes .entry)) ⌝ }
+{
+    if bytes.len() == 0 {
+        return 0;
+    }
+    if 3 < bytes.len() {
+        return 0;
+    }
+    if bytes[0] == b'0' {
+        return 0;
+    }
+    let mut value: usize = 0;
+    let mut i: usize = 0;
+    while i < bytes.len() {
+        let b = bytes[i];
+        if !is_digit(b) {
+            return 0;
+        }
+        value = 10 * value + (b - b'0') as usize;
+        i += 1;
+    }
+    if value <= Preference::ATOMS { value } else { 0 }
+}
+
+// The number behind `T.`, 0 for other bytes.
+pub fn made_number(bytes: &[u8]) -> usize
+    ensures { λ r. ⌜ r ≡ madeNumber (now (bytes .entry)) ⌝ }
+{
+    if bytes.len() < 2 {
+        return 0;
+    }
+    if bytes[0] == b'T' {
+        if bytes[1] == b'.' {
+            return atom_number(&bytes[2..]);
+        }
+    }
+    0
+}
+
+// A name of both kinds but for its length.
+pub fn common_form(bytes: &[u8]) -> bool
+    ensures { λ r. ⌜ r ≡ commonName? (now (bytes .entry)) ⌝ }
+{
+    if house_form(bytes) {
+        return true;
+    }
+    0 < made_number(bytes)
+}
+
 // 0 to 16 without leading zero.
 pub fn class_number(bytes: &[u8]) -> bool
     ensures { λ r. ⌜ r ≡ classNumber? (now (bytes .entry)) ⌝ }
@@ -86,7 +139,7 @@ pub fn class_number(bytes: &[u8]) -> bool
     false
 }
 
-// A name of the house form, by its length.
+// A name, by its length.
 pub fn sized_class(bytes: &[u8], class: NameClass) -> NameClass
     ensures { λ r. ⌜ r ≡ byLength (now (bytes .entry)) class ⌝ }
 {
@@ -97,13 +150,13 @@ pub fn sized_class(bytes: &[u8], class: NameClass) -> NameClass
     }
 }
 
-// `N.`, `S.` or `D.` before a house name, `E.` before a class number.
+// `N.`, `S.` or `D.` before a name of both kinds, `E.` before a class number.
 pub fn dotted_class(mark: u8, bytes: &[u8]) -> NameClass
     ensures { λ r. ⌜ r ≡ dotted mark (now (bytes .entry)) ⌝ }
 {
     match mark {
         b'N' | b'S' | b'D' => {
-            if house_form(bytes) {
+            if common_form(bytes) {
                 return sized_class(bytes, NameClass::Generated);
             }
             NameClass::Wrong
@@ -140,8 +193,8 @@ pub fn generated_class(bytes: &[u8]) -> NameClass
 pub fn name_class(bytes: &[u8]) -> NameClass
     ensures { λ r. ⌜ r ≡ nameClass (now (bytes .entry)) ⌝ }
 {
-    if house_form(bytes) {
-        return sized_class(bytes, NameClass::House);
+    if common_form(bytes) {
+        return sized_class(bytes, NameClass::Common);
     }
     generated_class(bytes)
 }
@@ -151,7 +204,7 @@ pub fn takes_class(kind: Kind, class: NameClass) -> bool
     ensures { λ r. ⌜ r ≡ takes kind class ⌝ }
 {
     match class {
-        NameClass::House => true,
+        NameClass::Common => true,
         NameClass::Generated => match kind {
             Kind::Plain => true,
             Kind::Preference => false,

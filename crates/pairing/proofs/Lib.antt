@@ -14,6 +14,5 @@ pub mod SumLaws
 pub mod Sums
 pub mod PlainForm
 pub mod Looped
-pub mod Decimals
 pub mod PlainNames
 pub mod Examples

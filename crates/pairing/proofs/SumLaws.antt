@@ -7,11 +7,11 @@ use mathlib.Core.List.{List, [], _∷_}
 use mathlib.Core.Bool.{Bool, true, false, not}
 use mathlib.Core.Logic.{_⊎_, inl, inr}
 use lib.Dec.{T, eqb, eqb→eq}
-use lib.ListN.{length, length-append}
-use Rattle.rules.specs.Lists.{keep, filter, flat, from, sum}
+use lib.ListN.{length}
+use Rattle.rules.specs.Lists.{keep, filter, from, sum}
 use Rattle.rules.proofs.Booleans.{eq→eqb}
 use Rattle.rules.proofs.Sets.{digit}
-use Rattle.rules.proofs.Lists.{sum-app, sum-eq}
+use Rattle.rules.proofs.Lists.{sum-eq}
 use Rattle.rules.proofs.ListLaws.{all-each}
 
 module _ {A : Type 0} where
@@ -37,14 +37,6 @@ module _ {A : Type 0} where
   length-filter t (x ∷ l) = omega (arith, length-keep (t x) x (filter t l), length-filter t l)
 
 module _ {A B : Type 0} where
-  pub sum-flat : (f : B → ℕ) (g : A → List B) (l : List A) → sum f (flat g l) ≡ sum (λ a. sum f (g a)) l
-  sum-flat f g [] = refl
-  sum-flat f g (x ∷ l) = omega (arith, sum-app f (g x) (flat g l), sum-flat f g l)
-
-  pub length-flat : (g : A → List B) (l : List A) → length (flat g l) ≡ sum (λ a. length (g a)) l
-  length-flat g [] = refl
-  length-flat g (x ∷ l) = omega (arith, length-append (g x) (flat g l), length-flat g l)
-
   pub sum-swap : (f : A → B → ℕ) (xs : List A) (ys : List B) → sum (λ a. sum (f a) ys) xs ≡ sum (λ b. sum (λ a. f a b) xs) ys
   sum-swap f [] ys = sym (sum-const 0 ys ∙ omega arith)
   sum-swap f (x ∷ xs) ys = ap (λ (n : ℕ). sum (f x) ys + n) (sum-swap f xs ys) ∙ sym (sum-add (f x) (λ b. sum (λ a. f a b) xs) ys)

@@ -14,7 +14,7 @@ use Rattle.rules.specs.Rules.{occurrences}
 use Rattle.rules.specs.Preferred.{ofClass}
 use Rattle.rules.proofs.Booleans.{eq→eqb}
 use Rattle.rules.proofs.Lists.{all-imp, all-from, length-from, sum-app, sum-eq, sum-twice}
-use Rattle.rules.proofs.MappedLists.{sum-map}
+use Rattle.rules.proofs.MappedLists.{sum-map, sum-flat, length-flat}
 use Rattle.rules.proofs.Rules.{rename-occurrences}
 use Rattle.rules.proofs.Sets.{digit}
 use Rattle.stores.specs.Program.{Program, ProgramForm}
@@ -22,7 +22,7 @@ use Rattle.pairing.specs.Atoms.{original, S, originals, classWord, minim
 use Rattle.pairing.specs.Steps.{step1, step2, step3, step4, step5, step6, step7, step8, step9, step10, translation}
 use Rattle.pairing.specs.Translated.{translated, translatedRules, numbers, atomsSum, rulesSum, occurrencesSum}
 use Rattle.rules.proofs.ListLaws.{all-each}
-use Rattle.pairing.proofs.SumLaws.{sum-add, sum-const, sum-flat, sum-swap, length-flat, length-filter, length-parts, length-keep, sum-keep, digit-same, digit-other, met, met-not, met-once}
+use Rattle.pairing.proofs.SumLaws.{sum-add, sum-const, sum-swap, length-filter, length-parts, length-keep, sum-keep, digit-same, digit-other, met, met-not, met-once}
 use Rattle.pairing.proofs.Fit.{Fit, Minimised, Inside, fit-of}
 use Rattle.pairing.proofs.Numbering.{count}
 

@@ -8,6 +8,9 @@ pub mod NumberedNames
 pub mod ClassParts
 pub mod UsedNames
 pub mod LineSteps
+pub mod FormedLines
+pub mod PlacedLines
+pub mod Delivering
 pub mod Progress
 pub mod WrittenLines
 pub mod SameLines

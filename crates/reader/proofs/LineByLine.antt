@@ -5,7 +5,7 @@ use native.Mathlib.Omega.{arith}
 use mathlib.Core.Path.{_≡_, refl, sym, ap, _∙_, subst}
 use mathlib.Core.Bool.{Bool, true, false, not, cond}
 use mathlib.Core.List.{List, [], _∷_}
-use lib.ListN.{length, drop, drop-of-length-le}
+use lib.ListN.{length, length-append, drop, drop-of-length-le}
 use borrow.Author.Tests.{not-true, not-false}
 use Rattle.kinds.specs.Words.{atomsWord}
 use Rattle.kinds.specs.declared.limits.Kind.{Kind}
@@ -25,37 +25,38 @@ use Rattle.lines.specs.declared.scan.Place.{Place}
 use Rattle.lines.specs.declared.scan.Place.the-variants as Place
 use Rattle.lines.specs.Tokens.{Token, tokens}
 use Rattle.lines.specs.Shapes.{opensWith, OpenedSays, OpenedIs}
-use Rattle.lines.specs.Forms.{Opened, opened, unopened, openedOf, LineForm, declares, rules, blank, broken, formOf}
-use Rattle.lines.specs.Faults.{SoFar, next, fault, ruling?, addRule, stepForm}
-use Rattle.lines.specs.Said.{Said, accepted, refused, kindOpened, kindBy, kindOf, onStep, readLines, start, programOf}
+use Rattle.lines.specs.Forms.{Opened, opened, unopened, openedOf, LineForm, declares, rules, condition, blank, broken, formOf}
+use Rattle.conditions.specs.Numbers.{conditionRules}
+use Rattle.lines.specs.Faults.{SoFar, next, fault, ruling?, nameNumber, numbered, stepForm}
+use Rattle.lines.specs.Said.{Said, accepted, refused, kindOpened, kindBy, kindOf, onStep, readLines, start, programOf, placed}
 use Rattle.gathering.specs.Gathered.{stateOf, Held, HeldIndex, HeldMarks, LineSays, LineIs, MarksSay, MarksAre}
+use Rattle.reader.specs.FormedState.{Formed}
 use Rattle.reader.specs.Gathering.{startCounts, passedOn, atEnd, GatherSays, GatherIs}
 use Rattle.lines.proofs.LinePlaces.{line, line-inside, lines-at}
 use Rattle.gathering.proofs.HeldState.{rules-is, held-is}
-use Rattle.reader.proofs.LineSteps.{declare-said}
+use Rattle.reader.proofs.LineSteps.{declare-said, rule-said, condition-said}
+use Rattle.reader.proofs.FormedLines.{line-formed, start-formed}
 
--- a line before the rules adds none
+-- rules are only added, so marks of earlier rules stay below the next one's
 
-early : (st : SoFar) (hs bs ns : List (List ℕ)) → ruling? (st .stage) ≡ false → addRule st hs bs ns ≡ fault BrokenForm
-unfolding addRule
-early st hs bs ns n = rw n
+more-rules : (st after : SoFar) (f : LineForm) → stepForm st f ≡ next after → length (st .program-rules) ≤ length (after .program-rules)
+more-rules st after (declares w xs) e = omega (arith, ap (λ z. length (z .program-rules)) (declare-said st w xs after e .1))
+more-rules st after (rules hs bs ns) e = omega (arith, ap (λ z. length (z .program-rules)) (rule-said st hs bs ns after e .1), length-append (st .program-rules) (numbered (st .names) hs bs ns ∷ []))
+more-rules st after (condition ts a) e =
+    let d = condition-said st ts a after e in
+    omega (arith, ap (λ z. length (z .program-rules)) (d .2), length-append (st .program-rules) (conditionRules (length (st .names)) (d .0) (nameNumber (st .names) a)))
+more-rules st after blank e = let same : st ≡ after = cc in omega (arith, ap (λ z. length (z .program-rules)) same)
+more-rules st after broken e = absurd (let z : _≡_ {A = ℕ} 0 1 = cc in omega arith)
 
-early-rules : (st after : SoFar) (f : LineForm) → ruling? (st .stage) ≡ false → stepForm st f ≡ next after → after .program-rules ≡ st .program-rules
-early-rules st after (declares w xs) n e = ap (λ z. z .program-rules) (sym (declare-said st w xs after e .1))
-early-rules st after (rules hs bs ns) n e = absurd (let i : fault BrokenForm ≡ next after = sym (early st hs bs ns n) ∙ e in let z : _≡_ {A = ℕ} 0 1 = cc in omega arith)
-early-rules st after blank n e = let same : st ≡ after = cc in ap (λ z. z .program-rules) (sym same)
-early-rules st after broken n e = absurd (let z : _≡_ {A = ℕ} 0 1 = cc in omega arith)
-
-module _ {kind : Kind} {g : Gathered} {words bytes : List ℕ} (h : Held kind (stateOf kind g words bytes) g words bytes) (n : ruling? (g .stage) ≡ false) {f : LineForm} where
-  pub early-marks : {words′ bytes′ starts′ firsts′ links′ : List ℕ} {a : Line} → LineIs kind (stateOf kind g words bytes) f words′ bytes′ starts′ firsts′ links′ a → {marks : List ℕ} → HeldMarks g marks → MarksAre marks a
-  early-marks {words′} {bytes′} {starts′} {firsts′} {links′} {a} w {marks} m = record { says = go a (w .says) }
+module _ {kind : Kind} {g : Gathered} {words bytes : List ℕ} (h : Held kind (stateOf kind g words bytes) g words bytes) {f : LineForm} where
+  pub later-marks : {words′ bytes′ starts′ firsts′ links′ : List ℕ} {a : Line} → LineIs kind (stateOf kind g words bytes) f words′ bytes′ starts′ firsts′ links′ a → {marks : List ℕ} → HeldMarks g marks → MarksAre marks a
+  later-marks {words′} {bytes′} {starts′} {firsts′} {links′} {a} w {marks} m = record { says = go a (w .says) }
     where
       go : (b : Line) → LineSays kind (stateOf kind g words bytes) f words′ bytes′ starts′ firsts′ links′ b → MarksSay marks b
       go (Fault r) k = tt
       go (Next g′) k =
-          let same = early-rules (stateOf kind g words bytes) (stateOf kind g′ words′ bytes′) f (sym (ap ruling? (h .stage-is)) ∙ n) (k .0) in
-          let count : g′ .counts .rules ≡ g .counts .rules = rules-is (k .1) ∙ ap length same ∙ sym (rules-is h) in
-          record { below = subst (λ c. Below (3 * c + 1) marks) (sym count) (m .below); room = m .room }
+          let more = more-rules (stateOf kind g words bytes) (stateOf kind g′ words′ bytes′) f (k .0) in
+          record { below = record { mark = λ x. omega (arith, m .below .mark x, more, rules-is (k .1), rules-is h) }; room = m .room }
 
 -- the lines before `at` are read
 pub record Reading (kind : Kind) (s : List ℕ) (g : Gathered) (words bytes starts firsts links marks : List ℕ) (at number : ℕ) : Type 0 where
@@ -64,6 +65,7 @@ pub record Reading (kind : Kind) (s : List ℕ) (g : Gathered) (words bytes star
   pub held : Held kind (stateOf kind g words bytes) g words bytes
   pub index : HeldIndex g bytes starts firsts links
   pub marked : HeldMarks g marks
+  pub formed : Formed (stateOf kind g words bytes)
   pub left : readLines number (stateOf kind g words bytes) (lines (drop at s)) ≡ readLines 1 (start s) (lines s)
 
 pub reading : {kind : Kind} {s : List ℕ} {g : Gathered} {words bytes starts firsts links marks : List ℕ}
@@ -77,6 +79,7 @@ reading {kind} {s} {g} {words} {bytes} {starts} {firsts} {links} {marks} h x m e
       held = subst (λ st. Held kind st startCounts words bytes) is h;
       index = x;
       marked = m;
+      formed = subst Formed is (start-formed s);
       left = ap (λ st. readLines 1 st (lines s)) (sym is);
     })
 
@@ -88,7 +91,7 @@ module _ {kind : Kind} {s : List ℕ} {g : Gathered} {words bytes starts firsts 
   whole = readLines 1 (start s) (lines s)
 
   module _ (o : length s ≤ at) where
-    lines-end : cond (ruling? (st .stage)) (accepted (programOf st) (st .names)) (refused BrokenForm number) ≡ whole
+    lines-end : cond (ruling? (st .stage)) (accepted (programOf (placed st)) (placed st .names)) (refused BrokenForm number) ≡ whole
     unfolding readLines lines linesFrom
     lines-end = ap (λ l. readLines number st (linesFrom 0 l)) (sym (drop-of-length-le s o)) ∙ h .left
 
@@ -96,7 +99,7 @@ module _ {kind : Kind} {s : List ℕ} {g : Gathered} {words bytes starts firsts 
     no-line-left k = record { says = subst (GatherSays kind whole words bytes) (sym k) (go (ruling? (g .stage)) (sym (ap ruling? (h .held .stage-is)))) }
       where
         go : (r : Bool) → ruling? (st .stage) ≡ r → GatherSays kind whole words bytes (cond r (Whole g) (Refused BrokenForm number))
-        go true d = (sym (rw d at lines-end), h .held)
+        go true d = (sym (rw d at lines-end), h .held, h .formed)
         go false d = sym (rw d at lines-end)
 
   module _ (l : at < length s) {n : ℕ} (e : n ≡ lineLength (drop at s)) where
@@ -120,6 +123,7 @@ module _ {kind : Kind} {s : List ℕ} {g : Gathered} {words bytes starts firsts 
             held = k .1;
             index = k .2;
             marked = subst (MarksSay marks′) d (m .says);
+            formed = line-formed st (stateOf kind g′ words′ bytes′) (formOf (line s at l e)) (h .formed) (k .0);
             left = ap (λ m. readLines m (stateOf kind g′ words′ bytes′) (lines (drop (at + n) s))) (add-one number) ∙ (rw (k .0) at step);
           }
 

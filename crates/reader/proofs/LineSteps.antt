@@ -1,21 +1,25 @@
--- What a line that passes says, and when a line passes: the conditions of a declaring line and of a rule.
-use Prim.Native.Nat.{ℕ, _≤_}
+-- What a line that passes says, and when a line passes: a declaring line, a rule, a condition.
+use Prim.Native.Nat.{ℕ, suc, _≤_}
 use native.Mathlib.Omega.{arith}
 use mathlib.Core.Path.{_≡_, refl, sym, _∙_, subst}
 use mathlib.Core.Logic.{_⊎_, inl, inr, _↔_}
 use mathlib.Core.Bool.{Bool, true, false, not, _&&_, _||_}
-use mathlib.Core.List.{List, [], _∷_}
+use mathlib.Core.List.{List, [], _∷_, _++_}
 use lib.Dec.{T, leb, leb→le, le→leb}
-use Rattle.kinds.specs.Limits.{classLimit, within}
+use Rattle.kinds.specs.Limits.{bracketLimit, classLimit, within}
 use Rattle.kinds.specs.declared.limits.Kind.{Kind}
+use Rattle.kinds.specs.declared.limits.Kind.the-variants.{Plain, Preference}
 use Rattle.kinds.specs.declared.refusals.Refusal.{Refusal}
-use Rattle.kinds.specs.declared.refusals.Refusal.the-variants.{BrokenForm, Name, DeclaredTwice, Undeclared, TwiceInList, Limit, FilledNot}
-use Rattle.rules.specs.Lists.{All, Distinct, some}
+use Rattle.kinds.specs.declared.refusals.Refusal.the-variants.{BrokenForm, Name, DeclaredTwice, Undeclared, TwiceInList, Limit, FilledNot, DeepBrackets}
+use Rattle.rules.specs.Lists.{All, Distinct, some, from}
 use Rattle.rules.proofs.Booleans.{is-true, stable, T-not-in, T-not-out, T-and, T-and-l, T-and-r, T-or, T-or-out}
-use Rattle.names.specs.Names.{allowed}
+use Rattle.names.specs.Names.{allowed, madeName}
 use Rattle.name_store.specs.NameStore.{among}
+use Rattle.conditions.specs.Conditions.{Cond}
+use Rattle.lines.specs.Tokens.{Token}
+use Rattle.lines.specs.Conditions.{namesIn, connectivesIn, deeper, Parsed, parsed, unparsed, parse}
 use Rattle.lines.specs.Forms.{Word}
-use Rattle.lines.specs.Faults.{SoFar, countsOf, Step, next, expects, ruling?, classesAfter, twice, refusedName, anyOf, first, declared, declare, numbered, with-rule, filled, addRule}
+use Rattle.lines.specs.Faults.{SoFar, countsOf, Step, next, expects, ruling?, classesAfter, twice, refusedName, anyOf, first, declared, declare, numbered, with-rule, filled, addRule, nameNumber, with-condition, allCounts, taken, conditional?, onParsed, addCondition}
 use Rattle.gathering.proofs.HeldState.{Fits, within-limits, limits-within}
 use Rattle.faults.specs.Sentences.{Among}
 use Rattle.faults.proofs.Tests.{among-law}
@@ -205,3 +209,72 @@ module _ (st : SoFar) (hs bs ns : List (List ℕ)) where
       ∙ passes twiceAny TwiceInList limited (none-of (twice []) hs bs ns .1 (h .2, b .2, n .2))
       ∙ passes (not rulesFit) Limit (first (filled (st .kind) ns) FilledNot added) (holds rulesFit .1 (subst T (sym (limits-within (d .counts-fit))) tt))
       ∙ passes (filled (st .kind) ns) FilledNot added (d .no-nots)
+
+-- a condition
+
+none-taken : {A : Type 0} (p : A → Bool) (P : A → Type 0) → ((a : A) → T (p a) ↔ P a) → (l : List A) → (T (some p l) → ⊥) → All (λ a. P a → ⊥) l
+none-taken p P law [] h = tt
+none-taken p P law (x ∷ l) h = (λ k. h (T-or (p x) (some p l) (inl (law x .1 k))), none-taken p P law l (λ t. h (T-or (p x) (some p l) (inr t))))
+
+pub record Speaks (st : SoFar) (ts : List Token) (a : List ℕ) (c : Cond) : Type 0 where
+  pub ruling : T (ruling? (st .stage))
+  pub is-preference : st .kind ≡ Preference
+  pub parsed-as : parse (nameNumber (st .names)) (suc (st .made)) ts ≡ parsed c
+  pub untaken : All (λ t. Among (st .names) (madeName t) → ⊥) (from (suc (st .made)) (connectivesIn ts))
+  pub all-declared : All (Among (st .names)) (namesIn ts ++ (a ∷ []))
+  pub counts-fit : Fits (st .kind) (allCounts (with-condition st c (connectivesIn ts) (nameNumber (st .names) a)))
+
+module _ (st : SoFar) (ts : List Token) (a : List ℕ) where
+  abbrev called : List (List ℕ)
+  called = namesIn ts ++ (a ∷ [])
+
+  abbrev spoken : Cond → SoFar
+  spoken c = with-condition st c (connectivesIn ts) (nameNumber (st .names) a)
+
+  abbrev allFit : Cond → Bool
+  allFit c = within (st .kind) (allCounts (spoken c))
+
+  abbrev inCounts : Cond → Step
+  inCounts c = first (not (allFit c)) Limit (next (spoken c))
+
+  abbrev inNames : Cond → Step
+  inNames c = first (some (λ x. not (among (st .names) x)) called) Undeclared (inCounts c)
+
+  abbrev inMade : Cond → Step
+  inMade c = first (taken st (connectivesIn ts)) DeclaredTwice (inNames c)
+
+  abbrev inAllowed : Cond → Step
+  inAllowed c = first (some (refusedName (st .kind)) called) Name (inMade c)
+
+  abbrev inDepth : Cond → Step
+  inDepth c = first (deeper bracketLimit ts) DeepBrackets (inAllowed c)
+
+  preference : (k : Kind) → T (conditional? k) → k ≡ Preference
+  preference Plain t = absurd t
+  preference Preference t = refl
+
+  pub condition-said : (after : SoFar) → addCondition st ts a ≡ next after → (c : Cond) × Speaks st ts a c × (spoken c ≡ after)
+  unfolding addCondition
+  condition-said after e =
+      let e₁ = passed (not (ruling? (st .stage) && conditional? (st .kind))) BrokenForm (onParsed (parse (nameNumber (st .names)) (suc (st .made)) ts) inDepth) e in
+      go (parse (nameNumber (st .names)) (suc (st .made)) ts) refl (holds (ruling? (st .stage) && conditional? (st .kind)) .0 (e₁ .0)) (e₁ .1)
+    where
+      go : (p : Parsed) → parse (nameNumber (st .names)) (suc (st .made)) ts ≡ p → T (ruling? (st .stage) && conditional? (st .kind)) → onParsed p inDepth ≡ next after → (c : Cond) × Speaks st ts a c × (spoken c ≡ after)
+      go (parsed c) q t i =
+          let e₂ = passed (deeper bracketLimit ts) DeepBrackets (inAllowed c) i in
+          let e₃ = passed (some (refusedName (st .kind)) called) Name (inMade c) (e₂ .1) in
+          let e₄ = passed (taken st (connectivesIn ts)) DeclaredTwice (inNames c) (e₃ .1) in
+          let e₅ = passed (some (λ x. not (among (st .names) x)) called) Undeclared (inCounts c) (e₄ .1) in
+          let e₆ = passed (not (allFit c)) Limit (next (spoken c)) (e₅ .1) in (
+            c,
+            record {
+              ruling = T-and-l (ruling? (st .stage)) (conditional? (st .kind)) t;
+              is-preference = preference (st .kind) (T-and-r (ruling? (st .stage)) (conditional? (st .kind)) t);
+              parsed-as = q;
+              untaken = none-taken (λ t. among (st .names) (madeName t)) (λ t. Among (st .names) (madeName t)) (λ t. among-law (st .names) (madeName t)) (from (suc (st .made)) (connectivesIn ts)) (e₄ .0);
+              all-declared = all-declared-law (st .names) called .0 (e₅ .0);
+              counts-fit = within-limits (st .kind) (allCounts (spoken c)) (is-true (allFit c) (holds (allFit c) .0 (e₆ .0)));
+            },
+            next-inj (e₆ .1),
+          )
+      go unparsed q t i = absurd (let z : _≡_ {A = ℕ} 0 1 = cc in omega arith)

@@ -23,16 +23,18 @@ use Rattle.lines.specs.Tokens.{run, tokensFrom, tokens}
 use Rattle.lines.specs.Forms.{Word, wordBytes, atoms, min, vary, fix, openedOf}
 use Rattle.lines.specs.Strict.{strictText, Strict}
 use Rattle.lines.specs.Faults.{SoFar, ruling?}
-use Rattle.lines.specs.Said.{Said, accepted, refused, kindOf, start, readLines, typed, whatRemains, said, programOf}
+use Rattle.lines.specs.Said.{Said, accepted, refused, kindOf, start, readLines, typed, whatRemains, said, programOf, placed}
 use Rattle.text.proofs.TextLength.{text-fits}
 use Rattle.restriction.specs.Remaining.{restrict, remaining, remainingNames, AllUsed}
 use Rattle.restriction.proofs.Forms.{remaining-form, remaining-names}
 use Rattle.restriction.proofs.Whole.{remaining-plain, names-plain, remaining-kind, remaining-preference, names-preference, remaining-whole, names-whole, all-used, all-left}
 use Rattle.faults.specs.EarliestFault.{Accepts}
 use Rattle.faults.proofs.EarliestFault.{apart, same-accepted, typed-accepted, said-accepted}
-use Rattle.reader.specs.WrittenText.{TypedText}
+use Rattle.reader.specs.WrittenText.{NoConditions, TypedText}
 use Rattle.reader.specs.RoundTrips.{WritesBack, RoundTrips}
-use Rattle.reader.proofs.Progress.{state, AllSaid, lines-said, start-said}
+use Rattle.reader.proofs.FormedLines.{state, start-formed}
+use Rattle.reader.proofs.PlacedLines.{none-placed, lines-formed, declared-form, lines-kind, plain-none}
+use Rattle.reader.proofs.Progress.{lines-told, start-told}
 use Rattle.reader.proofs.UsedNames.{used-text}
 use Rattle.reader.proofs.WrittenLines.{Reads, counted, reads-then, reads-rules, reads-declarations}
 use Rattle.reader.proofs.SameLines.{same-text, lines-ended}
@@ -51,18 +53,15 @@ read-lines : (text : List ℕ) → length text ≤ textLimit → typed text ≡ 
 unfolding typed
 read-lines text short = ap (λ b. cond b (readLines 1 (start text) (lines text)) (refused TextTooLong 0)) (is-true (leb (length text) textLimit) (le→leb (length text) textLimit short))
 
-declared-text : (text : List ℕ) (p : Program) (names : List (List ℕ)) → typed text ≡ accepted p names → AllSaid p names (strictText text)
+-- the text of all that is declared is the text as strict lines, if no line is a condition
+pub typed-write : (text : List ℕ) (p : Program) (names : List (List ℕ)) → NoConditions text → typed text ≡ accepted p names → textOf p names ≡ strictText text
 unfolding strictText
-declared-text text p names e = lines-said 1 (start text) (lines text) [] (start-said text) (lines-read text p names e)
-
--- the text of all that is declared is the text as strict lines
-pub typed-write : (text : List ℕ) (p : Program) (names : List (List ℕ)) → typed text ≡ accepted p names → textOf p names ≡ strictText text
-typed-write text p names e = declared-text text p names e .text-is
+typed-write text p names u e = lines-told 1 (start text) (lines text) [] (start-told text) u (lines-read text p names e)
 
 -- what is declared and what is left of it is of the form, and the names fit
 
 pub typed-form : (text : List ℕ) (p : Program) (names : List (List ℕ)) → typed text ≡ accepted p names → ProgramForm p × NamesForm (p .kind) (p .atoms) names
-typed-form text p names e = let s = declared-text text p names e in (s .form, s .names-form)
+typed-form text p names e = declared-form (lines-formed 1 (start text) (lines text) (start-formed text) (lines-read text p names e))
 
 pub accepted-form : (text : List ℕ) (p : Program) (names : List (List ℕ)) → said text ≡ accepted p names → ProgramForm p × NamesForm (p .kind) (p .atoms) names
 unfolding said
@@ -118,14 +117,14 @@ start-is : (kind : Kind) (p : Program) (names : List (List ℕ)) (rest : List �
 unfolding start
 start-is kind p names rest = ap (λ k. state k Declaring 0 [] [] []) (starts kind p names rest)
 
-typed-read : (text : List ℕ) (st end : SoFar) → length text ≤ textLimit → start text ≡ st → Reads st text end → T (ruling? (end .stage)) → typed text ≡ accepted (programOf end) (end .names)
+typed-read : (text : List ℕ) (st end : SoFar) → length text ≤ textLimit → start text ≡ st → Reads st text end → T (ruling? (end .stage)) → typed text ≡ accepted (programOf (placed end)) (placed end .names)
 unfolding readLines lines linesFrom
 typed-read text st end short e r ruling =
     let last = r .reads 1 [] in
     read-lines text short
     ∙ ap₂ (λ s t. readLines 1 s (lines t)) e (sym (append-nil text))
     ∙ last .1
-    ∙ ap (λ b. cond b (accepted (programOf end) (end .names)) (refused BrokenForm (last .0))) (is-true (ruling? (end .stage)) ruling)
+    ∙ ap (λ b. cond b (accepted (programOf (placed end)) (placed end .names)) (refused BrokenForm (last .0))) (is-true (ruling? (end .stage)) ruling)
 
 -- the state after the last line of a program's text
 abbrev endState : Program → List (List ℕ) → SoFar
@@ -141,10 +140,16 @@ start-program : (p : Program) (names : List (List ℕ)) → start (textOf p name
 unfolding textOf
 start-program p names = start-is (p .kind) p names (flat (ruleText names) (p .rules))
 
+-- no line of it is a condition
+pub written-none : (p : Program) (names : List (List ℕ)) → ProgramForm p → NamesForm (p .kind) (p .atoms) names → NoConditions (textOf p names)
+unfolding lines linesFrom
+written-none p names f g = subst NoConditions (append-nil (textOf p names)) (reads-program p names f g .forms [] tt)
+
 -- stores of the form are written to a text that declares them
 pub write-typed : (p : Program) (names : List (List ℕ)) → ProgramForm p → NamesForm (p .kind) (p .atoms) names → typed (textOf p names) ≡ accepted p names
 write-typed p names f g =
     typed-read (textOf p names) (state (p .kind) Declaring 0 [] [] []) (endState p names) (text-fits f g) (start-program p names) (reads-program p names f g) tt
+    ∙ ap (λ z. accepted (programOf z) (z .names)) (none-placed (endState p names) refl)
     ∙ ap (λ n. accepted (counting n) names) (g .count)
   where
     counting : ℕ → Program
@@ -161,12 +166,12 @@ plain-back p names f g e = write-read p names f g ∙ ap₂ accepted (remaining-
 
 -- every written text is strict
 pub written-strict : (p : Program) (names : List (List ℕ)) → ProgramForm p → NamesForm (p .kind) (p .atoms) names → Strict (textOf p names)
-written-strict p names f g = sym (typed-write (textOf p names) p names (write-typed p names f g))
+written-strict p names f g = sym (typed-write (textOf p names) p names (written-none p names f g) (write-typed p names f g))
 
--- the accepted texts are those whose strict text is written from stores of the form
-pub accepted-iff : (text : List ℕ) → ((p : Program) × (names : List (List ℕ)) × (said text ≡ accepted p names)) ↔ TypedText text
+-- the accepted texts without conditions are those whose strict text is written from stores of the form
+pub accepted-iff : (text : List ℕ) → NoConditions text → ((p : Program) × (names : List (List ℕ)) × (said text ≡ accepted p names)) ↔ TypedText text
 unfolding said
-accepted-iff text = (
+accepted-iff text none = (
   λ h. let a = said-accepted text (h .0) (h .1) .0 (h .2) in there (a .0) (a .1 .whole) (a .1 .whole-names) (typed-accepted text (a .1 .whole) (a .1 .whole-names) .1 (a .0, a .1 .declared)),
   λ w. (remaining (w .written .program), remainingNames (w .written .program) (w .written .names), ap whatRemains (back w)),
 )
@@ -177,7 +182,7 @@ accepted-iff text = (
         record {
           short = short;
           ended = lines-ended 1 (start text) (lines text) (lines-read text p names e);
-          written = record { program = p; names = names; form = f .0; names-form = f .1; is-text = typed-write text p names e };
+          written = record { program = p; names = names; form = f .0; names-form = f .1; is-text = typed-write text p names none e };
         }
 
     back : (w : TypedText text) → typed text ≡ accepted (w .written .program) (w .written .names)
@@ -230,11 +235,11 @@ module _ (text : List ℕ) (p : Program) (names : List (List ℕ)) (a : Accepts 
       let again = sym (write-typed (remaining whole) (remainingNames whole whole-names) left-form left-names) ∙ ap typed (sym text-left ∙ t) ∙ declared in
       all-left whole (ap (λ (q : Program). q .atoms) (sym (remaining-preference whole e) ∙ same-accepted again .0))
 
-  whole-text : textOf whole whole-names ≡ strictText text
-  whole-text = typed-write text whole whole-names declared
+  whole-text : NoConditions text → textOf whole whole-names ≡ strictText text
+  whole-text u = typed-write text whole whole-names u declared
 
   plain-text : p .kind ≡ Plain → textOf p names ≡ strictText text
-  plain-text e = let k = whole-kind e in text-left ∙ ap₂ textOf (remaining-plain whole k) (names-plain whole whole-names k) ∙ whole-text
+  plain-text e = let k = whole-kind e in text-left ∙ ap₂ textOf (remaining-plain whole k) (names-plain whole whole-names k) ∙ whole-text (plain-none 1 (start text) (lines text) (sym (lines-kind 1 (start text) (lines text) (lines-read text whole whole-names declared)) ∙ k) (lines-read text whole whole-names declared))
 
   strict-left : Strict (textOf p names)
   strict-left = subst Strict (sym text-left) (written-strict (remaining whole) (remainingNames whole whole-names) left-form left-names)
@@ -246,8 +251,8 @@ module _ (text : List ℕ) (p : Program) (names : List (List ℕ)) (a : Accepts 
     plain-unaltered = λ e. (λ t. sym (plain-text e) ∙ t, λ s. plain-text e ∙ s);
     preference = λ e. let k = whole-kind e in text-left ∙ ap₂ textOf (remaining-preference whole k) (names-preference whole whole-names k) ∙ used-text whole whole-names (form .0) k;
     unaltered = λ e. (
-      λ t. (subst Strict t strict-left, same-used (whole-kind e) t),
-      λ h. text-left ∙ ap₂ textOf (remaining-whole whole (form .0) (h .1)) (names-whole whole (form .0) (h .1) whole-names (form .1 .count)) ∙ whole-text ∙ h .0,
+      λ t. (subst Strict t strict-left, same-used (whole-kind e) t, subst NoConditions (sym text-left ∙ t) (written-none (remaining whole) (remainingNames whole whole-names) left-form left-names)),
+      λ h. text-left ∙ ap₂ textOf (remaining-whole whole (form .0) (h .1)) (names-whole whole (form .0) (h .1) whole-names (form .1 .count)) ∙ whole-text (h .2) ∙ h .0,
     );
     again = said-accepted (textOf p names) p names .0 (ap said text-left ∙ write-read (remaining whole) (remainingNames whole whole-names) left-form left-names ∙ ap₂ accepted (stays .0 ∙ sym (a .1 .program)) (stays .1 ∙ sym (a .1 .are-names)));
   }

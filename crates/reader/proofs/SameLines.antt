@@ -10,16 +10,17 @@ use Rattle.stores.specs.Program.{Program}
 use Rattle.lines.specs.declared.stage.Stage.the-variants.{Declaring}
 use Rattle.lines.specs.Lines.{lines, linesFrom}
 use Rattle.lines.specs.Tokens.{Token, tokens}
-use Rattle.lines.specs.Forms.{LineForm, declares, rules, blank, broken, tokenForm, formOf}
+use Rattle.lines.specs.Forms.{LineForm, declares, rules, condition, blank, broken, tokenForm, formOf}
 use Rattle.lines.specs.Strict.{strictLine, strictText}
 use Rattle.lines.specs.Faults.{SoFar, Step, next, fault, ruling?, stepForm}
-use Rattle.lines.specs.Said.{accepted, refused, kindBy, kindOf, start, onStep, readLines, programOf}
+use Rattle.lines.specs.Said.{accepted, refused, kindBy, kindOf, start, onStep, readLines, programOf, placed}
 use Rattle.faults.specs.LineForms.{Ended, HasForm}
 use Rattle.faults.proofs.EarliestFault.{apart}
 use Rattle.faults.proofs.LineTokens.{tokens-iff}
 use Rattle.faults.proofs.LineForms.{form-of, form-iff}
 use Rattle.reader.proofs.StrictLines.{token-forms, strict-tokens, strict-ended}
-use Rattle.reader.proofs.Progress.{state, strict}
+use Rattle.reader.proofs.FormedLines.{state}
+use Rattle.reader.proofs.Progress.{strict}
 use Rattle.reader.proofs.WrittenLines.{lines-cons}
 
 no-lines : lines [] ≡ []
@@ -51,7 +52,7 @@ same-end : (k j : ℕ) (st : SoFar) (p : Program) (names : List (List ℕ)) → 
 unfolding readLines
 same-end k j st p names = go (ruling? (st .stage))
   where
-    go : (b : Bool) → cond b (accepted (programOf st) (st .names)) (refused BrokenForm k) ≡ accepted p names ↔ cond b (accepted (programOf st) (st .names)) (refused BrokenForm j) ≡ accepted p names
+    go : (b : Bool) → cond b (accepted (programOf (placed st)) (placed st .names)) (refused BrokenForm k) ≡ accepted p names ↔ cond b (accepted (programOf (placed st)) (placed st .names)) (refused BrokenForm j) ≡ accepted p names
     go true = (λ e. e, λ e. e)
     go false = (λ e. absurd (apart (sym e)), λ e. absurd (apart (sym e)))
 
@@ -101,5 +102,6 @@ lines-ended k st (l ∷ ls) {p} {names} e = go (formOf l) (form-iff l (formOf l)
     go : (f : LineForm) → HasForm l f → ((after : SoFar) → readLines (suc k) after ls ≡ accepted p names → All Ended ls) → onStep (stepForm st f) k (λ after. readLines (suc k) after ls) ≡ accepted p names → Ended l × All Ended ls
     go (declares w xs) h r i = later (h .0) (stepForm st (declares w xs)) r i
     go (rules hs bs ns) h r i = later (h .0) (stepForm st (rules hs bs ns)) r i
+    go (condition ts a) h r i = later (h .0) (stepForm st (condition ts a)) r i
     go blank h r i = later (h .0) (next st) r i
     go broken h r i = absurd (apart (sym i))

@@ -22,15 +22,15 @@ use Rattle.reader.specs.declared.reading.Gather.{Gather}
 use Rattle.reader.specs.declared.reading.Gather.the-variants as Gather
 use Rattle.gathering.specs.declared.gathered.Gathered.{Gathered}
 use Rattle.lines.specs.Lines.{lines}
-use Rattle.stores.specs.Program.{Program, ProgramForm}
 use Rattle.restriction.specs.Remaining.{remaining, remainingNames}
-use Rattle.lines.specs.Said.{kindOf, start, readLines, typed, whatRemains, said, programOf}
+use Rattle.lines.specs.Said.{kindOf, start, readLines, typed, whatRemains, said, programOf, placed}
 use Rattle.answers.specs.Reading.{readAnswer, readRules, readNames}
 use Rattle.gathering.specs.Gathered.{stateOf, Held, HeldIndex, HeldMarks}
 use Rattle.delivery.specs.Delivered.{Delivered}
 use Rattle.delivery.proofs.Outcomes.{refused-as, delivered-as}
+use Rattle.lines.specs.Faults.{SoFar}
+use Rattle.reader.specs.FormedState.{Formed}
 use Rattle.reader.specs.Gathering.{startCounts, GatherSays, GatherIs}
-use Rattle.reader.proofs.RoundTrip.{typed-form}
 use Rattle.numbering.proofs.NameBlocks.{empty-index}
 use Rattle.gathering.proofs.HeldState.{limits-within}
 
@@ -98,17 +98,14 @@ module _ (text rules names : List ℕ) where
       lines-refused e = refused-as (said text) rules names (said-lines ∙ ap whatRemains (gather e))
 
       module _ {g : Gathered} (e : q ≡ Gather.Whole g) where
-        abbrev program : Program
-        program = programOf (stateOf kind g words bytes)
-
-        abbrev atom-names : List (List ℕ)
-        atom-names = stateOf kind g words bytes .names
+        abbrev st : SoFar
+        st = stateOf kind g words bytes
 
         -- what is gathered is of the form
-        pub lines-held : Held kind (stateOf kind g words bytes) g words bytes × ProgramForm program
-        lines-held = (gather e .1, typed-form text program atom-names (typed-lines ∙ gather e .0) .0)
+        pub lines-held : Held kind st g words bytes × Formed st
+        lines-held = (gather e .1, gather e .2)
 
-        pub delivered : {rules′ names′ : List ℕ} {r : Read} → Delivered (remaining program) (remainingNames program atom-names) rules names rules′ names′ r
+        pub delivered : {rules′ names′ : List ℕ} {r : Read} → Delivered (remaining (programOf (placed st))) (remainingNames (programOf (placed st)) (placed st .names)) rules names rules′ names′ r
             → (r ≡ readAnswer text (length rules) (length names)) × ((rules′ ≡ readRules text rules names) × (names′ ≡ readNames text rules names))
         unfolding readAnswer readRules readNames
         delivered d = delivered-as (said text) rules names (said-lines ∙ ap whatRemains (gather e .0)) d

@@ -17,7 +17,7 @@ use Rattle.rules.specs.Lists.{All, Distinct, flat, from, sum}
 use Rattle.rules.specs.Rules.{Rule, rule, occurrences}
 use Rattle.rules.proofs.Lists.{all-imp, all-map, all-at, sum-app}
 use Rattle.names.specs.declared.forms.NameClass.{NameClass}
-use Rattle.names.specs.declared.forms.NameClass.the-variants.{House, Generated, TooLong, Wrong}
+use Rattle.names.specs.declared.forms.NameClass.the-variants.{Common, Generated, TooLong, Wrong}
 use Rattle.names.specs.Names.{nameClass, takes, allowed}
 use Rattle.name_store.specs.NameStore.{NamesForm}
 use Rattle.stores.specs.Program.{Program, RoleForm, roleOf, NeverFalling, ClassesForm, ListForm, NotForm, RuleForm}
@@ -26,7 +26,7 @@ use Rattle.text.specs.Text.{named, listLine, ruleLine, ruleText, declarations}
 use Rattle.lines.specs.declared.stage.Stage.{Stage}
 use Rattle.lines.specs.declared.stage.Stage.the-variants.{Declaring, Fixing, Ruling}
 use Rattle.lines.specs.Lines.{lines}
-use Rattle.lines.specs.Forms.{Word, wordBytes, atoms, min, vary, fix, LineForm, declares, rules, isName}
+use Rattle.lines.specs.Forms.{Word, wordBytes, atoms, min, vary, fix, LineForm, declares, rules, isName, formOf}
 use Rattle.lines.specs.Faults.{SoFar, countsOf, next, expects, stageAfter, classesAfter, classWords, declared, numbered, with-rule, filled, stepForm}
 use Rattle.lines.specs.Said.{onStep, readLines}
 use Rattle.gathering.proofs.HeldState.{Fits}
@@ -39,17 +39,19 @@ use Rattle.reader.proofs.FormText.{list-ended, list-declares, rule-ende
 use Rattle.reader.proofs.NumberedNames.{different-law, declared-at, numbers-of-names, names-differ}
 use Rattle.reader.proofs.ClassParts.{chosen, is, upTo, classNames, class-chosen, chosen-none, chosen-every, all-chosen, distinct-chosen, length-chosen, chosen-words, Next, chosen-next, role-parts}
 use Rattle.reader.proofs.LineSteps.{Declares, declare-says, Listed, Adds, rule-says}
-use Rattle.reader.proofs.Progress.{state}
+use Rattle.reader.specs.WrittenText.{Unconditional, NoConditions}
+use Rattle.reader.proofs.FormedLines.{state}
 
 -- reading the text leads from one state to the other, whatever follows
 pub record Reads (st : SoFar) (text : List ℕ) (after : SoFar) : Type 0 where
   pub reads : (k : ℕ) (rest : List ℕ) → (m : ℕ) × (readLines k st (lines (text ++ rest)) ≡ readLines m after (lines rest))
+  pub forms : (rest : List ℕ) → NoConditions rest → NoConditions (text ++ rest)
 
 reads-none : {st : SoFar} → Reads st [] st
-reads-none = record { reads = λ k rest. (k, refl) }
+reads-none = record { reads = λ k rest. (k, refl); forms = λ rest h. h }
 
 pub reads-then : {a b c : SoFar} {s t : List ℕ} → Reads a s b → Reads b t c → Reads a (s ++ t) c
-reads-then {a} {b} {c} {s} {t} f g = record { reads = both }
+reads-then {a} {b} {c} {s} {t} f g = record { reads = both; forms = λ rest h. subst NoConditions (sym (append-assoc s t rest)) (f .forms (t ++ rest) (g .forms rest h)) }
   where
     both : (k : ℕ) (rest : List ℕ) → (m : ℕ) × (readLines k a (lines (s ++ t ++ rest)) ≡ readLines m c (lines rest))
     both k rest =
@@ -62,22 +64,26 @@ lines-cons l rest h =
     let later = lines-iff rest (lines rest) .0 refl in
     lines-iff (l ++ rest) (l ∷ lines rest) .1 (ap (λ t. l ++ t) (later .0), inl (h, later .1))
 
-reads-line : {st after : SoFar} (l : List ℕ) (f : LineForm) → EndedLine l → HasForm l f → stepForm st f ≡ next after → Reads st l after
+reads-line : {st after : SoFar} (l : List ℕ) (f : LineForm) → Unconditional f → EndedLine l → HasForm l f → stepForm st f ≡ next after → Reads st l after
 unfolding readLines
-reads-line {st} l f w h e =
-    let s = ap (stepForm st) (form-iff l f .1 h) ∙ e in
-    record { reads = λ k rest. (suc k, ap (readLines k st) (lines-cons l rest w) ∙ ap (λ p. onStep p k (λ a. readLines (suc k) a (lines rest))) s) }
+reads-line {st} l f u w h e =
+    let is = form-iff l f .1 h in
+    let s = ap (stepForm st) is ∙ e in
+    record {
+      reads = λ k rest. (suc k, ap (readLines k st) (lines-cons l rest w) ∙ ap (λ p. onStep p k (λ a. readLines (suc k) a (lines rest))) s);
+      forms = λ rest r. subst (All (λ m. Unconditional (formOf m))) (sym (lines-cons l rest w)) (subst Unconditional (sym is) u, r);
+    }
 
 allowed-name : (kind : Kind) (x : List ℕ) → T (allowed kind x) → IsName x
 unfolding allowed
 allowed-name kind x h = name-law x .0 (go kind (nameClass x) h)
   where
     go : (k : Kind) (c : NameClass) → T (takes k c) → T (isName c)
-    go Plain House t = tt
+    go Plain Common t = tt
     go Plain Generated t = tt
     go Plain TooLong t = absurd t
     go Plain Wrong t = absurd t
-    go Preference House t = tt
+    go Preference Common t = tt
     go Preference Generated t = absurd t
     go Preference TooLong t = absurd t
     go Preference Wrong t = absurd t
@@ -88,14 +94,14 @@ allowed-names kind xs h = all-imp (λ x. T (allowed kind x)) IsName (allowed-nam
 reads-declares : {st : SoFar} {w : Word} {xs : List (List ℕ)} → Declares st w xs → Reads st (listLine (wordBytes w) xs) (declared st w xs)
 reads-declares {st} {w} {xs} d =
     let h = allowed-names (st .kind) xs (d .all-allowed) in
-    reads-line (listLine (wordBytes w) xs) (declares w xs) (list-ended w xs h) (list-declares w xs h) (declare-says st w xs d)
+    reads-line (listLine (wordBytes w) xs) (declares w xs) tt (list-ended w xs h) (list-declares w xs h) (declare-says st w xs d)
 
 reads-rule : {st : SoFar} {hs bs ns : List (List ℕ)} → Adds st hs bs ns → Reads st (ruleLine hs bs ns) (with-rule st (numbered (st .names) hs bs ns))
 reads-rule {st} {hs} {bs} {ns} d =
     let h = allowed-names (st .kind) hs (d .head-listed .all-allowed) in
     let b = allowed-names (st .kind) bs (d .body-listed .all-allowed) in
     let n = allowed-names (st .kind) ns (d .nots-listed .all-allowed) in
-    reads-line (ruleLine hs bs ns) (rules hs bs ns) (rule-ended hs bs ns h b n) (rule-rules hs bs ns h b n) (rule-says st hs bs ns d)
+    reads-line (ruleLine hs bs ns) (rules hs bs ns) tt (rule-ended hs bs ns h b n) (rule-rules hs bs ns h b n) (rule-says st hs bs ns d)
 
 pub counted : {kind : Kind} {n : ℕ} {names : List (List ℕ)} → NamesForm kind n names → NamesForm kind (length names) names
 counted f = record { count = refl; all-allowed = f .all-allowed; different = f .different }

@@ -13,8 +13,9 @@ use Rattle.gathering.specs.declared.gathered.Line.the-variants.{Next, Fault}
 use Rattle.reader.specs.declared.reading.Gather.{Gather}
 use Rattle.reader.specs.declared.reading.Gather.the-variants.{Whole, Refused}
 use Rattle.lines.specs.Faults.{ruling?}
-use Rattle.lines.specs.Said.{Said, accepted, refused, programOf}
+use Rattle.lines.specs.Said.{Said, accepted, refused, programOf, placed}
 use Rattle.gathering.specs.Gathered.{stateOf, Held}
+use Rattle.reader.specs.FormedState.{Formed}
 
 -- before the first line; four words are kept for the header
 abbrev pub startCounts : Gathered
@@ -31,7 +32,7 @@ atEnd g k = cond (ruling? (g .stage)) (Whole g) (Refused BrokenForm k)
 -- what the answer says of what the text says
 abbrev pub GatherSays : Kind → Said → List ℕ → List ℕ → Gather → Type 0
 GatherSays kind s words bytes (Whole g) =
-    (s ≡ accepted (programOf (stateOf kind g words bytes)) (stateOf kind g words bytes .names)) × Held kind (stateOf kind g words bytes) g words bytes
+    (s ≡ accepted (programOf (placed (stateOf kind g words bytes))) (placed (stateOf kind g words bytes) .names)) × Held kind (stateOf kind g words bytes) g words bytes × Formed (stateOf kind g words bytes)
 GatherSays kind s words bytes (Refused r k) = s ≡ refused r k
 
 pub record GatherIs (kind : Kind) (s : Said) (words bytes : List ℕ) (r : Gather) : Type 0 where

@@ -15,6 +15,7 @@ use Rattle.restriction.specs.Remaining.{remaining, remainingNames, AllUsed}
 use Rattle.text.specs.Text.{listLine, named, ruleText, textOf}
 use Rattle.lines.specs.Strict.{strictText, Strict}
 use Rattle.faults.specs.EarliestFault.{Accepts}
+use Rattle.reader.specs.WrittenText.{NoConditions}
 
 -- the line of a class word, without the names of atoms that stand in no rule
 abbrev pub usedLine : Program → List (List ℕ) → List ℕ → ℕ → List ℕ
@@ -27,14 +28,14 @@ usedText p names =
 
 -- the stores of an accepted text, written
 pub record WritesBack (text : List ℕ) (p : Program) (names : List (List ℕ)) (a : Accepts text p names) : Type 0 where
-  -- all that is declared gives the text's brackets and words with strict spacing
-  pub whole : textOf (a .1 .whole) (a .1 .whole-names) ≡ strictText text
+  -- all that is declared gives the text's brackets and words with strict spacing, if no line is a condition
+  pub whole : NoConditions text → textOf (a .1 .whole) (a .1 .whole-names) ≡ strictText text
   -- so does a plain text, which comes back unaltered exactly when it is strict
   pub plain : p .kind ≡ Plain → textOf p names ≡ strictText text
   pub plain-unaltered : p .kind ≡ Plain → (textOf p names ≡ text) ↔ Strict text
-  -- a preference text comes back so without the names that no rule has, and unaltered exactly when it is strict and has none of these
+  -- a preference text comes back so without the names that no rule has, and unaltered exactly when it is strict, has none of these and no condition
   pub preference : p .kind ≡ Preference → textOf p names ≡ usedText (a .1 .whole) (a .1 .whole-names)
-  pub unaltered : p .kind ≡ Preference → (textOf p names ≡ text) ↔ (Strict text × AllUsed (a .1 .whole))
+  pub unaltered : p .kind ≡ Preference → (textOf p names ≡ text) ↔ (Strict text × AllUsed (a .1 .whole) × NoConditions text)
   -- and what was written is read as what was read
   pub again : Accepts (textOf p names) p names
 

@@ -9,8 +9,21 @@ use Rattle.stores.specs.Program.{Program, ProgramForm}
 use Rattle.name_store.specs.NameStore.{NamesForm}
 use Rattle.text.specs.Text.{textOf}
 use Rattle.lines.specs.Lines.{lines}
+use Rattle.lines.specs.Forms.{LineForm, declares, rules, condition, blank, broken, formOf}
 use Rattle.lines.specs.Strict.{strictText}
 use Rattle.faults.specs.LineForms.{Ended}
+
+-- a line that is no condition (document 02, W-208)
+abbrev pub Unconditional : LineForm → Type 0
+Unconditional (declares w xs) = Unit {0}
+Unconditional (rules hs bs ns) = Unit {0}
+Unconditional (condition ts a) = ⊥
+Unconditional blank = Unit {0}
+Unconditional broken = Unit {0}
+
+-- no line is one
+abbrev pub NoConditions : List ℕ → Type 0
+NoConditions text = All (λ l. Unconditional (formOf l)) (lines text)
 
 pub record WrittenText (text : List ℕ) : Type 0 where
   pub program : Program

@@ -1,4 +1,5 @@
 // The lines of a text, one after another, into the scratch stores.
+use condition_line::condition_line;
 use declaring::declared_line;
 use gathering::gathered::Gathered;
 use gathering::gathered::Line;
@@ -10,12 +11,14 @@ use lines::scan;
 use lines::scan::Place;
 use lines::stage::Stage;
 ghost use mathlib.Core.Path.{_≡_};
+ghost use mathlib.Core.Bool.{true};
 ghost use Prim.Native.Nat.{_≤_};
 ghost use lib.ListN.{length};
 ghost use Rattle.kinds.specs.Limits.{textLimit};
 ghost use Rattle.lines.specs.Lines.{lines};
 ghost use Rattle.lines.specs.Tokens.{tokens};
 ghost use Rattle.lines.specs.Forms.{openedOf, formOf};
+ghost use Rattle.lines.specs.Faults.{ruling?};
 ghost use Rattle.lines.specs.Said.{kindOpened, kindOf, start, readLines};
 ghost use Rattle.gathering.specs.Gathered.{stateOf, Held, HeldIndex, HeldMarks, LineIs, MarksAre};
 ghost use Rattle.reader.specs.Gathering.{startCounts, passedOn, atEnd, GatherIs};
@@ -67,6 +70,41 @@ pub fn start_counts() -> Gathered
     }
 }
 
+// A line behind the declarations.
+fn read_statement(
+    line: &[u8],
+    kind: Kind,
+    gathered: Gathered,
+    words: &mut [u16],
+    bytes: &[u8],
+    starts: &[u16],
+    firsts: &[u16],
+    links: &[u16],
+    marks: &mut [u16],
+) -> Line
+    requires { ⌜ (length (now line) ≤ textLimit) × (ruling? (gathered .stage) ≡ true) ⌝ }
+    requires { ⌜ Held kind (stateOf kind gathered (now words) (now bytes)) gathered (now words) (now bytes) ⌝ }
+    requires { ⌜ HeldIndex gathered (now bytes) (now starts) (now firsts) (now links) ⌝ }
+    requires { ⌜ HeldMarks gathered (now marks) ⌝ }
+    ensures { λ r. ⌜ LineIs kind (stateOf kind gathered (now (words .entry)) (now (bytes .entry))) (formOf (now (line .entry))) (now (words .exit)) (now (bytes .entry)) (now (starts .entry)) (now (firsts .entry)) (now (links .entry)) r ⌝ }
+    ensures { λ r. ⌜ MarksAre (now (marks .exit)) r ⌝ }
+{
+    if condition_line::opens_condition(line, kind) {
+        return condition_line::read_condition(line, gathered, words, bytes, starts, firsts, links);
+    }
+    rule_line::read_rule(
+        line,
+        kind,
+        gathered,
+        words,
+        bytes,
+        starts,
+        firsts,
+        links,
+        marks,
+    )
+}
+
 // One line against what the lines before have given.
 fn read_line(
     line: &[u8],
@@ -88,7 +126,7 @@ fn read_line(
 {
     let stage = gathered.stage;
     if rule_line::is_ruling(stage) {
-        return rule_line::read_rule(
+        return read_statement(
             line,
             kind,
             gathered,

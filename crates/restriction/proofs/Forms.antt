@@ -29,7 +29,7 @@ use Rattle.restriction.proofs.Places.{at-place, used-covers}
 -- rules
 
 module _ (xs : List ℕ) where
-  same-place : (a b : ℕ) → T (member? xs a) → T (member? xs b) → placeIn xs a ≡ placeIn xs b → a ≡ b
+  pub same-place : (a b : ℕ) → T (member? xs a) → T (member? xs b) → placeIn xs a ≡ placeIn xs b → a ≡ b
   same-place a b h k e = sym (at-place xs a h .1) ∙ ap (λ (i : ℕ). getD xs i 0) e ∙ at-place xs b k .1
 
   list-left : (n : ℕ) (l : List ℕ) → ListForm n l → All (λ a. T (member? xs a)) l → ListForm (length xs) (map (placeIn xs) l)

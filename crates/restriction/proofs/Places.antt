@@ -115,7 +115,7 @@ place-whole n a l = ap (λ (r : List ℕ). placeIn r a) (sym (whole n)) ∙ filt
 
 -- the atoms of rules
 
-within-atoms : (Q : ℕ → Type 0) (r : Rule ℕ) → Within Q r ↔ All Q (atomsOf r)
+pub within-atoms : (Q : ℕ → Type 0) (r : Rule ℕ) → Within Q r ↔ All Q (atomsOf r)
 within-atoms Q r = (
   λ h. all-app Q (r .head) (r .body ++ r .nots) (h .head) (all-app Q (r .body) (r .nots) (h .body) (h .nots)),
   λ h.

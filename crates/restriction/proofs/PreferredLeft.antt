@@ -31,7 +31,7 @@ cut-number : (xs : List ℕ) (m : ℕ) → cutTo xs m ≡ number (map (has m) xs
 cut-number [] m = refl
 cut-number (x ∷ xs) m = omega (arith, digit-cond (has m x), cut-number xs m)
 
-cut-lt : (xs : List ℕ) (m : ℕ) → cutTo xs m < 2 ^ length xs
+pub cut-lt : (xs : List ℕ) (m : ℕ) → cutTo xs m < 2 ^ length xs
 cut-lt xs m = subst (λ (c : ℕ). cutTo xs m < 2 ^ c) (length-map xs (has m)) (omega (arith, cut-number xs m, number-lt (map (has m) xs)))
 
 pub cut-at : (xs : List ℕ) (m i : ℕ) → i < length xs → has (cutTo xs m) i ≡ has m (getD xs i 0)

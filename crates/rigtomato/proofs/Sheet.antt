@@ -12,7 +12,7 @@ use Rattle.restriction.specs.Atoms.{used}
 use Rattle.restriction.specs.Remaining.{restrict, remaining, remainingNames}
 use Rattle.lines.specs.Strict.{spelled, strictText}
 use Rattle.lines.specs.Said.{kindOf, start, readLines, typed, said}
-use Rattle.clauses.specs.Numerals.{value}
+use Rattle.names.specs.Numerals.{value}
 use Rattle.clauses.specs.Items.{items as clauseItems, itemsFrom as clauseItemsFrom, run as clauseRun}
 use Rattle.clauses.specs.Tokens.{tokenOf}
 use Rattle.clauses.specs.Faults.{headerLine, clauseLine, stepLine}

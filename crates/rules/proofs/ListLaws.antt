@@ -53,6 +53,10 @@ pub flat-map : {A B C : Type 0} (f : B → List C) (g : A → B) (l : List A) �
 flat-map f g [] = refl
 flat-map {C} f g (x ∷ l) = ap (λ (r : List C). f (g x) ++ r) (flat-map f g l)
 
+pub flat-append : {A B : Type 0} (f : A → List B) (xs ys : List A) → flat f (xs ++ ys) ≡ flat f xs ++ flat f ys
+flat-append f [] ys = refl
+flat-append {B} f (x ∷ xs) ys = ap (λ (r : List B). f x ++ r) (flat-append f xs ys) ∙ sym (append-assoc (f x) (flat f xs) (flat f ys))
+
 pub all-each : {A : Type 0} (P : A → Type 0) → ((a : A) → P a) → (l : List A) → All P l
 all-each P f [] = tt
 all-each P f (x ∷ l) = (f x, all-each P f l)

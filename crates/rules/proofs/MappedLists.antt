@@ -1,10 +1,12 @@
--- What tests, sums and the entries kept say of a mapped list.
+-- What tests, sums and the entries kept say of a mapped list, and sums of lists put together.
 use Prim.Native.Nat.{ℕ, zero, suc}
 use mathlib.Core.Path.{_≡_, refl, sym, ap, ap₂, _∙_}
 use mathlib.Core.Bool.{Bool, true, false, _&&_, _||_}
 use mathlib.Core.List.{List, [], _∷_, map}
 use native.Mathlib.Omega.{arith}
-use Rattle.rules.specs.Lists.{All, every, some, keep, filter, sum, from}
+use lib.ListN.{length, length-append}
+use Rattle.rules.specs.Lists.{All, every, some, keep, filter, sum, flat, from}
+use Rattle.rules.proofs.Lists.{sum-app}
 
 module _ {A B : Type 0} (f : A → B) where
   pub map-keep : (b : Bool) (x : A) (l : List A) → map f (keep b x l) ≡ keep b (f x) (map f l)
@@ -26,6 +28,15 @@ module _ {A B : Type 0} (f : A → B) where
 pub sum-map : {A B : Type 0} (f : B → ℕ) (g : A → B) (l : List A) → sum f (map g l) ≡ sum (λ a. f (g a)) l
 sum-map f g [] = refl
 sum-map f g (x ∷ l) = omega (arith, sum-map f g l)
+
+module _ {A B : Type 0} where
+  pub sum-flat : (f : B → ℕ) (g : A → List B) (l : List A) → sum f (flat g l) ≡ sum (λ a. sum f (g a)) l
+  sum-flat f g [] = refl
+  sum-flat f g (x ∷ l) = omega (arith, sum-app f (g x) (flat g l), sum-flat f g l)
+
+  pub length-flat : (g : A → List B) (l : List A) → length (flat g l) ≡ sum (λ a. length (g a)) l
+  length-flat g [] = refl
+  length-flat g (x ∷ l) = omega (arith, length-append (g x) (flat g l), length-flat g l)
 
 -- following numbers, one further
 pub from-suc : (s c : ℕ) → from (suc s) c ≡ map suc (from s c)

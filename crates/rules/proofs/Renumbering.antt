@@ -1,7 +1,7 @@
 -- Renumbering the atoms, class words and rules alike, keeps the preferred sets, both ways.
 use Prim.Native.Nat.{ℕ, _^_, _≤_, _<_}
 use mathlib.Core.Path.{_≡_, refl, sym, ap, ap₂, subst, _∙_}
-use mathlib.Core.List.{List, [], _∷_, map}
+use mathlib.Core.List.{List, [], _∷_, map, map-map}
 use mathlib.Core.Bool.{Bool, not, _&&_, _||_}
 use mathlib.Core.Logic.{_⊎_, inl, inr, _↔_}
 use native.Mathlib.Omega.{arith}
@@ -15,7 +15,7 @@ use Rattle.rules.specs.CutClass.{CutClass}
 use Rattle.rules.specs.Renumbering.{Bijection, Renumbered, renumberWords, Within, SameAtoms, SamePreferred, NoneNewRenumbered}
 use Rattle.rules.proofs.Booleans.{T-of}
 use Rattle.rules.proofs.Lists.{all-imp, length-from, map-from-at}
-use Rattle.rules.proofs.ListLaws.{map-same, map-itself}
+use Rattle.rules.proofs.ListLaws.{map-same, map-eq, map-itself}
 use Rattle.rules.proofs.MappedLists.{every-map, some-map}
 use Rattle.rules.proofs.Rules.{model-law}
 use Rattle.rules.proofs.Sets.{same-set, set-of}
@@ -30,16 +30,19 @@ words-renumbered f g ws k = record {
 
 -- rules
 
-pub within-imp : (P Q : ℕ → Type 0) → ((a : ℕ) → P a → Q a) → (rs : List (Rule ℕ)) → All (Within P) rs → All (Within Q) rs
+pub within-imp : {A : Type 0} (P Q : A → Type 0) → ((a : A) → P a → Q a) → (rs : List (Rule A)) → All (Within P) rs → All (Within Q) rs
 within-imp P Q f = all-imp (Within P) (Within Q) (λ r w. record { head = all-imp P Q f (r .head) (w .head); body = all-imp P Q f (r .body) (w .body); nots = all-imp P Q f (r .nots) (w .nots) })
 
-pub rename-same : (f g : ℕ → ℕ) (rs : List (Rule ℕ)) → All (Within (λ a. f a ≡ g a)) rs → map (rename f) rs ≡ map (rename g) rs
+pub rename-same : {A B : Type 0} (f g : A → B) (rs : List (Rule A)) → All (Within (λ a. f a ≡ g a)) rs → map (rename f) rs ≡ map (rename g) rs
 rename-same f g rs h = map-same (rename f) (rename g) rs
     (all-imp (Within (λ a. f a ≡ g a)) _ (λ r w i. rule (map-same f g (r .head) (w .head) i) (map-same f g (r .body) (w .body) i) (map-same f g (r .nots) (w .nots) i)) rs h)
 
 pub rename-itself : (f : ℕ → ℕ) (rs : List (Rule ℕ)) → All (Within (λ a. f a ≡ a)) rs → map (rename f) rs ≡ rs
 rename-itself f rs h = map-itself (rename f) rs
     (all-imp (Within (λ a. f a ≡ a)) _ (λ r w i. rule (map-itself f (r .head) (w .head) i) (map-itself f (r .body) (w .body) i) (map-itself f (r .nots) (w .nots) i)) rs h)
+
+pub rename-again : {A B C : Type 0} (g : B → C) (f : A → B) (rs : List (Rule A)) → map (rename g) (map (rename f) rs) ≡ map (rename (λ c. g (f c))) rs
+rename-again g f rs = map-map (rename g) (rename f) rs ∙ map-eq (λ r. rename g (rename f r)) (rename (λ c. g (f c))) (λ r i. rule (map-map g f (r .head) i) (map-map g f (r .body) i) (map-map g f (r .nots) i)) rs
 
 -- s′ has, by their new numbers, the atoms that are Q as s has them
 module _ (f : ℕ → ℕ) (Q : ℕ → Type 0) (s s′ : ℕ) (same : (a : ℕ) → Q a → has s′ (f a) ≡ has s a) where

@@ -8,6 +8,7 @@ use lib.Seq.{take-length}
 use Rattle.kinds.specs.Sizes.{storeBytes}
 use Rattle.kinds.specs.declared.limits.Kind.the-variants.{Plain, Preference}
 use Rattle.rules.specs.Lists.{from}
+use Rattle.rules.proofs.ListLaws.{flat-append}
 use Rattle.stores.specs.Program.{ProgramForm}
 use Rattle.stores.specs.RuleStore.{decode}
 use Rattle.name_store.specs.NameStore.{NamesForm, NamesOf, nameBytes, encodeNames, decodeNames}
@@ -25,7 +26,6 @@ use Rattle.atom_lists.specs.Roles.{minimisedCount, unfixedCount}
 use Rattle.atom_lists.specs.ListWords.{each}
 use Rattle.name_store.proofs.NameStores.{encoded-length}
 use Rattle.translated.proofs.NameLaws.{short-of, first-names, first-decoded, dotted-run, ends-run}
-use Rattle.translated.proofs.StoreWords.{flat-append}
 use Rattle.translated.proofs.FileStore.{classPart, atoms-at, classes-at, minimised-count, unfixed-count, few-minimised, few-unfixed}
 
 module _ {ws : List ℕ} (h : PreferenceStore ws) where

@@ -17,9 +17,9 @@ use Rattle.rules.specs.Lists.{All, flat, from}
 use Rattle.rules.proofs.ListLaws.{flat-map}
 use Rattle.rules.proofs.Lists.{all-imp}
 use Rattle.names.specs.Names.{allowed}
+use Rattle.names.proofs.Decimals.{decimal-short}
 use Rattle.name_store.specs.NameStore.{nameBytes, encodeNames, firstName, decodeNames}
 use Rattle.name_store.proofs.NameStores.{allowed-short}
-use Rattle.pairing.proofs.Decimals.{decimal-short}
 use Rattle.pairing.specs.Loops.{dot}
 use Rattle.output.specs.Emitted.{Emitted, InRange}
 use Rattle.output.proofs.Emitting.{Ahead, Emitting, start, turn, finish, range-here}

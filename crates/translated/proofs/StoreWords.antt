@@ -8,15 +8,11 @@ use Rattle.rules.specs.Lists.{flat, from}
 use Rattle.rules.specs.Rules.{Rule}
 use Rattle.stores.specs.RuleStore.{ruleWords}
 use Rattle.pairing.specs.Loops.{loop1, loop2, loop3, loop4, loop5, loop6, loop789, loop10}
-use Rattle.rules.proofs.ListLaws.{shifted, flat-map}
+use Rattle.rules.proofs.ListLaws.{shifted, flat-map, flat-append}
 use Rattle.output.proofs.Emitting.{Ahead}
 use Rattle.steps.specs.declared.offsets.Offsets.{Offsets}
 use Rattle.atom_lists.specs.ListWords.{each}
 use Rattle.steps.specs.StepWords.{words1, words2, words3, words4, words5, classWords6, words6, words789, words10, fileWords, classWords, lastWords, stepWords}
-
-pub flat-append : {B C : Type 0} (f : B → List C) (xs ys : List B) → flat f (xs ++ ys) ≡ flat f xs ++ flat f ys
-flat-append f [] ys = refl
-flat-append {C} f (x ∷ xs) ys = ap (λ (l : List C). f x ++ l) (flat-append f xs ys) ∙ sym (append-assoc (f x) (flat f xs) (flat f ys))
 
 flat-flat : {A B C : Type 0} (f : B → List C) (g : A → List B) (xs : List A) → flat f (flat g xs) ≡ flat (λ a. flat f (g a)) xs
 flat-flat f g [] = refl

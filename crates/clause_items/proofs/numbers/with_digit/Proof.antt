@@ -1,6 +1,6 @@
 use native.Mathlib.Omega.{arith}
 use borrow.Author.Tests.{lt-ltb, le-ltb}
-use Rattle.clause_items.proofs.Digits.{digit-range}
+use Rattle.names.proofs.Numerals.{digit-range}
 use borrow.Author.Needs.{needs}
 use Rattle.clause_items.proofs.numbers.with_digit.Statement.{statement}
 use Rattle.clause_items.proofs.numbers.with_digit.Tie as tie

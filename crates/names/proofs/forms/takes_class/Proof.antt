@@ -1,4 +1,4 @@
-use Rattle.names.proofs.NameForms.{takes-house, takes-long, takes-wrong}
+use Rattle.names.proofs.NameForms.{takes-common, takes-long, takes-wrong}
 use borrow.Author.Needs.{needs}
 use Rattle.names.proofs.forms.takes_class.Statement.{statement}
 use Rattle.names.proofs.forms.takes_class.Tie as tie
@@ -22,7 +22,7 @@ enum-told-6 : tie.Need-enum-told-6
 enum-told-6 c = search needs
 
 returns : tie.Need-returns
-returns c = takes-house (c .before .before .args .kind) (c .enum-told .given .1)
+returns c = takes-common (c .before .before .args .kind) (c .enum-told .given .1)
 
 returns-2 : tie.Need-returns-2
 returns-2 c = search needs

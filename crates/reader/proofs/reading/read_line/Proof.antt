@@ -1,5 +1,5 @@
 use mathlib.Core.Path.{sym, _∙_}
-use Rattle.reader.proofs.LineByLine.{early-marks}
+use Rattle.reader.proofs.LineByLine.{later-marks}
 use borrow.Author.Needs.{needs}
 use Rattle.reader.proofs.reading.read_line.Statement.{statement}
 use Rattle.reader.proofs.reading.read_line.Tie as tie
@@ -7,8 +7,8 @@ use Rattle.reader.proofs.reading.read_line.Tie as tie
 is-ruling-requires : tie.Need-is-ruling-requires
 is-ruling-requires c κs = search needs
 
-read-rule-requires : tie.Need-read-rule-requires
-read-rule-requires c κs = ((c .before .before .before .before .before .before .before .before .before .before .before .before .before .before .before .pre .0, sym (c .before .before .before .before .before .before .before .is-ruling .ensures) ∙ c .before .before .before .before .before .before .if1 .taken), c .before .before .before .before .before .before .before .before .before .before .before .before .before .before .before .pre .1)
+read-statement-requires : tie.Need-read-statement-requires
+read-statement-requires c κs = ((c .before .before .before .before .before .before .before .before .before .before .before .before .before .before .before .pre .0, sym (c .before .before .before .before .before .before .before .is-ruling .ensures) ∙ c .before .before .before .before .before .before .if1 .taken), c .before .before .before .before .before .before .before .before .before .before .before .before .before .before .before .pre .1)
 
 same-length : tie.Need-same-length
 same-length c = search needs
@@ -50,14 +50,14 @@ same-length-11 : tie.Need-same-length-11
 same-length-11 c = search needs
 
 returns-2 : tie.Need-returns-2
-returns-2 c = (c .before .before .before .before .before .before .before .before .before .before .read-declared .ensures, early-marks (c .before .before .before .before .before .before .before .before .before .before .before .before .before .before .before .before .before .before .before .before .before .before .before .before .before .pre .1 .0) (sym (c .before .before .before .before .before .before .before .before .before .before .before .before .before .before .before .before .before .is-ruling .ensures) ∙ c .before .before .before .before .before .before .before .before .before .before .before .before .before .before .before .before .if1 .left) (c .before .before .before .before .before .before .before .before .before .before .read-declared .ensures) (c .before .before .before .before .before .before .before .before .before .before .before .before .before .before .before .before .before .before .before .before .before .before .before .before .before .pre .1 .1 .1))
+returns-2 c = (c .before .before .before .before .before .before .before .before .before .before .read-declared .ensures, later-marks (c .before .before .before .before .before .before .before .before .before .before .before .before .before .before .before .before .before .before .before .before .before .before .before .before .before .pre .1 .0) (c .before .before .before .before .before .before .before .before .before .before .read-declared .ensures) (c .before .before .before .before .before .before .before .before .before .before .before .before .before .before .before .before .before .before .before .before .before .before .before .before .before .pre .1 .1 .1))
 
 pub read-line-spec : {M : Type 1} → statement M
 read-line-spec =
     tie.close
     (tie.spec
     is-ruling-requires
-    read-rule-requires
+    read-statement-requires
     same-length
     same-length-2
     same-length-3

@@ -1,14 +1,16 @@
--- A number of a clause file, of any length: "a number has no plus, leading zero or `-0`" (document 02, W-202).
+-- A decimal number of any length, without leading zero.
 use Prim.Native.Nat.{ℕ, _+_, _-_, _*_}
 use mathlib.Core.Bool.{Bool, false, not, _&&_, _||_}
 use mathlib.Core.List.{List, [], _∷_}
 use mathlib.Core.Path.{_≡_}
 use mathlib.Core.Logic.{_≢_}
-use lib.Dec.{eqb}
+use lib.Dec.{leb, eqb}
 use lib.ListN.{length}
 use Rattle.kinds.specs.Words.{byte, digits}
 use Rattle.rules.specs.Lists.{every, empty?}
-use Rattle.names.specs.Names.{digit?}
+
+abbrev pub digit? : ℕ → Bool
+digit? b = leb (byte "0") b && leb b (byte "9")
 
 -- digits, of which the first is no zero unless it is alone
 abbrev pub numeral? : List ℕ → Bool

@@ -1,0 +1,2 @@
+-- A condition's line, step by step.
+pub mod ConditionSteps

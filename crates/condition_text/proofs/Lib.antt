@@ -1,0 +1,2 @@
+-- What the lines state, line by line.
+pub mod Stated
