@@ -1,0 +1,3 @@
+-- The laws of made atoms put in their place.
+pub mod PlaceNumbers
+pub mod PlacedParts
