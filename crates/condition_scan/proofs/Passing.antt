@@ -8,7 +8,7 @@ use mathlib.Core.Bool.{Bool, true, false, cond, not, _||_}
 use mathlib.Core.List.{List, [], _∷_}
 use lib.Dec.{ltb}
 use lib.ListN.{length, drop}
-use borrow.Author.Tests.{ltb-true, ltb-false, lt-ltb, not-true, not-false}
+use borrow.Author.Tests.{ltb-true, ltb-false, lt-ltb, le-ltb, not-true, not-false}
 use Rattle.kinds.specs.Limits.{bracketLimit}
 use Rattle.rules.proofs.Booleans.{or-true, or-false}
 use Rattle.name_store.specs.NameStore.{among}
@@ -24,14 +24,24 @@ use Rattle.condition_scan.specs.declared.scan.Scan.the-variants as Scan
 use Rattle.condition_scan.specs.Scans.{scan?, symbolOf, TokenTo, StepSays, StepIs, fits?, afterOf, Countable, ScanIs}
 use Rattle.condition_scan.proofs.Turns.{parses, parses-not}
 
+-- one bracket more, past the limit or not
+module _ (st : Seen) where
+  pub opened-deep : bracketLimit < st .depth + 1 → record { part = st .part; depth = st .depth + 1; deep = true; connectives = st .connectives; undeclared = st .undeclared } ≡ afterOf st Symbol.Opening
+  opened-deep l =
+      ap (λ (b : Bool). record { part = st .part; depth = st .depth + 1; deep = cond b true (st .deep); connectives = st .connectives; undeclared = st .undeclared }) (sym (lt-ltb bracketLimit (st .depth + 1) l))
+
+  pub opened-shallow : st .depth + 1 ≤ bracketLimit → record { part = st .part; depth = st .depth + 1; deep = st .deep; connectives = st .connectives; undeclared = st .undeclared } ≡ afterOf st Symbol.Opening
+  opened-shallow l =
+      ap (λ (b : Bool). record { part = st .part; depth = st .depth + 1; deep = cond b true (st .deep); connectives = st .connectives; undeclared = st .undeclared }) (sym (le-ltb bracketLimit (st .depth + 1) l))
+
 -- of all tokens, ts are left
-record Passing (names : List (List ℕ)) (all ts : List Token) (st : Seen) : Type 0 where
-  scans : scan? (st .part) ts ≡ scan? true all
-  paired : pairs (st .depth) ts ≡ true
-  deepening : (st .deep || deeper (bracketLimit - st .depth) ts) ≡ deeper bracketLimit all
-  over : bracketLimit < st .depth → st .deep ≡ true
-  counted : st .connectives + connectivesIn ts ≡ connectivesIn all
-  declaring : (st .undeclared || undeclared names (namesIn ts)) ≡ undeclared names (namesIn all)
+pub record Passing (names : List (List ℕ)) (all ts : List Token) (st : Seen) : Type 0 where
+  pub scans : scan? (st .part) ts ≡ scan? true all
+  pub paired : pairs (st .depth) ts ≡ true
+  pub deepening : (st .deep || deeper (bracketLimit - st .depth) ts) ≡ deeper bracketLimit all
+  pub over : bracketLimit < st .depth → st .deep ≡ true
+  pub counted : st .connectives + connectivesIn ts ≡ connectivesIn all
+  pub declaring : (st .undeclared || undeclared names (namesIn ts)) ≡ undeclared names (namesIn all)
 
 -- a bracket closes only where one is open
 open-pairs : (d : ℕ) (ts : List Token) → pairs d (closing ∷ ts) ≡ true → 1 ≤ d
@@ -105,15 +115,26 @@ module _ {names : List (List ℕ)} {all : List Token} {x : List ℕ} {ts : List 
     unfolding namesIn
     names-by = ap (λ (y : WordSort). st .undeclared || undeclared names (bySort y (namesIn ts) (namesIn ts) (namesIn ts) (x ∷ namesIn ts))) (sym e) ∙ h .declaring
 
-  connective : scan? true ts ≡ scan? true all → st .connectives + suc (connectivesIn ts) ≡ connectivesIn all → (st .undeclared || undeclared names (namesIn ts)) ≡ undeclared names (namesIn all) → Passing names all ts (afterOf st Symbol.Negation)
+  counted-one : st .connectives + suc (connectivesIn ts) ≡ connectivesIn all → st .connectives + 1 + connectivesIn ts ≡ connectivesIn all
+  counted-one n = omega (arith, n)
+
+  joint : scan? true ts ≡ scan? true all → st .connectives + suc (connectivesIn ts) ≡ connectivesIn all → (st .undeclared || undeclared names (namesIn ts)) ≡ undeclared names (namesIn all) → Passing names all ts (afterOf st Symbol.Joint)
   unfolding pairs deeper
-  connective s n d = record { scans = s; paired = h .paired; deepening = h .deepening; over = h .over; counted = omega (arith, n); declaring = d }
+  joint s n d = record { scans = s; paired = h .paired; deepening = h .deepening; over = h .over; counted = counted-one n; declaring = d }
 
   pass-word : (z : WordSort) (b : Bool) → sortOf x ≡ z → among names x ≡ b → fits? (symbol z b) (st .part) ≡ true → Passing names all ts (afterOf st (symbol z b))
   unfolding pairs deeper
-  pass-word negation b e g f = connective (part-by e f) (count-by e) (names-by e)
-  pass-word conjunction b e g f = connective (link-by e (not-true (st .part) f)) (count-by e) (names-by e)
-  pass-word disjunction b e g f = connective (link-by e (not-true (st .part) f)) (count-by e) (names-by e)
+  pass-word negation b e g f =
+      record {
+        scans = ap (λ (y : Bool). scan? y ts) f ∙ part-by e f;
+        paired = h .paired;
+        deepening = h .deepening;
+        over = h .over;
+        counted = counted-one (count-by e);
+        declaring = names-by e;
+      }
+  pass-word conjunction b e g f = joint (link-by e (not-true (st .part) f)) (count-by e) (names-by e)
+  pass-word disjunction b e g f = joint (link-by e (not-true (st .part) f)) (count-by e) (names-by e)
   pass-word called true e g f =
       record {
         scans = part-by e f;

@@ -31,6 +31,14 @@ use Rattle.condition_scan.specs.declared.scan.Step.the-variants as Step
 use Rattle.condition_scan.specs.Sorts.{wordSort}
 use Rattle.condition_scan.specs.Scans.{symbolOf, StepIs}
 
+-- a bracket
+module _ (s : List ℕ) (at : ℕ) {q : Bracket} (c : BracketIs s at q) {p : ℕ} where
+  pub opening-inside : q ≡ Bracket.Opening p → p + 1 ≤ length s
+  opening-inside f = let h : ByteBehind s at open-bracket p = subst (BracketSays s at) f (c .says) in omega (arith, h .inside)
+
+  pub closing-inside : q ≡ Bracket.Closing p → p + 1 ≤ length s
+  closing-inside f = let h : ByteBehind s at close-bracket p = subst (BracketSays s at) f (c .says) in omega (arith, h .inside)
+
 module _ (names : List (List ℕ)) (s : List ℕ) (at : ℕ) {r : HashedItem} (e : r ≡ hashedItem (drop at s)) where
   module _ (d : r ≡ Stop) {q : Bracket} (c : BracketIs s at q) where
     pub opening-step : {p : ℕ} → q ≡ Bracket.Opening p → StepIs names s at (Step.To (p + 1) Symbol.Opening)
@@ -46,14 +54,8 @@ module _ (names : List (List ℕ)) (s : List ℕ) (at : ℕ) {r : HashedItem} (e
     pub end-step : q ≡ Bracket.Absent → StepIs names s at Step.End
     end-step f = record { says = nothing-left s at refl (hashed-end s at e d) c f }
 
-    pub bracket-inside : {p : ℕ} → q ≡ Bracket.Opening p → p + 1 ≤ length s
-    bracket-inside {p} f = let h : ByteBehind s at open-bracket p = subst (BracketSays s at) f (c .says) in omega (arith, h .inside)
-
-    pub bracket-inside-2 : {p : ℕ} → q ≡ Bracket.Closing p → p + 1 ≤ length s
-    bracket-inside-2 {p} f = let h : ByteBehind s at close-bracket p = subst (BracketSays s at) f (c .says) in omega (arith, h .inside)
-
   module _ {g n h : ℕ} (d : r ≡ At g n h) where
-    is-item : itemOf (drop at s) ≡ Item.At g n
+    pub is-item : itemOf (drop at s) ≡ Item.At g n
     is-item = hashed-item s at e d
 
     pub step-inside : at + g + n ≤ length s

@@ -61,7 +61,8 @@ module _ (numbers : List ℕ → ℕ) where
   tells t ps part (closing ∷ ts) p = refl
   tells t ps part (word x ∷ ts) p = go (sortOf x) (tells (suc t) (negate t ∷ ps) part ts p) (tells t ps (after (name (numbers x))) ts p)
     where
-      go : (z : WordSort) {a b : Bool} {q r : Parsed} → Tells a q → Tells b r → Tells (bySort z a false false b) (bySort z q unparsed unparsed r)
+      go : (z : WordSort) → Tells (scan? true ts) (parseFrom numbers (suc t) (negate t ∷ ps) part ts) → Tells (scan? false ts) (parseFrom numbers t ps (after (name (numbers x))) ts)
+          → Tells (bySort z (scan? true ts) false false (scan? false ts)) (bySort z (parseFrom numbers (suc t) (negate t ∷ ps) part ts) unparsed unparsed (parseFrom numbers t ps (after (name (numbers x))) ts))
       go negation h k = h
       go conjunction h k = refl
       go disjunction h k = refl
@@ -80,7 +81,8 @@ module _ (numbers : List ℕ → ℕ) where
   tells t ps (after c) (word x ∷ ts) p =
       go (sortOf x) (tells (suc t) (withAnd t ps c) part ts (subst (λ n. pairs n ts ≡ true) (sym (and-brackets t ps c)) p)) (tells (suc t) (withOr t ps c) part ts (subst (λ n. pairs n ts ≡ true) (sym (or-brackets t ps c)) p))
     where
-      go : (z : WordSort) {a b : Bool} {q r : Parsed} → Tells a q → Tells b r → Tells (bySort z false a b false) (bySort z unparsed q r unparsed)
+      go : (z : WordSort) → Tells (scan? true ts) (parseFrom numbers (suc t) (withAnd t ps c) part ts) → Tells (scan? true ts) (parseFrom numbers (suc t) (withOr t ps c) part ts)
+          → Tells (bySort z false (scan? true ts) (scan? true ts) false) (bySort z unparsed (parseFrom numbers (suc t) (withAnd t ps c) part ts) (parseFrom numbers (suc t) (withOr t ps c) part ts) unparsed)
       go negation h k = refl
       go conjunction h k = h
       go disjunction h k = k

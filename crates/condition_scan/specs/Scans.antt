@@ -61,7 +61,7 @@ fits? Symbol.Undeclared part = part
 abbrev pub afterOf : Seen → Symbol → Seen
 afterOf st Symbol.Opening = record { part = st .part; depth = st .depth + 1; deep = cond (ltb bracketLimit (st .depth + 1)) true (st .deep); connectives = st .connectives; undeclared = st .undeclared }
 afterOf st Symbol.Closing = record { part = st .part; depth = st .depth - 1; deep = st .deep; connectives = st .connectives; undeclared = st .undeclared }
-afterOf st Symbol.Negation = record { part = true; depth = st .depth; deep = st .deep; connectives = st .connectives + 1; undeclared = st .undeclared }
+afterOf st Symbol.Negation = record { part = st .part; depth = st .depth; deep = st .deep; connectives = st .connectives + 1; undeclared = st .undeclared }
 afterOf st Symbol.Joint = record { part = true; depth = st .depth; deep = st .deep; connectives = st .connectives + 1; undeclared = st .undeclared }
 afterOf st Symbol.Declared = record { part = false; depth = st .depth; deep = st .deep; connectives = st .connectives; undeclared = st .undeclared }
 afterOf st Symbol.Undeclared = record { part = false; depth = st .depth; deep = st .deep; connectives = st .connectives; undeclared = true }

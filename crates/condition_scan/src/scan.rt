@@ -72,12 +72,27 @@ fn step_at(s: &[u8], at: usize, bytes: &[u8], starts: &[u16], firsts: &[u16], li
     let start = at + gap;
     let to = start + size;
     match sort_of(&s[start..to]) {
-        Sort::Not => Step::To { to, symbol: Symbol::Negation },
-        Sort::And => Step::To { to, symbol: Symbol::Joint },
-        Sort::Or => Step::To { to, symbol: Symbol::Joint },
+        Sort::Not => Step::To {
+            to,
+            symbol: Symbol::Negation,
+        },
+        Sort::And => Step::To {
+            to,
+            symbol: Symbol::Joint,
+        },
+        Sort::Or => Step::To {
+            to,
+            symbol: Symbol::Joint,
+        },
         Sort::Name => match index::find_hashed(bytes, starts, firsts, links, &s[start..to], hash) {
-            Found::At(_) => Step::To { to, symbol: Symbol::Declared },
-            Found::Missing => Step::To { to, symbol: Symbol::Undeclared },
+            Found::At(_) => Step::To {
+                to,
+                symbol: Symbol::Declared,
+            },
+            Found::Missing => Step::To {
+                to,
+                symbol: Symbol::Undeclared,
+            },
         },
     }
 }
@@ -87,8 +102,12 @@ fn fits(symbol: Symbol, part: bool) -> bool
     ensures { λ r. ⌜ r ≡ fits? symbol part ⌝ }
 {
     match symbol {
-        Symbol::Opening | Symbol::Negation | Symbol::Declared | Symbol::Undeclared => part,
-        Symbol::Closing | Symbol::Joint => !part,
+        Symbol::Opening => part,
+        Symbol::Closing => !part,
+        Symbol::Negation => part,
+        Symbol::Joint => !part,
+        Symbol::Declared => part,
+        Symbol::Undeclared => part,
     }
 }
 
@@ -109,7 +128,11 @@ fn after(seen: Seen, symbol: Symbol) -> Seen
             next.depth -= 1;
             next
         }
-        Symbol::Negation | Symbol::Joint => {
+        Symbol::Negation => {
+            next.connectives += 1;
+            next
+        }
+        Symbol::Joint => {
             next.connectives += 1;
             next.part = true;
             next
