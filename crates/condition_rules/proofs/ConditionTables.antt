@@ -1,12 +1,11 @@
 -- The table of a condition gives the condition's rules.
-use Prim.Native.Nat.{ℕ, zero, suc, _+_, _*_, _-_, _≤_, _<_}
-use native.Mathlib.Nat.{zero-add}
+use Prim.Native.Nat.{ℕ, suc, _+_, _-_, _≤_, _<_}
 use native.Mathlib.Omega.{arith}
 use mathlib.Core.Path.{_≡_, refl, sym, ap, ap₂, _∙_, subst}
 use mathlib.Core.Bool.{Bool, true, false, not}
 use mathlib.Core.List.{List, [], _∷_, _++_, map, map-append}
 use lib.Dec.{eqb, eqb→eq}
-use lib.ListN.{length, drop, length-append}
+use lib.ListN.{length, drop}
 use lib.Seq.{sets, sets-eq}
 use borrow.Author.Tests.{ne-eqb}
 use Rattle.rules.specs.Lists.{All, keep, flat, from}
@@ -15,7 +14,7 @@ use Rattle.rules.proofs.Booleans.{bool-ext, eq→eqb}
 use Rattle.rules.proofs.Lists.{all-app, all-app-l, all-app-r, all-from}
 use Rattle.rules.proofs.ListLaws.{map-flat}
 use Rattle.conditions.specs.Conditions.{Atom, planner, made, Cond, name, NOT, AND, OR, connectives, namesOf}
-use Rattle.conditions.specs.Written.{same?, once, part, andRules, orRules, notRules, connectiveRules, thenRule}
+use Rattle.conditions.specs.Written.{same?, once, part, connectiveRules, thenRule}
 use Rattle.conditions.specs.Rows.{Row, not-row, and-row, or-row, rows, rowRules, rowAtom}
 use Rattle.conditions.specs.Numbers.{inFile, conditionRules}
 use Rattle.conditions.specs.Table.{rowWords}
@@ -135,11 +134,21 @@ module _ (n : ℕ) where
         ∙ sym (map-flat (rename (inFile n)) rowRules (rows c))
         ∙ ap (map (rename (inFile n))) (rows-law c)
 
-    -- of one that they are written to, with the condition's own rule
-    pub condition-rules : (before : List ℕ) → length (flat (rowWords n) (rows c)) ≤ length before → (a : ℕ)
-        → tableRules (length (rows c)) (n + k) (sets before 0 (flat (rowWords n) (rows c))) ++ (rule (a ∷ []) (inFile n (part c) ∷ []) [] ∷ []) ≡ conditionRules n c a
+    -- with the condition's own rule
+    condition-rules : (rest : List ℕ) (a : ℕ) → tableRules (length (rows c)) (n + k) (flat (rowWords n) (rows c) ++ rest) ++ (rule (a ∷ []) (inFile n (part c) ∷ []) [] ∷ []) ≡ conditionRules n c a
     unfolding conditionRules inFile
-    condition-rules before l a =
-        let written : sets before 0 (flat (rowWords n) (rows c)) ≡ flat (rowWords n) (rows c) ++ drop (0 + length (flat (rowWords n) (rows c))) before = sets-eq (flat (rowWords n) (rows c)) before 0 (omega arith) in
-        ap (λ (rs : List (Rule ℕ)). rs ++ (rule (a ∷ []) (inFile n (part c) ∷ []) [] ∷ [])) (ap (tableRules (length (rows c)) (n + k)) written ∙ table-rules (drop (0 + length (flat (rowWords n) (rows c))) before))
+    condition-rules rest a =
+        ap (λ (rs : List (Rule ℕ)). rs ++ (rule (a ∷ []) (inFile n (part c) ∷ []) [] ∷ [])) (table-rules rest)
         ∙ sym (map-append (rename (inFile n)) (connectiveRules c) (thenRule c a ∷ []))
+
+    -- what is written from a table that the rows were written to
+    pub condition-written : {count first atom : ℕ} {table : List ℕ} (before : List ℕ) → count ≡ length (rows c) → first ≡ n + k → atom ≡ inFile n (part c)
+        → table ≡ sets before 0 (flat (rowWords n) (rows c)) → length (flat (rowWords n) (rows c)) ≤ length before → (a : ℕ) {at : ℕ} {words now : List ℕ} {r : RulesPut}
+        → RulesPutIs (tableRules count first table ++ (rule (a ∷ []) (atom ∷ []) [] ∷ [])) words at now r → RulesPutIs (conditionRules n c a) words at now r
+    condition-written {table = table} before count-is first-is atom-is written room a {at} {words} {now} {r} h =
+        let rest = drop (0 + length (flat (rowWords n) (rows c))) before in
+        let front = written ∙ sets-eq (flat (rowWords n) (rows c)) before 0 (omega arith) in
+        subst (λ rs. RulesPutIs rs words at now r)
+        (ap₂ (λ (rs : List (Rule ℕ)) (i : ℕ). rs ++ (rule (a ∷ []) (i ∷ []) [] ∷ [])) (ap₂ (λ (i j : ℕ). tableRules i j table) count-is first-is ∙ ap (tableRules (length (rows c)) (n + k)) front) atom-is
+        ∙ condition-rules rest a)
+        h

@@ -1,5 +1,5 @@
 -- Rules written one after the other, and the rows of a table walked through.
-use Prim.Native.Nat.{ℕ, zero, suc, _+_, _*_, _-_, _^_, _≤_, _<_}
+use Prim.Native.Nat.{ℕ, zero, suc, _+_, _*_, _-_, _≤_, _<_}
 use native.Mathlib.Nat.{add-zero, sub-zero}
 use native.Mathlib.Omega.{arith}
 use mathlib.Core.Path.{_≡_, refl, sym, ap, ap₂, _∙_, subst}
@@ -18,7 +18,6 @@ use Rattle.output.specs.Emitted.{Emitted}
 use Rattle.output.proofs.Emitting.{none, then, renamed}
 use Rattle.conditions.specs.Table.{notKind, andKind}
 use Rattle.condition_rules.specs.declared.RowsPut.{RowsPut}
-use Rattle.condition_rules.specs.declared.RulesPut.{RulesPut}
 use Rattle.condition_rules.specs.TableRules.{onceIn, notAtoms, andAtoms, orAtoms, kindRules, tableRules, RowsPutIs, RulesPutIs}
 
 -- an atom once
