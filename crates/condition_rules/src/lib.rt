@@ -9,6 +9,11 @@ ghost use Rattle.stores.specs.RuleStore.{ruleWords};
 ghost use Rattle.output.specs.Emitted.{Emitted};
 ghost use Rattle.condition_rules.specs.TableRules.{onceIn, notAtoms, andAtoms, orAtoms, kindRules, tableRules, RowsPutIs, RulesPutIs};
 
+// Which connective a row of the table is of; any other word: `or`.
+const NOT: u16 = 0;
+
+const AND: u16 = 1;
+
 // The place behind the rules, and how many they are.
 pub struct RowsPut {
     pub end: usize,
@@ -31,6 +36,7 @@ fn put_if(head: u16, body: u16, words: &mut [u16], at: usize) -> usize
     emit(&rule, words, at)
 }
 
+// For `not`: either, if nothing; nothing, if both.
 fn put_not(atom: u16, part: u16, words: &mut [u16], at: usize) -> usize
     requires { ⌜ at < 2 ^ 62 ⌝ }
     ensures { λ r. ⌜ Emitted (now (words .entry)) at (flat ruleWords (notAtoms atom part)) (now (words .exit)) r ⌝ }
@@ -52,17 +58,18 @@ fn put_if_both(head: u16, left: u16, right: u16, words: &mut [u16], at: usize) -
 }
 
 // Either atom if another; the same one twice stands once.
-fn put_either_if(left: u16, right: u16, body: u16, words: &mut [u16], at: usize) -> usize
+fn put_either_if(one: u16, other: u16, body: u16, words: &mut [u16], at: usize) -> usize
     requires { ⌜ at < 2 ^ 62 ⌝ }
-    ensures { λ r. ⌜ Emitted (now (words .entry)) at (ruleWords (rule (onceIn left right) (body ∷ []) [])) (now (words .exit)) r ⌝ }
+    ensures { λ r. ⌜ Emitted (now (words .entry)) at (ruleWords (rule (onceIn one other) (body ∷ []) [])) (now (words .exit)) r ⌝ }
 {
-    if left == right {
-        return put_if(left, body, words, at);
+    if one == other {
+        return put_if(one, body, words, at);
     }
-    let rule = [2, 1, 0, left, right, body];
+    let rule = [2, 1, 0, one, other, body];
     emit(&rule, words, at)
 }
 
+// For `and`: its atom if both parts, then each part if its atom.
 fn put_and(atom: u16, left: u16, right: u16, words: &mut [u16], at: usize) -> usize
     requires { ⌜ at < 2 ^ 61 ⌝ }
     ensures { λ r. ⌜ Emitted (now (words .entry)) at (flat ruleWords (andAtoms atom left right)) (now (words .exit)) r ⌝ }
@@ -72,6 +79,7 @@ fn put_and(atom: u16, left: u16, right: u16, words: &mut [u16], at: usize) -> us
     put_if(right, atom, words, third)
 }
 
+// For `or`: either part if its atom, then its atom if each part.
 fn put_or(atom: u16, left: u16, right: u16, words: &mut [u16], at: usize) -> usize
     requires { ⌜ at < 2 ^ 61 ⌝ }
     ensures { λ r. ⌜ Emitted (now (words .entry)) at (flat ruleWords (orAtoms atom left right)) (now (words .exit)) r ⌝ }
@@ -86,11 +94,11 @@ fn put_row(kind: u16, atom: u16, left: u16, right: u16, words: &mut [u16], at: u
     requires { ⌜ at < 2 ^ 61 ⌝ }
     ensures { λ r. ⌜ RowsPutIs (kindRules kind atom left right) (now (words .entry)) at (now (words .exit)) r ⌝ }
 {
-    if kind == 0 {
+    if kind == NOT {
         let end = put_not(atom, left, words, at);
         return RowsPut { end, rules: 2 };
     }
-    if kind == 1 {
+    if kind == AND {
         let end = put_and(atom, left, right, words, at);
         return RowsPut { end, rules: 3 };
     }

@@ -15,7 +15,7 @@ same-length : tie.Need-same-length
 same-length c = search needs
 
 returns : tie.Need-returns
-returns c = renamed (c .before .before .put-if .ensures) (ap (λ h. ruleWords (rule h (c .before .before .before .before .before .before .args .body ∷ []) [])) (once-same (c .before .before .before .before .before .before .args .left) (c .before .before .before .before .before .before .args .right) (c .before .before .before .before .if1 .taken)))
+returns c = renamed (c .before .before .put-if .ensures) (ap (λ h. ruleWords (rule h (c .before .before .before .before .before .before .args .body ∷ []) [])) (once-same (c .before .before .before .before .before .before .args .one) (c .before .before .before .before .before .before .args .other) (c .before .before .before .before .if1 .taken)))
 
 slice-aggregate-emit : tie.Need-slice-aggregate-emit
 slice-aggregate-emit c = search needs
@@ -27,7 +27,7 @@ same-length-2 : tie.Need-same-length-2
 same-length-2 c = search needs
 
 returns-2 : tie.Need-returns-2
-returns-2 c = renamed (c .before .before .emit .ensures) (ap (λ h. ruleWords (rule h (c .before .before .before .before .before .before .before .args .body ∷ []) [])) (once-both (c .before .before .before .before .before .before .before .args .left) (c .before .before .before .before .before .before .before .args .right) (c .before .before .before .before .before .if1 .left)))
+returns-2 c = renamed (c .before .before .emit .ensures) (ap (λ h. ruleWords (rule h (c .before .before .before .before .before .before .before .args .body ∷ []) [])) (once-both (c .before .before .before .before .before .before .before .args .one) (c .before .before .before .before .before .before .before .args .other) (c .before .before .before .before .before .if1 .left)))
 
 pub put-either-if-spec : {M : Type 1} → statement M
 put-either-if-spec =

@@ -138,7 +138,7 @@ and-level-returns-3 : (t : ℕ) → and-level-lts.Need-returns-3 (and-level-clai
 and-level-returns-3 t c = right-faulty conj (c .before .before .before .before .before .before .before .before .before .before .before .loop .inv .0 _ (lifted conj (part-read (c .before .before .before .before .before .before .before .before .before .before .before .before .before .before .before .before .before .not-level .ensures) (c .before .before .before .before .before .before .before .before .before .before .before .before .before .first .given .1)))) (c .before .before .before .before .before .before .before .before .before .word-at .ensures) (c .before .before .before .before .before .before .before .to .given .1) (c .before .before .before .before .not-level2 .ensures) (c .enum-told3 .given .1) _
 
 and-level-put-row-requires : (t : ℕ) → and-level-lts.Need-put-row-requires (and-level-claims t) (and-level-at t) and-level.Post and-level-Inv-loop and-level-μ-loop
-and-level-put-row-requires t c κs = (row-room _ (behind-word (behind-part (c .before .before .before .before .before .before .before .before .before .before .before .before .before .before .before .before .before .before .before .before .before .before .before .before .before .before .before .pre .1 .0) (c .before .before .before .before .before .before .before .before .before .before .before .before .before .loop .inv .0 _ (lifted conj (part-read (c .before .before .before .before .before .before .before .before .before .before .before .before .before .before .before .before .before .before .before .not-level .ensures) (c .before .before .before .before .before .before .before .before .before .before .before .before .before .before .before .first .given .1))))) is-and (c .before .before .before .before .before .before .before .before .before .before .before .word-at .ensures) (c .before .before .before .before .before .before .before .before .before .to .given .1)) (part-read (c .before .before .before .before .before .before .not-level2 .ensures) (c .before .before .end .given .1)), atom-fits (c .before .before .before .before .before .before .before .before .before .before .before .before .before .before .before .before .before .before .before .before .before .before .before .before .before .before .before .pre .1 .0) (c .before .before .before .before .before .before .before .before .before .before .before .before .before .loop .inv .0 _ (lifted conj (part-read (c .before .before .before .before .before .before .before .before .before .before .before .before .before .before .before .before .before .before .before .not-level .ensures) (c .before .before .before .before .before .before .before .before .before .before .before .before .before .before .before .first .given .1)))), atom-fits (behind-word (behind-part (c .before .before .before .before .before .before .before .before .before .before .before .before .before .before .before .before .before .before .before .before .before .before .before .before .before .before .before .pre .1 .0) (c .before .before .before .before .before .before .before .before .before .before .before .before .before .loop .inv .0 _ (lifted conj (part-read (c .before .before .before .before .before .before .before .before .before .before .before .before .before .before .before .before .before .before .before .not-level .ensures) (c .before .before .before .before .before .before .before .before .before .before .before .before .before .before .before .first .given .1))))) is-and (c .before .before .before .before .before .before .before .before .before .before .before .word-at .ensures) (c .before .before .before .before .before .before .before .before .before .to .given .1)) (part-read (c .before .before .before .before .before .before .not-level2 .ensures) (c .before .before .end .given .1)))
+and-level-put-row-requires t c κs = (row-room _ (behind-word (behind-part (c .before .before .before .before .before .before .before .before .before .before .before .before .before .before .before .before .before .before .before .before .before .before .before .before .before .before .before .pre .1 .0) (c .before .before .before .before .before .before .before .before .before .before .before .before .before .loop .inv .0 _ (lifted conj (part-read (c .before .before .before .before .before .before .before .before .before .before .before .before .before .before .before .before .before .before .before .not-level .ensures) (c .before .before .before .before .before .before .before .before .before .before .before .before .before .before .before .first .given .1))))) is-and (c .before .before .before .before .before .before .before .before .before .before .before .word-at .ensures) (c .before .before .before .before .before .before .before .before .before .to .given .1)) (part-read (c .before .before .before .before .before .before .not-level2 .ensures) (c .before .before .end .given .1)), omega (arith, atom-fits (c .before .before .before .before .before .before .before .before .before .before .before .before .before .before .before .before .before .before .before .before .before .before .before .before .before .before .before .pre .1 .0) (c .before .before .before .before .before .before .before .before .before .before .before .before .before .loop .inv .0 _ (lifted conj (part-read (c .before .before .before .before .before .before .before .before .before .before .before .before .before .before .before .before .before .before .before .not-level .ensures) (c .before .before .before .before .before .before .before .before .before .before .before .before .before .before .before .first .given .1)))), atom-fits (behind-word (behind-part (c .before .before .before .before .before .before .before .before .before .before .before .before .before .before .before .before .before .before .before .before .before .before .before .before .before .before .before .pre .1 .0) (c .before .before .before .before .before .before .before .before .before .before .before .before .before .loop .inv .0 _ (lifted conj (part-read (c .before .before .before .before .before .before .before .before .before .before .before .before .before .before .before .before .before .before .before .not-level .ensures) (c .before .before .before .before .before .before .before .before .before .before .before .before .before .before .before .first .given .1))))) is-and (c .before .before .before .before .before .before .before .before .before .before .before .word-at .ensures) (c .before .before .before .before .before .before .before .before .before .to .given .1)) (part-read (c .before .before .before .before .before .before .not-level2 .ensures) (c .before .before .end .given .1))), omega (arith, atom-fits (c .before .before .before .before .before .before .before .before .before .before .before .before .before .before .before .before .before .before .before .before .before .before .before .before .before .before .before .pre .1 .0) (c .before .before .before .before .before .before .before .before .before .before .before .before .before .loop .inv .0 _ (lifted conj (part-read (c .before .before .before .before .before .before .before .before .before .before .before .before .before .before .before .before .before .before .before .not-level .ensures) (c .before .before .before .before .before .before .before .before .before .before .before .before .before .before .before .first .given .1)))), atom-fits (behind-word (behind-part (c .before .before .before .before .before .before .before .before .before .before .before .before .before .before .before .before .before .before .before .before .before .before .before .before .before .before .before .pre .1 .0) (c .before .before .before .before .before .before .before .before .before .before .before .before .before .loop .inv .0 _ (lifted conj (part-read (c .before .before .before .before .before .before .before .before .before .before .before .before .before .before .before .before .before .before .before .not-level .ensures) (c .before .before .before .before .before .before .before .before .before .before .before .before .before .before .before .first .given .1))))) is-and (c .before .before .before .before .before .before .before .before .before .before .before .word-at .ensures) (c .before .before .before .before .before .before .before .before .before .to .given .1)) (part-read (c .before .before .before .before .before .before .not-level2 .ensures) (c .before .before .end .given .1))))
 
 and-level-add-atom : (t : ℕ) → and-level-lts.Need-add-atom (and-level-claims t) (and-level-at t) and-level.Post and-level-Inv-loop and-level-μ-loop
 and-level-add-atom t c = omega (arith, (behind-part (c .before .before .before .before .before .before .before .before .before .before .before .before .before .before .before .before .before .before .before .before .before .before .before .before .before .before .before .before .before .before .pre .1 .0) (c .before .before .before .before .before .before .before .before .before .before .before .before .before .before .before .before .loop .inv .0 _ (lifted conj (part-read (c .before .before .before .before .before .before .before .before .before .before .before .before .before .before .before .before .before .before .before .before .before .before .not-level .ensures) (c .before .before .before .before .before .before .before .before .before .before .before .before .before .before .before .before .before .before .first .given .1))))) .numbers, length-decode (length (c .before .before .before .before .before .before .before .before .before .before .before .before .before .before .before .before .before .before .before .before .before .before .before .before .before .before .before .before .before .before .args .starts .now)) (c .before .before .before .before .before .before .before .before .before .before .before .before .before .before .before .before .before .before .before .before .before .before .before .before .before .before .before .before .before .before .args .bytes .now))
@@ -252,13 +252,13 @@ not-level-returns-2 : (t : ℕ) → not-level-lts.Need-returns-2 (not-level-clai
 not-level-returns-2 t c = negated-faulty _ _ _ _ _ (c .before .before .before .before .before .before .before .before .before .word-at .ensures) (c .before .before .before .before .before .before .before .to .given .1) (c .before .before .before .before .not-level .ensures) (c .enum-told2 .given .1) _
 
 not-level-put-row-requires : (t : ℕ) → not-level-lts.Need-put-row-requires (not-level-claims t) (not-level-at t) not-level.Post
-not-level-put-row-requires t c κs = (row-room _ (behind-word (c .before .before .before .before .before .before .before .before .before .before .before .before .before .before .before .before .before .before .before .pre .1 .0) is-not (c .before .before .before .before .before .before .before .before .before .before .before .word-at .ensures) (c .before .before .before .before .before .before .before .before .before .to .given .1)) (part-read (c .before .before .before .before .before .before .not-level .ensures) (c .before .before .place .given .1)), atom-fits (behind-word (c .before .before .before .before .before .before .before .before .before .before .before .before .before .before .before .before .before .before .before .pre .1 .0) is-not (c .before .before .before .before .before .before .before .before .before .before .before .word-at .ensures) (c .before .before .before .before .before .before .before .before .before .to .given .1)) (part-read (c .before .before .before .before .before .before .not-level .ensures) (c .before .before .place .given .1)), omega arith)
+not-level-put-row-requires t c κs = (row-room _ (behind-word (c .before .before .before .before .before .before .before .before .before .before .before .before .before .before .before .before .before .before .before .pre .1 .0) is-not (c .before .before .before .before .before .before .before .before .before .before .before .word-at .ensures) (c .before .before .before .before .before .before .before .before .before .to .given .1)) (part-read (c .before .before .before .before .before .before .not-level .ensures) (c .before .before .place .given .1)), omega (arith, atom-fits (behind-word (c .before .before .before .before .before .before .before .before .before .before .before .before .before .before .before .before .before .before .before .pre .1 .0) is-not (c .before .before .before .before .before .before .before .before .before .before .before .word-at .ensures) (c .before .before .before .before .before .before .before .before .before .to .given .1)) (part-read (c .before .before .before .before .before .before .not-level .ensures) (c .before .before .place .given .1))), omega (arith, atom-fits (behind-word (c .before .before .before .before .before .before .before .before .before .before .before .before .before .before .before .before .before .before .before .pre .1 .0) is-not (c .before .before .before .before .before .before .before .before .before .before .before .word-at .ensures) (c .before .before .before .before .before .before .before .before .before .to .given .1)) (part-read (c .before .before .before .before .before .before .not-level .ensures) (c .before .before .place .given .1))))
 
 not-level-add-t27 : (t : ℕ) → not-level-lts.Need-add-t27 (not-level-claims t) (not-level-at t) not-level.Post
-not-level-add-t27 t c = omega (arith, c .before .before .before .before .before .before .before .before .before .before .before .before .before .before .before .before .before .before .before .before .before .before .pre .1 .0 .numbers, length-decode (length (c .before .before .before .before .before .before .before .before .before .before .before .before .before .before .before .before .before .before .before .before .before .before .args .starts .now)) (c .before .before .before .before .before .before .before .before .before .before .before .before .before .before .before .before .before .before .before .before .before .before .args .bytes .now))
+not-level-add-t27 t c = omega (arith, c .before .before .before .before .before .before .before .before .before .before .before .before .before .before .before .before .before .before .before .before .before .before .pre .1 .0 .numbers, behind-part (behind-word (c .before .before .before .before .before .before .before .before .before .before .before .before .before .before .before .before .before .before .before .before .before .before .pre .1 .0) is-not (c .before .before .before .before .before .before .before .before .before .before .before .before .before .before .word-at .ensures) (c .before .before .before .before .before .before .before .before .before .before .before .before .to .given .1)) (part-read (c .before .before .before .before .before .before .before .before .before .not-level .ensures) (c .before .before .before .before .before .place .given .1)) .numbers, length-decode (length (c .before .before .before .before .before .before .before .before .before .before .before .before .before .before .before .before .before .before .before .before .before .before .args .starts .now)) (c .before .before .before .before .before .before .before .before .before .before .before .before .before .before .before .before .before .before .before .before .before .before .args .bytes .now))
 
 not-level-add-t28 : (t : ℕ) → not-level-lts.Need-add-t28 (not-level-claims t) (not-level-at t) not-level.Post
-not-level-add-t28 t c = omega (arith, c .before .before .before .before .before .before .before .before .before .before .before .before .before .before .before .before .before .before .before .before .before .before .pre .1 .0 .numbers, length-decode (length (c .before .before .before .before .before .before .before .before .before .before .before .before .before .before .before .before .before .before .before .before .before .before .args .starts .now)) (c .before .before .before .before .before .before .before .before .before .before .before .before .before .before .before .before .before .before .before .before .before .before .args .bytes .now))
+not-level-add-t28 t c = omega (arith, c .before .before .before .before .before .before .before .before .before .before .before .before .before .before .before .before .before .before .before .before .before .before .pre .1 .0 .numbers, behind-part (behind-word (c .before .before .before .before .before .before .before .before .before .before .before .before .before .before .before .before .before .before .before .before .before .before .pre .1 .0) is-not (c .before .before .before .before .before .before .before .before .before .before .before .before .before .before .word-at .ensures) (c .before .before .before .before .before .before .before .before .before .before .before .before .to .given .1)) (part-read (c .before .before .before .before .before .before .before .before .before .not-level .ensures) (c .before .before .before .before .before .place .given .1)) .numbers, length-decode (length (c .before .before .before .before .before .before .before .before .before .before .before .before .before .before .before .before .before .before .before .before .before .before .args .starts .now)) (c .before .before .before .before .before .before .before .before .before .before .before .before .before .before .before .before .before .before .before .before .before .before .args .bytes .now))
 
 not-level-same-length-3 : (t : ℕ) → not-level-lts.Need-same-length-3 (not-level-claims t) (not-level-at t) not-level.Post
 not-level-same-length-3 t c = search needs
@@ -332,7 +332,7 @@ or-level-returns-3 : (t : ℕ) → or-level-lts.Need-returns-3 (or-level-claims 
 or-level-returns-3 t c = right-faulty disj (c .before .before .before .before .before .before .before .before .before .before .before .loop .inv .0 _ (lifted disj (part-read (c .before .before .before .before .before .before .before .before .before .before .before .before .before .before .before .before .before .and-level .ensures) (c .before .before .before .before .before .before .before .before .before .before .before .before .before .first .given .1)))) (c .before .before .before .before .before .before .before .before .before .word-at .ensures) (c .before .before .before .before .before .before .before .to .given .1) (c .before .before .before .before .and-level2 .ensures) (c .enum-told3 .given .1) _
 
 or-level-put-row-requires : (t : ℕ) → or-level-lts.Need-put-row-requires (or-level-claims t) (or-level-at t) or-level.Post or-level-Inv-loop or-level-μ-loop
-or-level-put-row-requires t c κs = (row-room _ (behind-word (behind-part (c .before .before .before .before .before .before .before .before .before .before .before .before .before .before .before .before .before .before .before .before .before .before .before .before .before .before .before .pre .1 .0) (c .before .before .before .before .before .before .before .before .before .before .before .before .before .loop .inv .0 _ (lifted disj (part-read (c .before .before .before .before .before .before .before .before .before .before .before .before .before .before .before .before .before .before .before .and-level .ensures) (c .before .before .before .before .before .before .before .before .before .before .before .before .before .before .before .first .given .1))))) is-or (c .before .before .before .before .before .before .before .before .before .before .before .word-at .ensures) (c .before .before .before .before .before .before .before .before .before .to .given .1)) (part-read (c .before .before .before .before .before .before .and-level2 .ensures) (c .before .before .end .given .1)), atom-fits (c .before .before .before .before .before .before .before .before .before .before .before .before .before .before .before .before .before .before .before .before .before .before .before .before .before .before .before .pre .1 .0) (c .before .before .before .before .before .before .before .before .before .before .before .before .before .loop .inv .0 _ (lifted disj (part-read (c .before .before .before .before .before .before .before .before .before .before .before .before .before .before .before .before .before .before .before .and-level .ensures) (c .before .before .before .before .before .before .before .before .before .before .before .before .before .before .before .first .given .1)))), atom-fits (behind-word (behind-part (c .before .before .before .before .before .before .before .before .before .before .before .before .before .before .before .before .before .before .before .before .before .before .before .before .before .before .before .pre .1 .0) (c .before .before .before .before .before .before .before .before .before .before .before .before .before .loop .inv .0 _ (lifted disj (part-read (c .before .before .before .before .before .before .before .before .before .before .before .before .before .before .before .before .before .before .before .and-level .ensures) (c .before .before .before .before .before .before .before .before .before .before .before .before .before .before .before .first .given .1))))) is-or (c .before .before .before .before .before .before .before .before .before .before .before .word-at .ensures) (c .before .before .before .before .before .before .before .before .before .to .given .1)) (part-read (c .before .before .before .before .before .before .and-level2 .ensures) (c .before .before .end .given .1)))
+or-level-put-row-requires t c κs = (row-room _ (behind-word (behind-part (c .before .before .before .before .before .before .before .before .before .before .before .before .before .before .before .before .before .before .before .before .before .before .before .before .before .before .before .pre .1 .0) (c .before .before .before .before .before .before .before .before .before .before .before .before .before .loop .inv .0 _ (lifted disj (part-read (c .before .before .before .before .before .before .before .before .before .before .before .before .before .before .before .before .before .before .before .and-level .ensures) (c .before .before .before .before .before .before .before .before .before .before .before .before .before .before .before .first .given .1))))) is-or (c .before .before .before .before .before .before .before .before .before .before .before .word-at .ensures) (c .before .before .before .before .before .before .before .before .before .to .given .1)) (part-read (c .before .before .before .before .before .before .and-level2 .ensures) (c .before .before .end .given .1)), omega (arith, atom-fits (c .before .before .before .before .before .before .before .before .before .before .before .before .before .before .before .before .before .before .before .before .before .before .before .before .before .before .before .pre .1 .0) (c .before .before .before .before .before .before .before .before .before .before .before .before .before .loop .inv .0 _ (lifted disj (part-read (c .before .before .before .before .before .before .before .before .before .before .before .before .before .before .before .before .before .before .before .and-level .ensures) (c .before .before .before .before .before .before .before .before .before .before .before .before .before .before .before .first .given .1)))), atom-fits (behind-word (behind-part (c .before .before .before .before .before .before .before .before .before .before .before .before .before .before .before .before .before .before .before .before .before .before .before .before .before .before .before .pre .1 .0) (c .before .before .before .before .before .before .before .before .before .before .before .before .before .loop .inv .0 _ (lifted disj (part-read (c .before .before .before .before .before .before .before .before .before .before .before .before .before .before .before .before .before .before .before .and-level .ensures) (c .before .before .before .before .before .before .before .before .before .before .before .before .before .before .before .first .given .1))))) is-or (c .before .before .before .before .before .before .before .before .before .before .before .word-at .ensures) (c .before .before .before .before .before .before .before .before .before .to .given .1)) (part-read (c .before .before .before .before .before .before .and-level2 .ensures) (c .before .before .end .given .1))), omega (arith, atom-fits (c .before .before .before .before .before .before .before .before .before .before .before .before .before .before .before .before .before .before .before .before .before .before .before .before .before .before .before .pre .1 .0) (c .before .before .before .before .before .before .before .before .before .before .before .before .before .loop .inv .0 _ (lifted disj (part-read (c .before .before .before .before .before .before .before .before .before .before .before .before .before .before .before .before .before .before .before .and-level .ensures) (c .before .before .before .before .before .before .before .before .before .before .before .before .before .before .before .first .given .1)))), atom-fits (behind-word (behind-part (c .before .before .before .before .before .before .before .before .before .before .before .before .before .before .before .before .before .before .before .before .before .before .before .before .before .before .before .pre .1 .0) (c .before .before .before .before .before .before .before .before .before .before .before .before .before .loop .inv .0 _ (lifted disj (part-read (c .before .before .before .before .before .before .before .before .before .before .before .before .before .before .before .before .before .before .before .and-level .ensures) (c .before .before .before .before .before .before .before .before .before .before .before .before .before .before .before .first .given .1))))) is-or (c .before .before .before .before .before .before .before .before .before .before .before .word-at .ensures) (c .before .before .before .before .before .before .before .before .before .to .given .1)) (part-read (c .before .before .before .before .before .before .and-level2 .ensures) (c .before .before .end .given .1))))
 
 or-level-add-atom : (t : ℕ) → or-level-lts.Need-add-atom (or-level-claims t) (or-level-at t) or-level.Post or-level-Inv-loop or-level-μ-loop
 or-level-add-atom t c = omega (arith, (behind-part (c .before .before .before .before .before .before .before .before .before .before .before .before .before .before .before .before .before .before .before .before .before .before .before .before .before .before .before .before .before .before .pre .1 .0) (c .before .before .before .before .before .before .before .before .before .before .before .before .before .before .before .before .loop .inv .0 _ (lifted disj (part-read (c .before .before .before .before .before .before .before .before .before .before .before .before .before .before .before .before .before .before .before .before .before .before .and-level .ensures) (c .before .before .before .before .before .before .before .before .before .before .before .before .before .before .before .before .before .before .first .given .1))))) .numbers, length-decode (length (c .before .before .before .before .before .before .before .before .before .before .before .before .before .before .before .before .before .before .before .before .before .before .before .before .before .before .before .before .before .before .args .starts .now)) (c .before .before .before .before .before .before .before .before .before .before .before .before .before .before .before .before .before .before .before .before .before .before .before .before .before .before .before .before .before .before .args .bytes .now))
