@@ -1,6 +1,5 @@
 -- Parts put together: what one level's part, a word and another part give.
-use Prim.Native.Nat.{ℕ, suc, _+_, _*_, _-_, _<_, _≤_}
-use native.Mathlib.Nat.{add-zero}
+use Prim.Native.Nat.{ℕ, suc, _+_, _*_, _<_, _≤_}
 use native.Mathlib.Omega.{arith}
 use mathlib.Core.Path.{_≡_, refl, sym, ap, ap₂, _∙_, subst}
 use mathlib.Core.Bool.{Bool, true, false, not, _||_}
@@ -11,15 +10,15 @@ use Rattle.kinds.specs.Words.{notWord, andWord, orWord}
 use Rattle.rules.specs.Lists.{All, some, flat, from}
 use Rattle.rules.proofs.Lists.{all-app, some-app, from-append}
 use Rattle.name_store.specs.NameStore.{among}
-use Rattle.conditions.specs.Conditions.{Atom, made, Cond, name, NOT, AND, OR, connectives, namesOf}
+use Rattle.conditions.specs.Conditions.{Atom, made, Cond, NOT, AND, OR, connectives, namesOf}
 use Rattle.conditions.specs.Written as Written
 use Rattle.conditions.specs.Rows.{Row, not-row, and-row, or-row, rows}
 use Rattle.conditions.specs.Numbers.{inFile}
 use Rattle.conditions.specs.Table.{notKind, andKind, orKind, rowWords}
 use Rattle.lines.specs.declared.scan.Place.{Place}
 use Rattle.lines.specs.declared.scan.Place.the-variants as Place
-use Rattle.lines.specs.Tokens.{Token, opening, closing, word, tokens}
-use Rattle.lines.specs.Conditions.{namesIn, connectivesIn, Pending, bracket, negate, conjoin, disjoin, withAnd, withOr, unparsed, part, after, parseFrom}
+use Rattle.lines.specs.Tokens.{Token, word, tokens}
+use Rattle.lines.specs.Conditions.{namesIn, connectivesIn, Pending, bracket, negate, conjoin, disjoin, withAnd, withOr, part, after, parseFrom}
 use Rattle.lines.specs.Faults.{nameNumber}
 use Rattle.lines.specs.Shapes.{ClosedSays, ClosedIs}
 use Rattle.numbering.specs.Numbers.{undeclared}
@@ -28,7 +27,7 @@ use Rattle.condition_parts.specs.declared.parts.Part.the-variants as Par
 use Rattle.condition_parts.specs.Places.{leads?, OpeningSays, OpeningIs, WordSays, WordIs}
 use Rattle.condition_parts.specs.Parts.{Level, disjunctions, conjunctions, single, Open, Behind, Readable, PartAt, PartSays, PartIs}
 use Rattle.condition_parts.proofs.ConditionLaws.{IsConnective, is-not, is-and, is-or, names-connective, connectives-connective, names-opening, connectives-opening, names-closing, connectives-closing, part-not, part-opening, after-and, after-or, negated, conjoined, disjoined, unbracketed, unclosed}
-use Rattle.condition_parts.proofs.TableRows.{table-length, row-put, rows-put}
+use Rattle.condition_parts.proofs.TableRows.{row-put, rows-put}
 
 -- the two words that stand between parts
 pub data Joint : Type 0 where

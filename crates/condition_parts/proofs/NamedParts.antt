@@ -1,5 +1,5 @@
 -- A name as a part, and a whole condition.
-use Prim.Native.Nat.{ℕ, suc, _+_, _<_, _≤_}
+use Prim.Native.Nat.{ℕ, suc, _+_, _<_}
 use native.Mathlib.Nat.{add-zero, zero-add}
 use native.Mathlib.Omega.{arith}
 use mathlib.Core.Path.{_≡_, refl, sym, ap, _∙_, subst}
@@ -7,7 +7,7 @@ use mathlib.Core.Bool.{Bool, true, false, not, _||_}
 use mathlib.Core.List.{List, [], _∷_}
 use lib.ListN.{length, drop}
 use Rattle.kinds.specs.Words.{notWord, andWord, orWord}
-use Rattle.rules.specs.Lists.{All, some, from, empty?}
+use Rattle.rules.specs.Lists.{from, empty?}
 use Rattle.name_store.specs.declared.index.Found.{Found}
 use Rattle.name_store.specs.declared.index.Found.the-variants as Found
 use Rattle.name_store.specs.NameStore.{sameBytes, among}
@@ -30,7 +30,7 @@ use Rattle.condition_parts.specs.declared.parts.Part.{Part}
 use Rattle.condition_parts.specs.declared.parts.Part.the-variants as Part
 use Rattle.condition_parts.specs.declared.parts.Parse.the-variants as Parse
 use Rattle.condition_parts.specs.Places.{opens?, leads?, WordSays, WordIs}
-use Rattle.condition_parts.specs.Parts.{disjunctions, single, Behind, Readable, PartAt, PartSays, PartIs, ParseIs}
+use Rattle.condition_parts.specs.Parts.{disjunctions, single, Behind, PartAt, PartSays, PartIs, ParseIs}
 use Rattle.condition_parts.proofs.ConditionLaws.{called-sort, names-called, connectives-called, part-called, part-nothing, part-closing, part-and, part-or, more-behind, nothing-behind}
 
 module _ (names : List (List ℕ)) (s : List ℕ) (at next : ℕ) where

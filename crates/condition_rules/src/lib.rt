@@ -7,7 +7,12 @@ ghost use Rattle.rules.specs.Lists.{flat};
 ghost use Rattle.rules.specs.Rules.{rule};
 ghost use Rattle.stores.specs.RuleStore.{ruleWords};
 ghost use Rattle.output.specs.Emitted.{Emitted};
-ghost use Rattle.condition_rules.specs.TableRules.{notAtoms, andAtoms, orAtoms, kindRules, tableRules, RowsPutIs, RulesPutIs};
+ghost use Rattle.condition_rules.specs.TableRules.{onceIn, notAtoms, andAtoms, orAtoms, kindRules, tableRules, RowsPutIs, RulesPutIs};
+
+// Which connective a row of the table is of; any other word: `or`.
+const NOT: u16 = 0;
+
+const AND: u16 = 1;
 
 // The place behind the rules, and how many they are.
 pub struct RowsPut {
@@ -31,6 +36,7 @@ fn put_if(head: u16, body: u16, words: &mut [u16], at: usize) -> usize
     emit(&rule, words, at)
 }
 
+// For `not`: either, if nothing; nothing, if both.
 fn put_not(atom: u16, part: u16, words: &mut [u16], at: usize) -> usize
     requires { ⌜ at < 2 ^ 62 ⌝ }
     ensures { λ r. ⌜ Emitted (now (words .entry)) at (flat ruleWords (notAtoms atom part)) (now (words .exit)) r ⌝ }
@@ -39,107 +45,60 @@ fn put_not(atom: u16, part: u16, words: &mut [u16], at: usize) -> usize
     emit(&rules, words, at)
 }
 
-// An atom that is both parts stands once in the list.
-fn put_and(atom: u16, left: u16, right: u16, words: &mut [u16], at: usize) -> usize
+// One atom if both others; the same one twice stands once.
+fn put_if_both(head: u16, left: u16, right: u16, words: &mut [u16], at: usize) -> usize
     requires { ⌜ at < 2 ^ 62 ⌝ }
-    ensures { λ r. ⌜ Emitted (now (words .entry)) at (flat ruleWords (andAtoms atom left right)) (now (words .exit)) r ⌝ }
+    ensures { λ r. ⌜ Emitted (now (words .entry)) at (ruleWords (rule (head ∷ []) (onceIn left right) [])) (now (words .exit)) r ⌝ }
 {
     if left == right {
-        let rules = [
-            1,
-            1,
-            0,
-            atom,
-            left,
-            1,
-            1,
-            0,
-            left,
-            atom,
-            1,
-            1,
-            0,
-            right,
-            atom,
-        ];
-        return emit(&rules, words, at);
+        return put_if(head, left, words, at);
     }
-    let rules = [
-        1,
-        2,
-        0,
-        atom,
-        left,
-        right,
-        1,
-        1,
-        0,
-        left,
-        atom,
-        1,
-        1,
-        0,
-        right,
-        atom,
-    ];
-    emit(&rules, words, at)
+    let rule = [1, 2, 0, head, left, right];
+    emit(&rule, words, at)
 }
 
-fn put_or(atom: u16, left: u16, right: u16, words: &mut [u16], at: usize) -> usize
+// Either atom if another; the same one twice stands once.
+fn put_either_if(one: u16, other: u16, body: u16, words: &mut [u16], at: usize) -> usize
     requires { ⌜ at < 2 ^ 62 ⌝ }
+    ensures { λ r. ⌜ Emitted (now (words .entry)) at (ruleWords (rule (onceIn one other) (body ∷ []) [])) (now (words .exit)) r ⌝ }
+{
+    if one == other {
+        return put_if(one, body, words, at);
+    }
+    let rule = [2, 1, 0, one, other, body];
+    emit(&rule, words, at)
+}
+
+// For `and`: its atom if both parts, then each part if its atom.
+fn put_and(atom: u16, left: u16, right: u16, words: &mut [u16], at: usize) -> usize
+    requires { ⌜ at < 2 ^ 61 ⌝ }
+    ensures { λ r. ⌜ Emitted (now (words .entry)) at (flat ruleWords (andAtoms atom left right)) (now (words .exit)) r ⌝ }
+{
+    let second = put_if_both(atom, left, right, words, at);
+    let third = put_if(left, atom, words, second);
+    put_if(right, atom, words, third)
+}
+
+// For `or`: either part if its atom, then its atom if each part.
+fn put_or(atom: u16, left: u16, right: u16, words: &mut [u16], at: usize) -> usize
+    requires { ⌜ at < 2 ^ 61 ⌝ }
     ensures { λ r. ⌜ Emitted (now (words .entry)) at (flat ruleWords (orAtoms atom left right)) (now (words .exit)) r ⌝ }
 {
-    if left == right {
-        let rules = [
-            1,
-            1,
-            0,
-            left,
-            atom,
-            1,
-            1,
-            0,
-            atom,
-            left,
-            1,
-            1,
-            0,
-            atom,
-            right,
-        ];
-        return emit(&rules, words, at);
-    }
-    let rules = [
-        2,
-        1,
-        0,
-        left,
-        right,
-        atom,
-        1,
-        1,
-        0,
-        atom,
-        left,
-        1,
-        1,
-        0,
-        atom,
-        right,
-    ];
-    emit(&rules, words, at)
+    let second = put_either_if(left, right, atom, words, at);
+    let third = put_if(atom, left, words, second);
+    put_if(atom, right, words, third)
 }
 
 // The rules of a row.
 fn put_row(kind: u16, atom: u16, left: u16, right: u16, words: &mut [u16], at: usize) -> RowsPut
-    requires { ⌜ at < 2 ^ 62 ⌝ }
+    requires { ⌜ at < 2 ^ 61 ⌝ }
     ensures { λ r. ⌜ RowsPutIs (kindRules kind atom left right) (now (words .entry)) at (now (words .exit)) r ⌝ }
 {
-    if kind == 0 {
+    if kind == NOT {
         let end = put_not(atom, left, words, at);
         return RowsPut { end, rules: 2 };
     }
-    if kind == 1 {
+    if kind == AND {
         let end = put_and(atom, left, right, words, at);
         return RowsPut { end, rules: 3 };
     }
@@ -149,7 +108,7 @@ fn put_row(kind: u16, atom: u16, left: u16, right: u16, words: &mut [u16], at: u
 
 // The rules of the first `count` rows; `first` is the atom of the first row's connective.
 pub fn put_rules(table: &[u16], count: usize, first: usize, words: &mut [u16], at: usize) -> RowsPut
-    requires { ⌜ (3 * count ≤ length (now table)) × (first + count ≤ 65536) × (at + 16 * count < 2 ^ 62) ⌝ }
+    requires { ⌜ (3 * count ≤ length (now table)) × (first + count ≤ 65536) × (at + 16 * count < 2 ^ 61) ⌝ }
     ensures { λ r. ⌜ RowsPutIs (tableRules count first (now (table .entry))) (now (words .entry)) at (now (words .exit)) r ⌝ }
 {
     let mut end = at;
@@ -182,7 +141,7 @@ pub fn put_condition(
     words: &mut [u16],
     at: usize,
 ) -> RulesPut
-    requires { ⌜ (3 * count ≤ length (now table)) × (first + count ≤ 65536) × (at + 16 * count < 2 ^ 62) × (atom < 65536) × (then < 65536) ⌝ }
+    requires { ⌜ (3 * count ≤ length (now table)) × (first + count ≤ 65536) × (at + 16 * count < 2 ^ 61) × (atom < 65536) × (then < 65536) ⌝ }
     ensures { λ r. ⌜ RulesPutIs (tableRules count first (now (table .entry)) ++ (rule (then ∷ []) (atom ∷ []) [] ∷ [])) (now (words .entry)) at (now (words .exit)) r ⌝ }
 {
     let rows = put_rules(table, count, first, words, at);

@@ -1,51 +1,28 @@
+use native.Mathlib.Omega.{arith}
+use mathlib.Core.List.{[], _∷_}
+use Rattle.rules.specs.Rules.{rule}
+use Rattle.condition_rules.specs.TableRules.{onceIn}
+use Rattle.condition_rules.proofs.RowRules.{either-end, three-rules}
 use borrow.Author.Needs.{needs}
 use Rattle.condition_rules.proofs.put_or.Statement.{statement}
 use Rattle.condition_rules.proofs.put_or.Tie as tie
-use Rattle.condition_rules.proofs.put_or.Reads as reads
-use Rattle.condition_rules.proofs.put_or.Lts as lts
-use Rattle.output.proofs.words.emit.Reads as emit-reads
 
--- src/lib.rt:110:21
-slice-aggregate-emit : tie.Need-slice-aggregate-emit
-slice-aggregate-emit c = search needs
+put-either-if-requires : tie.Need-put-either-if-requires
+put-either-if-requires c κs = search needs
 
--- src/lib.rt:110:9
-emit-requires : tie.Need-emit-requires
-emit-requires c κs = search needs
+put-if-requires : tie.Need-put-if-requires
+put-if-requires c κs = omega (arith, either-end (c .before .before .before .before .before .before .args .left) (c .before .before .before .before .before .before .args .right) (c .before .before .before .before .before .before .args .atom) (c .before .before .before .put-either-if .ensures))
 
--- src/lib.rt:110:9
+put-if-requires-2 : tie.Need-put-if-requires-2
+put-if-requires-2 c κs = omega (arith, either-end (c .before .before .before .before .before .before .before .before .before .before .args .left) (c .before .before .before .before .before .before .before .before .before .before .args .right) (c .before .before .before .before .before .before .before .before .before .before .args .atom) (c .before .before .before .before .before .before .before .put-either-if .ensures), c .before .before .before .put-if .ensures .place)
+
 same-length : tie.Need-same-length
 same-length c = search needs
 
--- src/lib.rt:110:9
 returns : tie.Need-returns
-returns c = ?
-
--- src/lib.rt:130:10
-slice-aggregate-emit-2 : tie.Need-slice-aggregate-emit-2
-slice-aggregate-emit-2 c = search needs
-
--- src/lib.rt:130:5
-emit-requires-2 : tie.Need-emit-requires-2
-emit-requires-2 c κs = search needs
-
--- src/lib.rt:88:1
-same-length-2 : tie.Need-same-length-2
-same-length-2 c = search needs
-
--- src/lib.rt:88:1
-returns-2 : tie.Need-returns-2
-returns-2 c = ?
+returns c = three-rules (rule (onceIn (c .before .before .before .before .before .before .before .before .before .before .before .before .before .args .left) (c .before .before .before .before .before .before .before .before .before .before .before .before .before .args .right)) (c .before .before .before .before .before .before .before .before .before .before .before .before .before .args .atom ∷ []) []) (rule (c .before .before .before .before .before .before .before .before .before .before .before .before .before .args .atom ∷ []) (c .before .before .before .before .before .before .before .before .before .before .before .before .before .args .left ∷ []) []) (rule (c .before .before .before .before .before .before .before .before .before .before .before .before .before .args .atom ∷ []) (c .before .before .before .before .before .before .before .before .before .before .before .before .before .args .right ∷ []) []) (c .before .before .before .before .before .before .before .before .before .before .put-either-if .ensures) (c .before .before .before .before .before .before .put-if .ensures) (c .before .before .put-if2 .ensures)
 
 pub put-or-spec : {M : Type 1} → statement M
 put-or-spec =
     tie.close
-    (tie.spec
-    slice-aggregate-emit
-    emit-requires
-    same-length
-    returns
-    slice-aggregate-emit-2
-    emit-requires-2
-    same-length-2
-    returns-2)
+    (tie.spec put-either-if-requires put-if-requires put-if-requires-2 same-length returns)

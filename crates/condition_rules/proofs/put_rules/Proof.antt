@@ -1,90 +1,72 @@
+use Prim.Native.Nat.{_-_}
+use native.Mathlib.Omega.{arith}
+use Rattle.output.proofs.Emitting.{same-length as same-length-of}
+use Rattle.condition_rules.proofs.RowRules.{Putting, putting, rows-fit, put-again, all-put}
 use Rattle.condition_rules.proofs.put_rules.Statement.{statement}
 use Rattle.condition_rules.proofs.put_rules.Tie as tie
-use Rattle.condition_rules.proofs.put_rules.Reads as reads
-use Rattle.condition_rules.proofs.put_rules.Lts as lts
-use Rattle.condition_rules.proofs.put_row.Reads as put-row-reads
 
 abbrev Inv-loop : tie.InvT-loop
-Inv-loop table count first words₀ at end₀ rules₀ i₀ words end rules i = ?
+Inv-loop table count first words₀ at end₀ rules₀ i₀ words end rules i = Putting table count first words₀ at words end rules i
 
 abbrev μ-loop : tie.MeasureT-loop
-μ-loop table count first words₀ at end₀ rules₀ i₀ words end rules i = ?
+μ-loop table count first words₀ at end₀ rules₀ i₀ words end rules i = count - i
 
--- src/lib.rt:158:5
 loop-holds : tie.Need-loop-holds Inv-loop μ-loop
-loop-holds c = ?
+loop-holds c = putting _ _ _ _ _
 
--- src/lib.rt:159:19
 mul-row : tie.Need-mul-row Inv-loop μ-loop
-mul-row c = ?
+mul-row c = omega (arith, c .before .before .before .before .pre .0)
 
--- src/lib.rt:161:13
 mul-put-row : tie.Need-mul-put-row Inv-loop μ-loop
-mul-put-row c = ?
+mul-put-row c = omega (arith, c .before .before .before .before .pre .0)
 
--- src/lib.rt:161:13
 shared-slice-read-put-row : tie.Need-shared-slice-read-put-row Inv-loop μ-loop
-shared-slice-read-put-row c = ?
+shared-slice-read-put-row c = omega (arith, c .before .before .before .before .before .pre .0)
 
--- src/lib.rt:162:14
 add-put-row : tie.Need-add-put-row Inv-loop μ-loop
-add-put-row c = ?
+add-put-row c = omega (arith, c .before .before .before .before .before .pre .1)
 
--- src/lib.rt:162:13
 cast-put-row : tie.Need-cast-put-row Inv-loop μ-loop
-cast-put-row c = ?
+cast-put-row c = omega (arith, c .before .before .before .before .before .pre .1)
 
--- src/lib.rt:163:19
 add-put-row-2 : tie.Need-add-put-row-2 Inv-loop μ-loop
-add-put-row-2 c = ?
+add-put-row-2 c = omega (arith, c .before .before .before .before .before .pre .0)
 
--- src/lib.rt:163:13
 mul-put-row-2 : tie.Need-mul-put-row-2 Inv-loop μ-loop
-mul-put-row-2 c = ?
+mul-put-row-2 c = omega (arith, c .before .before .before .before .before .pre .0)
 
--- src/lib.rt:163:13
 shared-slice-read-put-row-2 : tie.Need-shared-slice-read-put-row-2 Inv-loop μ-loop
-shared-slice-read-put-row-2 c = ?
+shared-slice-read-put-row-2 c = omega (arith, c .before .before .before .before .before .before .pre .0)
 
--- src/lib.rt:164:19
 add-put-row-3 : tie.Need-add-put-row-3 Inv-loop μ-loop
-add-put-row-3 c = ?
+add-put-row-3 c = omega (arith, c .before .before .before .before .before .before .pre .0)
 
--- src/lib.rt:164:13
 mul-put-row-3 : tie.Need-mul-put-row-3 Inv-loop μ-loop
-mul-put-row-3 c = ?
+mul-put-row-3 c = omega (arith, c .before .before .before .before .before .before .pre .0)
 
--- src/lib.rt:164:13
 shared-slice-read-put-row-3 : tie.Need-shared-slice-read-put-row-3 Inv-loop μ-loop
-shared-slice-read-put-row-3 c = ?
+shared-slice-read-put-row-3 c = omega (arith, c .before .before .before .before .before .before .before .pre .0)
 
--- src/lib.rt:160:13
 put-row-requires : tie.Need-put-row-requires Inv-loop μ-loop
-put-row-requires c κs = ?
+put-row-requires c κs = omega (arith, c .before .before .before .before .before .loop .inv .short, c .before .before .before .before .before .before .before .before .pre .2)
 
--- src/lib.rt:169:9
 add-rules : tie.Need-add-rules Inv-loop μ-loop
-add-rules c = ?
+add-rules c = omega (arith, (rows-fit (c .before .before .before .before .before .before .before .before .before .loop .inv) (c .before .before .before .before .before .before .before .before .loop-test .taken) (c .before .before .before .put-row .ensures)) .0, c .before .before .before .before .before .before .before .before .before .loop .inv .few-rules, c .before .before .before .before .before .before .before .before .before .before .before .before .pre .2)
 
--- src/lib.rt:170:9
 add-i : tie.Need-add-i Inv-loop μ-loop
-add-i c = ?
+add-i c = omega (arith, c .before .before .before .before .before .before .before .before .before .before .before .before .pre .2)
 
--- src/lib.rt:158:5
 loop-less : tie.Need-loop-less Inv-loop μ-loop
-loop-less c = ?
+loop-less c = omega (arith, c .before .before .before .before .before .before .before .before .loop-test .taken)
 
--- src/lib.rt:158:5
 loop-again : tie.Need-loop-again Inv-loop μ-loop
-loop-again c = ?
+loop-again c = put-again (c .before .before .before .before .before .before .before .before .before .loop .inv) (c .before .before .before .before .before .before .before .before .loop-test .taken) (c .before .before .before .put-row .ensures)
 
--- src/lib.rt:151:1
 same-length : tie.Need-same-length Inv-loop μ-loop
-same-length c = ?
+same-length c = same-length-of (c .before .loop .inv .written)
 
--- src/lib.rt:151:1
 returns : tie.Need-returns Inv-loop μ-loop
-returns c = ?
+returns c = all-put (c .before .loop .inv) (c .loop-test .left)
 
 pub put-rules-spec : {M : Type 1} → statement M
 put-rules-spec =
