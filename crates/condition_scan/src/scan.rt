@@ -72,12 +72,27 @@ fn step_at(s: &[u8], at: usize, bytes: &[u8], starts: &[u16], firsts: &[u16], li
     let start = at + gap;
     let to = start + size;
     match sort_of(&s[start..to]) {
-        Sort::Not => Step::To { to, symbol: Symbol::Negation },
-        Sort::And => Step::To { to, symbol: Symbol::Joint },
-        Sort::Or => Step::To { to, symbol: Symbol::Joint },
+        Sort::Not => Step::To {
+            to,
+            symbol: Symbol::Negation,
+        },
+        Sort::And => Step::To {
+            to,
+            symbol: Symbol::Joint,
+        },
+        Sort::Or => Step::To {
+            to,
+            symbol: Symbol::Joint,
+        },
         Sort::Name => match index::find_hashed(bytes, starts, firsts, links, &s[start..to], hash) {
-            Found::At(_) => Step::To { to, symbol: Symbol::Declared },
-            Found::Missing => Step::To { to, symbol: Symbol::Undeclared },
+            Found::At(_) => Step::To {
+                to,
+                symbol: Symbol::Declared,
+            },
+            Found::Missing => Step::To {
+                to,
+                symbol: Symbol::Undeclared,
+            },
         },
     }
 }
