@@ -1,7 +1,8 @@
 //! Random preference files and plain programs, all of them accepted.
 
 use crate::random::Random;
-use reference::limits::Kind;
+use reference::limits::{Kind, MADE_LIMIT};
+use reference::names::made_name;
 use reference::program::{Names, Program, Role, Rule};
 
 /// How large a random program may be.
@@ -25,12 +26,15 @@ impl Size {
 fn house_name(random: &mut Random) -> Vec<u8> {
     const FIRST: &[u8] = b"abcdefghijklmnopqrstuvwxyz0123456789";
     const REST: &[u8] = b"abcdefghijklmnopqrstuvwxyz0123456789_";
-    const WORDS: [&str; 14] = [
+    const WORDS: [&str; 18] = [
         "min", "vary", "fix", "atoms", "rule", "head", "body", "not", "a", "b", "lamp", "lamp_",
-        "e", "n",
+        "e", "n", "when", "then", "and", "or",
     ];
     if random.once_in(6) {
         return random.pick(&WORDS).as_bytes().to_vec();
+    }
+    if random.once_in(12) {
+        return made_name(random.within(1, MADE_LIMIT));
     }
     let length = match random.below(5) {
         0 => 1,
@@ -65,6 +69,9 @@ pub fn edge_name(random: &mut Random) -> Vec<u8> {
     const FIRST: &[u8] = b"az09_/:`{-";
     const REST: &[u8] = b"abcxyz0189_";
     const BEFORE: [&str; 9] = ["", "", "", "N.", "S.", "D.", "E.", "U.", "N"];
+    if random.once_in(4) {
+        return edge_of_made_names(random);
+    }
     let length = match random.below(3) {
         0 => random.within(1, 3),
         _ => random.within(23, 26),
@@ -76,6 +83,28 @@ pub fn edge_name(random: &mut Random) -> Vec<u8> {
     });
     for _ in 1..length {
         name.push(*random.pick(REST));
+    }
+    name
+}
+
+/// The same of names `T.1` to `T.256`.
+fn edge_of_made_names(random: &mut Random) -> Vec<u8> {
+    const BEFORE: [&str; 10] = [
+        "T.", "T.", "T.", "N.T.", "S.T.", "D.T.", "E.T.", "T.T.", "T", "U",
+    ];
+    const NUMBERS: [&str; 20] = [
+        "0", "1", "9", "10", "99", "100", "199", "249", "250", "255", "256", "257", "260", "300",
+        "999", "1000", "01", "001", "0256", "",
+    ];
+    let mut name = random.pick(&BEFORE).as_bytes().to_vec();
+    match random.below(4) {
+        0 => name.extend(random.within(0, 300).to_string().into_bytes()),
+        1 => {
+            for _ in 0..random.within(1, 4) {
+                name.push(*random.pick(b"0125679a_./:"));
+            }
+        }
+        _ => name.extend_from_slice(random.pick(&NUMBERS).as_bytes()),
     }
     name
 }
