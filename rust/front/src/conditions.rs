@@ -65,16 +65,16 @@ pub fn broken_at(line: &[u8]) -> Option<String> {
         next = after;
         before = shown(piece);
     }
-    (next == Next::Part).then(|| expected(next, &before, b"(then .."))
+    (next == Next::Part).then(|| expected(next, &before, b"(then ..)"))
 }
 
 fn expected(next: Next, before: &str, piece: &[u8]) -> String {
     let may_stand = match next {
-        Next::Part => "a name, not or an opening bracket",
-        Next::Connective => "and, or, a closing bracket or (then ..",
+        Next::Part => "a name, `not` or an opening bracket",
+        Next::Connective => "`and`, `or`, a closing bracket or the last `(then ..)`",
     };
     format!(
-        "Behind {before} may stand {may_stand}, and there stands {}.",
+        "Behind `{before}` may stand {may_stand}, but there stands `{}`.",
         shown(piece)
     )
 }
@@ -138,14 +138,14 @@ mod tests {
         let at = |condition: &str| broken_at(format!("(when {condition} (then d))").as_bytes());
         let behind = |before: &str, may_stand: &str, piece: &str| {
             Some(format!(
-                "Behind {before} may stand {may_stand}, and there stands {piece}."
+                "Behind `{before}` may stand {may_stand}, but there stands `{piece}`."
             ))
         };
-        let part = "a name, not or an opening bracket";
-        let connective = "and, or, a closing bracket or (then ..";
-        assert_eq!(at(""), behind("(when", part, "(then .."));
+        let part = "a name, `not` or an opening bracket";
+        let connective = "`and`, `or`, a closing bracket or the last `(then ..)`";
+        assert_eq!(at(""), behind("(when", part, "(then ..)"));
         assert_eq!(at("a b"), behind("a", connective, "b"));
-        assert_eq!(at("a and"), behind("and", part, "(then .."));
+        assert_eq!(at("a and"), behind("and", part, "(then ..)"));
         assert_eq!(at("a and or b"), behind("and", part, "or"));
         assert_eq!(at("a not b"), behind("a", connective, "not"));
         assert_eq!(at("(a) (b)"), behind(")", connective, "("));

@@ -26,9 +26,9 @@ Conditions stand in preference files alone. Here a rule of the form
 may stand.";
 
 const JOINED: &str = "\
-Between (when and the last (then ..)) names are joined by not, and, or and brackets, as in
+Names are joined there by not, and, or and brackets, as in
     (when a and not (b or c) (then d))
-not, and, or are no names there.";
+not binds before and, and before or; they are no names there.";
 
 const PLAIN_FORMS: &str = "\
 A plain program has one (atoms ..) line and then rules of the form
@@ -88,7 +88,11 @@ fn clauses(file: &File, line: u64) -> &'static str {
     }
 }
 
-fn limits(kind: Kind) -> String {
+const LIMITS_OF_CONDITIONS: &str = " So does what conditions give: an atom for each not, and, or, \
+     two rules for not, three for and and or, and one for (then ..).";
+
+fn limits(file: &File) -> String {
+    let kind = kind(file);
     let Limits {
         atoms,
         rules,
@@ -97,11 +101,14 @@ fn limits(kind: Kind) -> String {
     } = kind.limits();
     let [atoms, rules, places] = [atoms, rules, occurrences].map(|limit| grouped(limit as u64));
     let most = format!("{atoms} atoms, {rules} rules and {places} atom places in its rules' lists");
+    let conditions = match file.conditions() {
+        (0, _) => "",
+        _ => LIMITS_OF_CONDITIONS,
+    };
     match kind {
         Kind::Preference => format!(
             "A preference file has at most {classes} classes, {most}. Atoms that no rule has count \
-             too; so do what conditions give: an atom for each not, and, or, two rules for not, \
-             three for and, or, and one for (then ..)."
+             too.{conditions}"
         ),
         Kind::Plain => format!("A plain program has at most {most}."),
     }
@@ -155,8 +162,8 @@ pub fn explain(file: &File, refused: &Refused) -> String {
         Refusal::TextTooLong => text_limit(),
         Refusal::Form => form(file, refused.line).to_string(),
         Refusal::BrokenCondition => condition(line),
-        Refusal::DeepBrackets => "Between (when and the last (then ..)) brackets are at most 32 \
-             deep; those of (when .. and of (then ..) do not count."
+        Refusal::DeepBrackets => "Between (when and the last (then ..) brackets are at most 32 deep: \
+             leave out those that change nothing, or give a part a name by a condition of its own."
             .to_string(),
         Refusal::Name => format!(
             "A name has at most {HOUSE_NAME_LIMIT} bytes; N.a, S.a, D.a, E.0 and U are names that \
@@ -182,7 +189,7 @@ pub fn explain(file: &File, refused: &Refused) -> String {
         Refusal::TwiceInList => {
             "An atom stands at most once in each of a rule's lists head, body and not.".to_string()
         }
-        Refusal::Limit => limits(kind(file)),
+        Refusal::Limit => limits(file),
         Refusal::FilledNot => "In a preference file each rule ends with an empty list, (not)); a \
              rule with an empty head says what cannot be."
             .to_string(),

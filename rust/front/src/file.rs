@@ -119,7 +119,7 @@ impl File {
         unreachable!("the engine names a rule of the file")
     }
 
-    /// The conditions of an accepted text: how many there are, and their connectives together.
+    /// How many lines are conditions or meant to be, and their connectives together.
     pub fn conditions(&self) -> (usize, usize) {
         let lines = || self.lines().filter(|line| is_condition(line));
         (lines().count(), lines().map(conditions::connectives).sum())

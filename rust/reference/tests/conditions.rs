@@ -823,3 +823,16 @@ fn the_longest_lines() {
     assert_eq!(refused(&file("", "a ", 450_000, "", "")), (17, 3));
     assert_eq!(refused(&file("", "N.a and ", 114_000, "a", "")), (3, 3));
 }
+
+/// The example, with what its page tells of it.
+#[test]
+fn the_example() {
+    let typed = include_str!("../../../examples/conditions.pref");
+    let listed = "(state bad_lamp visit T.6 T.7 T.8 T.9 touch night)\n(total 1)\n";
+    assert_eq!(programs::states(typed.as_bytes()), listed.as_bytes());
+    let direct = reader::read_directly(typed.as_bytes()).unwrap();
+    let planner = direct.of_the_planner();
+    assert_eq!(planner.conditions.len(), 2);
+    // bad_pad, bad_lamp, visit, touch, lit, night
+    assert_eq!(planner.preferred_sets(), [0b101110]);
+}

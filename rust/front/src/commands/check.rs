@@ -14,9 +14,9 @@ pub const MORE: &str = "\
 Of an accepted file of either kind it prints the counts beside their limits. The
 declared atoms of a preference file that stand in no rule do not belong to the
 program: they are counted and named apart, though they count toward the limit of
-256 too. Conditions are counted with the atoms T.1, T.2, .. that their not, and, or
-get; these atoms and the conditions' rules are among those above and below. Of a
-refused file standard error has the refusal, the line, and what is allowed there.
+256 too. Of conditions it says how many not, and, or they have: each has an atom,
+T.1, T.2, .., and these atoms and the conditions' rules are among those counted. Of
+a refused file standard error has the refusal, the line, and what is allowed there.
 ";
 
 fn roles(program: &Program) -> String {
@@ -43,9 +43,10 @@ fn named(unused: &[&str]) -> String {
 /// The atoms that conditions with so many connectives get.
 fn made(connectives: usize) -> String {
     match connectives {
-        0 => "without not, and, or".to_string(),
-        1 => "with one not, and, or: the atom T.1".to_string(),
-        more => format!("with {more} not, and, or: the atoms T.1 to T.{more}"),
+        0 => "without a connective".to_string(),
+        1 => "with 1 connective, the atom T.1".to_string(),
+        2 => "with 2 connectives, the atoms T.1 and T.2".to_string(),
+        more => format!("with {more} connectives, the atoms T.1 to T.{more}"),
     }
 }
 
