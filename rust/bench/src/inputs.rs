@@ -194,7 +194,7 @@ pub fn long_file(every: usize) -> Vec<u8> {
             not: Vec::new(),
         });
     }
-    let names = generate::names(&mut random, Kind::Preference, 256);
+    let names = generate::names_without_made(&mut random, Kind::Preference, 256);
     reference::writer::write(&file, &names)
 }
 
@@ -281,7 +281,7 @@ pub fn many_rules(atoms: usize) -> Stores {
         }
         plain.rules.push(rule);
     }
-    let names = generate::names(&mut random, Kind::Plain, atoms);
+    let names = generate::names_without_made(&mut random, Kind::Plain, atoms);
     Stores {
         rules: rule_store(&plain),
         names: name_store(&names),

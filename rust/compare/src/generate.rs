@@ -26,15 +26,12 @@ impl Size {
 fn house_name(random: &mut Random) -> Vec<u8> {
     const FIRST: &[u8] = b"abcdefghijklmnopqrstuvwxyz0123456789";
     const REST: &[u8] = b"abcdefghijklmnopqrstuvwxyz0123456789_";
-    const WORDS: [&str; 18] = [
+    const WORDS: [&str; 14] = [
         "min", "vary", "fix", "atoms", "rule", "head", "body", "not", "a", "b", "lamp", "lamp_",
-        "e", "n", "when", "then", "and", "or",
+        "e", "n",
     ];
     if random.once_in(6) {
         return random.pick(&WORDS).as_bytes().to_vec();
-    }
-    if random.once_in(12) {
-        return made_name(random.within(1, MADE_LIMIT));
     }
     let length = match random.below(5) {
         0 => 1,
@@ -60,6 +57,23 @@ fn name(random: &mut Random, kind: Kind) -> Vec<u8> {
             let prefix: &[u8] = *random.pick(&[b"N.", b"S.", b"D."]);
             [prefix, &house_name(random)].concat()
         }
+    }
+}
+
+/// The same, or one that has to do with conditions: a word of theirs, or a name of a made atom.
+fn any_name(random: &mut Random, kind: Kind) -> Vec<u8> {
+    const WORDS: [&str; 4] = ["when", "then", "and", "or"];
+    match random.below(24) {
+        0 => random.pick(&WORDS).as_bytes().to_vec(),
+        1 | 2 => {
+            let before = match kind {
+                Kind::Plain => *random.pick(&["", "", "N.", "S.", "D."]),
+                Kind::Preference => "",
+            };
+            let made = made_name(random.within(1, MADE_LIMIT));
+            [before.as_bytes(), &made].concat()
+        }
+        _ => name(random, kind),
     }
 }
 
@@ -109,8 +123,9 @@ fn edge_of_made_names(random: &mut Random) -> Vec<u8> {
     name
 }
 
-/// This many different names allowed to the kind.
-pub fn names(random: &mut Random, kind: Kind, count: usize) -> Names {
+type Drawn = fn(&mut Random, Kind) -> Vec<u8>;
+
+fn different(random: &mut Random, kind: Kind, count: usize, name: Drawn) -> Names {
     let mut seen = std::collections::HashSet::new();
     let mut names = Names::new();
     while names.len() < count {
@@ -120,6 +135,16 @@ pub fn names(random: &mut Random, kind: Kind, count: usize) -> Names {
         }
     }
     names
+}
+
+/// This many different names allowed to the kind.
+pub fn names(random: &mut Random, kind: Kind, count: usize) -> Names {
+    different(random, kind, count, any_name)
+}
+
+/// The same without those of conditions.
+pub fn names_without_made(random: &mut Random, kind: Kind, count: usize) -> Names {
+    different(random, kind, count, name)
 }
 
 fn list(random: &mut Random, atoms: usize, least: usize, most: usize) -> Vec<usize> {

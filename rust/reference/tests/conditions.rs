@@ -836,3 +836,65 @@ fn the_example() {
     // bad_pad, bad_lamp, visit, touch, lit, night
     assert_eq!(planner.preferred_sets(), [0b101110]);
 }
+
+/// The files of docs/FORMAT.md's section on conditions, each beside what is made of it.
+#[test]
+fn the_files_of_the_page() {
+    const PAGE: &str = include_str!("../../../docs/FORMAT.md");
+    const COLUMN: usize = 44;
+    let start = PAGE.find("### Conditions\n").expect("the section");
+    let section = &PAGE[start..];
+    let section = &section[..section.find("### A plain program\n").expect("the next one")];
+    let mut files = 0;
+    for block in section
+        .split("\n\n")
+        .filter(|block| block.contains("(vary"))
+    {
+        let (mut typed, mut made) = (String::new(), String::new());
+        for line in block.lines() {
+            let (left, right) = line.split_at(COLUMN.min(line.len()));
+            for (side, text) in [(left, &mut typed), (right, &mut made)] {
+                if !side.trim().is_empty() {
+                    *text += &format!("{}\n", side.trim());
+                }
+            }
+        }
+        becomes(&typed, &made);
+        files += 1;
+    }
+    assert_eq!(files, 3);
+}
+
+/// The refusals that the page tells of conditions.
+#[test]
+fn the_refusals_of_the_page() {
+    const PAGE: &str = include_str!("../../../docs/FORMAT.md");
+    let mut number = 0;
+    let mut rows = 0;
+    for line in PAGE.lines().filter(|line| line.starts_with("| ")) {
+        let cells: Vec<&str> = line.split('|').map(str::trim).collect();
+        let [_, first, _, text, at, _] = cells[..] else {
+            continue;
+        };
+        number = first.parse().unwrap_or(number);
+        let (Ok(at), true) = (at.parse::<u64>(), text.contains("`(when")) else {
+            continue;
+        };
+        // What stands in the text's own quotes, up to a remark behind it.
+        let quoted: Vec<&str> = text.split('`').collect();
+        let mut lines = String::new();
+        for pair in quoted.chunks(2) {
+            if let [between, line] = pair {
+                if between.contains('(') || between.contains("with") {
+                    break;
+                }
+                lines += &format!("{line}\n");
+            }
+        }
+        let deep = format!("(when {} (then a))", brackets(33, "a"));
+        let lines = lines.replace("(when ((..a..)) (then a))", &deep);
+        assert_eq!(refused(lines.as_bytes()), (number, at), "{line}");
+        rows += 1;
+    }
+    assert_eq!(rows, 10);
+}

@@ -14,9 +14,10 @@ pub const MORE: &str = "\
 Of an accepted file of either kind it prints the counts beside their limits. The
 declared atoms of a preference file that stand in no rule do not belong to the
 program: they are counted and named apart, though they count toward the limit of
-256 too. Of conditions it says how many not, and, or they have: each has an atom,
-T.1, T.2, .., and these atoms and the conditions' rules are among those counted. Of
-a refused file standard error has the refusal, the line, and what is allowed there.
+256 too. Conditions are counted with their connectives not, and, or: each has an
+atom, T.1, T.2, .., and these atoms and the conditions' rules are among those
+counted. Of a refused file standard error has the refusal, the line, and what is
+allowed there.
 ";
 
 fn roles(program: &Program) -> String {
