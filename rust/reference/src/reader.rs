@@ -273,7 +273,7 @@ impl Reader {
     /// The program with the atoms that conditions made: varying ones, after the file's varying atoms.
     fn with_made_atoms(&self) -> (Program, Names) {
         let mut program = self.program.clone();
-        if program.kind == Kind::Plain {
+        if self.made == 0 {
             return (program, self.names.clone());
         }
         let (declared, all) = (program.atoms, program.atoms + self.made);
