@@ -2,7 +2,7 @@
 use Prim.Native.Nat.{ℕ, zero, suc, _+_, _-_, _≤_, _<_}
 use native.Mathlib.Omega.{arith}
 use mathlib.Core.Path.{_≡_, refl, sym, ap, ap₂, _∙_, subst, subst₂}
-use mathlib.Core.Bool.{Bool, cond}
+use mathlib.Core.Bool.{Bool, true, false, cond}
 use mathlib.Core.Logic.{inr}
 use mathlib.Core.List.{List, [], _∷_, _++_, map}
 use lib.Dec.{ltb}
@@ -107,14 +107,14 @@ module _ (st : SoFar) (ls : List Statement) (f : Formed st) (q : st .kind ≡ Pr
       go zero e = names-whole
       go (suc m) e = refl
 
+  abbrev InPlace : ℕ → Type 0
+  InPlace m = programOf (placedBy m st) ≡ record { kind = Preference; atoms = length (st .words) + k; classes = st .classes; words = placedWords first k (st .words); rules = placedRules first k ls }
+
   pub program-written : programOf (placed st) ≡ writtenProgram (st .classes) (st .words) ls
   unfolding placed writtenProgram
   program-written = go (st .made) refl (s .is-made)
     where
-      abbrev Is : ℕ → Type 0
-      Is m = programOf (placedBy m st) ≡ record { kind = Preference; atoms = length (st .words) + k; classes = st .classes; words = placedWords first k (st .words); rules = placedRules first k ls }
-
-      go : (m : ℕ) → st .made ≡ m → m ≡ k → Is m
+      go : (m : ℕ) → st .made ≡ m → m ≡ k → InPlace m
       go zero e i =
           let atoms : n ≡ length (st .words) + k = omega (arith, same, i) in
           let words : st .words ≡ placedWords first k (st .words) = words-whole ∙ ap (λ (j : ℕ). placedWords first j (st .words)) i in
@@ -166,6 +166,13 @@ module _ (text : List ℕ) (p : Program) (names : List (List ℕ)) (a : Accepts 
       × (names ≡ writtenNames (unfixed (entries 0 ws (spoken (length ns) ls))) (length (madeAtoms (leftStatements (spoken (length ns) ls) ls))) (entries [] ns (spoken (length ns) ls)))
       × DirectReading (entries 0 ws (spoken (length ns) ls)) (leftStatements (spoken (length ns) ls) ls) p
 
+  -- the same, the atoms counted by the class words
+  abbrev Said′ : ℕ → List Statement → Type 0
+  Said′ i ls =
+      (p ≡ writtenProgram (p .classes) (entries 0 (st .words) (spoken i ls)) (leftStatements (spoken i ls) ls))
+      × (names ≡ writtenNames (unfixed (entries 0 (st .words) (spoken i ls))) (length (madeAtoms (leftStatements (spoken i ls) ls))) (entries [] (st .names) (spoken i ls)))
+      × DirectReading (entries 0 (st .words) (spoken i ls)) (leftStatements (spoken i ls) ls) p
+
   told : Said (st .names) (st .words) (statementsFrom (st .names) 0 (lines text))
   unfolding writtenProgram
   told =
@@ -186,12 +193,6 @@ module _ (text : List ℕ) (p : Program) (names : List (List ℕ)) (a : Accepts 
         subst (DirectReading (entries 0 (st .words) (spoken (length (st .words)) ls)) (leftStatements (spoken (length (st .words)) ls) ls)) (sym is) (direct-reading (st .classes) (st .words) ls t),
       ) in
       subst (λ (i : ℕ). Said′ i ls) same there
-    where
-      abbrev Said′ : ℕ → List Statement → Type 0
-      Said′ i ls =
-          (p ≡ writtenProgram (p .classes) (entries 0 (st .words) (spoken i ls)) (leftStatements (spoken i ls) ls))
-          × (names ≡ writtenNames (unfixed (entries 0 (st .words) (spoken i ls))) (length (madeAtoms (leftStatements (spoken i ls) ls))) (entries [] (st .names) (spoken i ls)))
-          × DirectReading (entries 0 (st .words) (spoken i ls)) (leftStatements (spoken i ls) ls) p
 
   pub read-directly : ReadDirectly text p names
   read-directly =

@@ -1,5 +1,5 @@
 -- What the lines so far state, and the rules that are gathered for it.
-use Prim.Native.Nat.{ℕ, zero, suc, _+_}
+use Prim.Native.Nat.{ℕ, suc, _+_}
 use native.Mathlib.Omega.{arith}
 use mathlib.Core.Path.{_≡_, refl, sym, ap, ap₂, _∙_, subst}
 use mathlib.Core.Bool.{Bool, true, false, cond}
@@ -11,7 +11,7 @@ use Rattle.kinds.specs.declared.limits.Kind.{Kind}
 use Rattle.kinds.specs.declared.limits.Kind.the-variants.{Plain, Preference}
 use Rattle.kinds.specs.declared.refusals.Refusal.the-variants.{BrokenForm}
 use Rattle.rules.specs.Lists.{All, flat, from}
-use Rattle.rules.proofs.Lists.{all-app, length-from}
+use Rattle.rules.proofs.Lists.{all-app, length-from, from-append}
 use Rattle.rules.proofs.ListLaws.{flat-append}
 use Rattle.stores.specs.Program.{Program, RuleForm}
 use Rattle.conditions.specs.Conditions.{Cond, connectives, Statement, states, when, statementConnectives, madeAtoms}
@@ -36,10 +36,6 @@ pub record Stated (st : SoFar) (ls : List Statement) : Type 0 where
   pub forms : All (StatementForm (length (st .names))) ls
   pub numbered-on : madeAtoms ls ≡ from 1 (st .made)
 
-from-app : (s c d : ℕ) → from s c ++ from (s + c) d ≡ from s (c + d)
-from-app s zero d = ap (λ (i : ℕ). from i d) (let e : s + 0 ≡ s = omega arith in e)
-from-app s (suc c) d = ap (λ l. s ∷ l) (ap (λ (i : ℕ). from (suc s) c ++ from i d) (let e : s + suc c ≡ suc s + c = omega arith in e) ∙ from-app (suc s) c d)
-
 -- a rule
 rule-stated : (st : SoFar) (hs bs ns : List (List ℕ)) (ls : List Statement) → st .kind ≡ Preference → Adds st hs bs ns → Stated st ls → Stated (with-rule st (numbered (st .names) hs bs ns)) (ls ++ (states (numbered (st .names) hs bs ns) ∷ []))
 rule-stated st hs bs ns ls p d s =
@@ -60,8 +56,9 @@ condition-stated st ts a c ls d s =
     let n = length (st .names) in
     let j = connectivesIn ts in
     let more : madeAtoms (ls ++ (when c b ∷ [])) ≡ madeAtoms ls ++ connectives c = flat-append statementConnectives ls (when c b ∷ []) ∙ ap (λ l. madeAtoms ls ++ l) (append-nil (connectives c)) in
-    let along : connectives c ≡ from (suc (st .made)) j = parsed-connectives (nameNumber (st .names)) (suc (st .made)) ts (d .parsed-as) in
-    let all : madeAtoms (ls ++ (when c b ∷ [])) ≡ from 1 (st .made + j) = more ∙ ap₂ _++_ (s .numbered-on) along ∙ from-app 1 (st .made) j in
+    let along : connectives c ≡ from (suc (st .made)) j = parsed-connectives (nameNumber (st .names)) (suc (st .made)) ts c (d .parsed-as) in
+    let next : suc (st .made) ≡ 1 + st .made = omega arith in
+    let all : madeAtoms (ls ++ (when c b ∷ [])) ≡ from 1 (st .made + j) = more ∙ ap₂ _++_ (s .numbered-on) (along ∙ ap (λ (i : ℕ). from i j) next) ∙ from-append 1 (st .made) j in
     record {
       gathered = ap (λ l. l ++ conditionRules n c b) (s .gathered) ∙ ap (λ l. flat (fileRules n) ls ++ l) (sym (append-nil (conditionRules n c b))) ∙ sym (flat-append (fileRules n) ls (when c b ∷ []));
       is-made = sym (ap length all ∙ length-from 1 (st .made + j));
@@ -94,7 +91,7 @@ late Fixing kind w r e = r
 late Ruling Plain w r e = e
 late Ruling Preference w r e = e
 
-module _ {p : Program} {names : List (List ℕ)} (ls : List (List ℕ)) where
+module _ (p : Program) (names : List (List ℕ)) (ls : List (List ℕ)) where
   abbrev Leads : SoFar → List Statement → Type 0
   Leads after new = Lastly after new (λ ns. statementsFrom ns (after .made) ls) (declaredNames ls) (declaredWords (after .classes) ls) p names
 
@@ -190,12 +187,12 @@ lines-stated {p} {names} k st said [] f q s quiet e = go (ruling? (st .stage)) e
       program-names = cc;
     }
     go false i = absurd (let z : _≡_ {A = ℕ} 0 1 = cc in omega arith)
-lines-stated {p} {names} k st said (l ∷ ls) f q s quiet e = go (stepForm st (formOf l)) (λ after i rec. line-stated ls st after said (formOf l) q s quiet i rec) (λ after i. line-formed st after (formOf l) f i) (λ after new. lines-stated (suc k) after new ls) e
+lines-stated {p} {names} k st said (l ∷ ls) f q s quiet e = go (stepForm st (formOf l)) (λ after i rec. line-stated p names ls st after said (formOf l) q s quiet i rec) (λ after i. line-formed st after (formOf l) f i) (λ after new. lines-stated (suc k) after new ls) e
   where
     go : (z : Step)
-        → ((after : SoFar) → z ≡ next after → ((new : List Statement) → after .kind ≡ Preference → Stated after new → Quiet after new → Leads {p} {names} ls after new) → Led {p} {names} ls st said (formOf l))
+        → ((after : SoFar) → z ≡ next after → ((new : List Statement) → after .kind ≡ Preference → Stated after new → Quiet after new → Leads p names ls after new) → Led p names ls st said (formOf l))
         → ((after : SoFar) → z ≡ next after → Formed after)
-        → ((after : SoFar) (new : List Statement) → Formed after → after .kind ≡ Preference → Stated after new → Quiet after new → readLines (suc k) after ls ≡ accepted p names → Leads {p} {names} ls after new)
-        → onStep z k (λ after. readLines (suc k) after ls) ≡ accepted p names → Led {p} {names} ls st said (formOf l)
+        → ((after : SoFar) (new : List Statement) → Formed after → after .kind ≡ Preference → Stated after new → Quiet after new → readLines (suc k) after ls ≡ accepted p names → Leads p names ls after new)
+        → onStep z k (λ after. readLines (suc k) after ls) ≡ accepted p names → Led p names ls st said (formOf l)
     go (next after) step fine rec i = step after refl (λ new k t u. rec after new (fine after refl) k t u i)
     go (fault r) step fine rec i = absurd (let z : _≡_ {A = ℕ} 0 1 = cc in omega arith)
