@@ -2,11 +2,11 @@
 use Prim.Native.Nat.{ℕ, _+_, _≤_}
 use native.Mathlib.Omega.{arith}
 use mathlib.Core.Path.{_≡_, refl, sym, ap, _∙_, subst}
-use mathlib.Core.Bool.{Bool, true, false, cond}
+use mathlib.Core.Bool.{Bool, cond}
 use mathlib.Core.List.{List}
 use lib.ListN.{length, drop}
 use Rattle.kinds.specs.Words.{open-bracket, close-bracket}
-use Rattle.name_store.specs.NameStore.{sameBytes, among}
+use Rattle.name_store.specs.NameStore.{among}
 use Rattle.name_store.specs.NameIndex.{found}
 use Rattle.name_store.specs.declared.index.Found.{Found}
 use Rattle.name_store.specs.declared.index.Found.the-variants as Found
