@@ -2,8 +2,8 @@
 use crate::writing::emit_made;
 use kinds::limits::Kind;
 use kinds::limits::Preference;
-use name_store::index::find;
 use name_store::index::Found;
+use name_store::index::find;
 ghost use Prim.Native.Nat.{suc, _+_, _^_, _≤_, _<_, min};
 ghost use mathlib.Core.Path.{_≡_};
 ghost use lib.Dec.{T};
@@ -17,13 +17,7 @@ ghost use Rattle.name_store.specs.NameIndex.{Indexed};
 // `T.` and the digits of the largest number.
 const LONGEST: usize = 22;
 
-fn is_declared(
-    number: usize,
-    bytes: &[u8],
-    starts: &[u16],
-    firsts: &[u16],
-    links: &[u16],
-) -> bool
+fn is_declared(number: usize, bytes: &[u8], starts: &[u16], firsts: &[u16], links: &[u16]) -> bool
     requires { ⌜ Indexed (decodeNames (length (now starts)) (now bytes)) (now bytes) (now starts) (now firsts) (now links) ⌝ }
     ensures { λ r. ⌜ r ≡ among (decodeNames (length (now (starts .entry))) (now (bytes .entry))) (madeName number) ⌝ }
 {

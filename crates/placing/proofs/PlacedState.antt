@@ -1,18 +1,16 @@
 -- What is held once the made atoms stand in their place.
-use Prim.Native.Nat.{ℕ, zero, suc, _+_, _-_, _*_, _≤_, _<_}
+use Prim.Native.Nat.{ℕ, zero, suc, _+_, _*_, _≤_, _<_}
 use native.Mathlib.Nat.{zero-add}
 use native.Mathlib.Omega.{arith}
 use mathlib.Core.Path.{_≡_, refl, sym, ap, ap₂, _∙_, subst}
-use mathlib.Core.List.{List, [], _++_, map}
-use lib.ListN.{length, getD, take, drop, length-append, length-drop, length-map}
+use mathlib.Core.List.{List, _++_, map}
+use lib.ListN.{length, getD, take, drop, length-append, length-map}
 use lib.Seq.{length-take-le, take-at, drop-append-seam, sets-eq}
 use Rattle.kinds.specs.Limits.{atomLimit}
 use Rattle.kinds.specs.Sizes.{storeWords, storeBytes}
-use Rattle.kinds.specs.declared.limits.Counts.{Counts}
 use Rattle.kinds.specs.declared.limits.Kind.the-variants.{Preference}
-use Rattle.rules.specs.Lists.{All, sum, flat, from}
-use Rattle.rules.specs.Rules.{Rule, rename, occurrences}
-use Rattle.rules.specs.Renumbering.{Within}
+use Rattle.rules.specs.Lists.{sum, flat}
+use Rattle.rules.specs.Rules.{rename, occurrences}
 use Rattle.rules.proofs.ListLaws.{flat-map}
 use Rattle.rules.proofs.Rules.{rename-occurrences}
 use Rattle.rules.proofs.Renumbering.{within-imp, rename-same}
@@ -21,7 +19,7 @@ use Rattle.stores.specs.RuleStore.{ruleWords, rulesFrom}
 use Rattle.stores.specs.StoredRules.{StoredRules}
 use Rattle.stores.proofs.RuleStores.{rules-length}
 use Rattle.output.specs.Emitted.{Emitted, InRange}
-use Rattle.output.proofs.Emitting.{then, renamed, same-length, range-renamed}
+use Rattle.output.proofs.Emitting.{then, renamed, same-length}
 use Rattle.conditions.specs.Numbers.{unfixed, placedWords, placing}
 use Rattle.conditions.specs.Left.{writtenNames}
 use Rattle.conditions.proofs.Classes.{unfixed-le}
@@ -100,6 +98,9 @@ module _ {g : Gathered} {words bytes : List ℕ} (h : Held Preference (stateOf P
   pub atoms-fit : n + k < 65536
   atoms-fit = omega (arith, all-few)
 
+  fits : (g .counts .rules ≤ 1024) × (g .counts .occurrences ≤ 8192)
+  fits = let l = within-limits Preference (g .counts) (h .counts-fit) in (l .rules, l .occurrences)
+
   -- the names, as the code takes them
 
   pub used-inside : g .bytes ≤ length bytes
@@ -146,7 +147,15 @@ module _ {g : Gathered} {words bytes : List ℕ} (h : Held Preference (stateOf P
       record { below = omega (arith, made-long, all-few, ap length names-are) },
     )
 
-    module _ {numbers : List ℕ} (room : length numbers ≡ atomLimit Preference) (f : (a : ℕ) → a < n + k → getD numbers a 0 ≡ placing q n k a) where
+    -- the rules
+
+    rules-count : length (inPlace q st .program-rules) ≡ g .counts .rules
+    rules-count = length-map (st .program-rules) (rename (placing q (length (st .names)) (st .made))) ∙ sym (rules-is h)
+
+    places-count : sum occurrences (inPlace q st .program-rules) ≡ g .counts .occurrences
+    places-count = rename-occurrences (placing q (length (st .names)) (st .made)) (st .program-rules) ∙ sym (occurrences-is h)
+
+    module _ (numbers : List ℕ) (room : length numbers ≡ atomLimit Preference) (f : (a : ℕ) → a < n + k → getD numbers a 0 ≡ placing q n k a) where
       abbrev moved : List ℕ
       moved = flat (movedWords numbers) (rulesFrom (g .counts .rules) (rulePart n words))
 
@@ -163,12 +172,6 @@ module _ {g : Gathered} {words bytes : List ℕ} (h : Held Preference (stateOf P
           ∙ sym (flat-map ruleWords (rename (λ a. getD numbers a 0)) (st .program-rules))
           ∙ ap (flat ruleWords) numbers-are
 
-      rules-count : length (inPlace q st .program-rules) ≡ g .counts .rules
-      rules-count = length-map (st .program-rules) (rename (placing q (length (st .names)) (st .made))) ∙ sym (rules-is h)
-
-      places-count : sum occurrences (inPlace q st .program-rules) ≡ g .counts .occurrences
-      places-count = rename-occurrences (placing q (length (st .names)) (st .made)) (st .program-rules) ∙ sym (occurrences-is h)
-
       moved-long : length moved ≡ 3 * g .counts .rules + g .counts .occurrences
       moved-long = omega (arith, ap length moved-are, rules-length (inPlace q st .program-rules), rules-count, places-count)
 
@@ -176,9 +179,6 @@ module _ {g : Gathered} {words bytes : List ℕ} (h : Held Preference (stateOf P
       words-are = ap₂ (λ (a b : List ℕ). a ++ b) (ap₂ (placedWords q) (h .made-is) (class-part h)) moved-are
 
       module _ {d d₁ : List ℕ} {classed : ℕ} (a : Emitted d 4 (placedWords q k (classPart n words)) d₁ classed) where
-        fits : (g .counts .rules ≤ 1024) × (g .counts .occurrences ≤ 8192)
-        fits = let l = within-limits Preference (g .counts) (h .counts-fit) in (l .rules, l .occurrences)
-
         pub moved-range : InRange classed moved
         moved-range = record { below = omega (arith, a .place, classes-long, all-few, moved-long, fits .0, fits .1) }
 

@@ -14,13 +14,7 @@ ghost use Rattle.name_store.specs.NameStore.{encodeNames, decodeNames};
 ghost use Rattle.output.specs.Emitted.{Emitted, InRange};
 ghost use Rattle.placing.specs.Parts.{AtFront, placedNames};
 
-pub fn put_classes(
-    classes: &[u16],
-    first: usize,
-    made: usize,
-    out: &mut [u16],
-    at: usize,
-) -> usize
+pub fn put_classes(classes: &[u16], first: usize, made: usize, out: &mut [u16], at: usize) -> usize
     requires { ⌜ (first ≤ length (now classes)) × InRange at (placedWords first made (now classes)) ⌝ }
     ensures { λ r. ⌜ Emitted (now (out .entry)) at (placedWords first made (now (classes .entry))) (now (out .exit)) r ⌝ }
 {
