@@ -25,6 +25,7 @@ use Rattle.conditions.specs.Left.{spoken, leftStatements, renameStatement, writ
 use Rattle.conditions.specs.DirectReading.{DirectReading}
 use Rattle.conditions.proofs.Classes.{unfixed-le}
 use Rattle.conditions.proofs.InFile.{placing-rules}
+use Rattle.conditions.proofs.Names.{written-length}
 use Rattle.conditions.proofs.Programs.{typed-taken}
 use Rattle.conditions.proofs.Renamed.{made-renamed}
 use Rattle.conditions.proofs.Left.{written-left, written-names-left}
@@ -37,7 +38,7 @@ use Rattle.faults.specs.EarliestFault.{Accepts}
 use Rattle.faults.proofs.EarliestFault.{typed-accepted}
 use Rattle.reader.specs.FormedState.{Formed}
 use Rattle.reader.proofs.FormedLines.{start-formed}
-use Rattle.reader.proofs.PlacedLines.{written-length, lines-kind}
+use Rattle.reader.proofs.PlacedLines.{lines-kind}
 use Rattle.reader.proofs.RoundTrip.{lines-read, whole-kind}
 use Rattle.condition_text.specs.Statements.{declaredNames, declaredWords, statementsFrom, statements}
 use Rattle.condition_text.specs.ReadDirectly.{plannerAtoms, plannerNames, plannerWords, plannerStatements, ReadDirectly}

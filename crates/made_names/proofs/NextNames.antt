@@ -4,7 +4,7 @@ use native.Mathlib.Numerals.{add-one}
 use native.Mathlib.Omega.{arith}
 use mathlib.Core.Path.{_≡_, refl, sym, ap, ap₂, _∙_, subst}
 use mathlib.Core.Bool.{Bool, true, false, _||_}
-use mathlib.Core.List.{List, [], _∷_, _++_}
+use mathlib.Core.List.{List, [], _∷_}
 use lib.Dec.{T}
 use lib.ListN.{length, take}
 use Rattle.kinds.specs.Limits.{atomLimit}
@@ -12,8 +12,8 @@ use Rattle.kinds.specs.declared.limits.Kind.the-variants.{Preference}
 use Rattle.rules.specs.Lists.{All, some, from}
 use Rattle.rules.proofs.Booleans.{is-true, is-false, or-false, T-not-out}
 use Rattle.rules.proofs.Lists.{some-app, from-append}
-use Rattle.names.specs.Names.{allowed}
-use Rattle.conditions.specs.Left.{madeName}
+use Rattle.names.specs.Names.{madeName, takes, allowed}
+use Rattle.names.proofs.MadeNames.{made-past}
 use Rattle.name_store.specs.NameStore.{sameBytes, among}
 use Rattle.name_store.specs.NameIndex.{found}
 use Rattle.name_store.specs.declared.index.Found.{Found}
@@ -22,17 +22,17 @@ use Rattle.name_store.proofs.NameStores.{same-equal, not-seen}
 use Rattle.name_store.proofs.NameChains.{missing-differs, found-among}
 use Rattle.output.specs.Emitted.{Emitted}
 use Rattle.output.proofs.Emitting.{front-inside, front-is}
-use Rattle.made_names.proofs.NamesPut.{made-short}
+use Rattle.made_names.proofs.NamesPut.{name-short}
 
 -- one name
 
 module _ (t : ℕ) {d after : List ℕ} {size : ℕ} (e : Emitted d 0 (madeName t) after size) (room : length d ≡ 22) where
   pub name-inside : size ≤ length after
-  name-inside = front-inside e (omega (arith, made-short t))
+  name-inside = front-inside e (omega (arith, name-short t))
 
   module _ (names : List (List ℕ)) {r : Found} (is : r ≡ found (take size after) names) where
     looked-up : r ≡ found (madeName t) names
-    looked-up = is ∙ ap (λ x. found x names) (front-is e (omega (arith, made-short t)))
+    looked-up = is ∙ ap (λ x. found x names) (front-is e (omega (arith, name-short t)))
 
     pub declared : {j : ℕ} → r ≡ At j → true ≡ among names (madeName t)
     declared f = sym (is-true (among names (madeName t)) (found-among (madeName t) 0 names (sym looked-up ∙ f)))
@@ -90,4 +90,5 @@ not-among x f (y ∷ names) h = ap₂ _||_ (is-false (sameBytes x y) (λ t. f (s
 -- no name has a number past the limit
 pub past-limit : (names : List (List ℕ)) {made count : ℕ} → All (λ x. T (allowed Preference x)) names → made ≤ atomLimit Preference → count < 2 ^ 32
     → (t : ℕ) → atomLimit Preference < t → t ≤ made + count → among names (madeName t) ≡ false
-past-limit names h m c t l u = not-among (madeName t) ?wrong names h
+unfolding allowed
+past-limit names h m c t l u = not-among (madeName t) (λ a. subst (λ k. T (takes Preference k)) (made-past t l (omega arith)) a) names h

@@ -10,8 +10,7 @@ ghost use lib.Dec.{T};
 ghost use lib.ListN.{length};
 ghost use Rattle.kinds.specs.Limits.{atomLimit};
 ghost use Rattle.rules.specs.Lists.{All, some, from};
-ghost use Rattle.names.specs.Names.{allowed};
-ghost use Rattle.conditions.specs.Left.{madeName};
+ghost use Rattle.names.specs.Names.{madeName, allowed};
 ghost use Rattle.name_store.specs.NameStore.{decodeNames, among};
 ghost use Rattle.name_store.specs.NameIndex.{Indexed};
 

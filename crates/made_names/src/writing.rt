@@ -7,7 +7,7 @@ ghost use Prim.Native.Nat.{_≤_};
 ghost use mathlib.Core.List.{map};
 ghost use Rattle.kinds.specs.Limits.{atomLimit};
 ghost use Rattle.rules.specs.Lists.{from};
-ghost use Rattle.conditions.specs.Left.{madeName};
+ghost use Rattle.names.specs.Names.{madeName};
 ghost use Rattle.name_store.specs.NameStore.{nameBytes, encodeNames};
 ghost use Rattle.output.specs.Emitted.{Emitted, InRange};
 

@@ -1,20 +1,21 @@
 -- Class words and names, those of the made atoms between.
-use Prim.Native.Nat.{ℕ, suc, _+_, _-_, _≤_, _<_}
-use native.Mathlib.Numerals.{add-one}
+use Prim.Native.Nat.{ℕ, _+_, _-_, _≤_, _<_}
 use native.Mathlib.Omega.{arith}
 use mathlib.Core.Path.{_≡_, refl, sym, ap, ap₂, _∙_}
-use mathlib.Core.List.{List, [], _∷_, _++_, map, append-assoc}
-use lib.ListN.{length, getD, take, drop, replicate, length-append}
-use lib.Seq.{take-all, take-at, take-suc, split-at, drop-at}
+use mathlib.Core.List.{List, [], _++_, map, append-nil}
+use lib.ListN.{length, getD, take, drop, replicate, length-append, take-append-drop}
+use lib.Seq.{take-all, take-at, drop-append-seam}
 use Rattle.kinds.specs.Limits.{varying}
 use Rattle.rules.specs.Lists.{from}
 use Rattle.rules.proofs.Lists.{part-rest}
+use Rattle.names.specs.Names.{madeName}
 use Rattle.conditions.specs.Numbers.{placedWords}
-use Rattle.conditions.specs.Left.{madeName}
-use Rattle.name_store.specs.NameStore.{nameBytes, encodeNames, decodeNames}
+use Rattle.conditions.specs.Left.{writtenNames}
+use Rattle.name_store.specs.NameStore.{encodeNames, decodeNames}
 use Rattle.name_store.specs.NameIndex.{nameStart}
-use Rattle.name_store.proofs.NamePlaces.{NameHere, stands, length-decode}
-use Rattle.name_store.proofs.NameEntries.{encode-last}
+use Rattle.name_store.proofs.NameStores.{decode-front}
+use Rattle.name_store.proofs.NamePlaces.{NameHere, stored-here, length-decode, decode-first}
+use Rattle.name_store.proofs.NameEntries.{encode-append, place-next}
 use Rattle.output.specs.Emitted.{Emitted, InRange}
 use Rattle.output.proofs.Emitting.{then, renamed}
 use Rattle.placing.specs.Parts.{firstBytes, AtFront, placedNames}
@@ -49,26 +50,6 @@ unfolding placedWords
 class-runs q k ws = record { are = ap (λ l. take q ws ++ (replicate k varying ++ l)) (sym (part-rest q ws)) }
 
 -- the end of the first names
-
-encode-append : (xs ys : List (List ℕ)) → encodeNames (xs ++ ys) ≡ encodeNames xs ++ encodeNames ys
-unfolding encodeNames
-encode-append [] ys = refl
-encode-append (x ∷ xs) ys = ap (λ l. nameBytes x ++ l) (encode-append xs ys) ∙ sym (append-assoc (nameBytes x) (encodeNames xs) (encodeNames ys))
-
-place-next : (names : List (List ℕ)) (i : ℕ) → i < length names → nameStart names (i + 1) ≡ nameStart names i + (1 + length (getD names i []))
-place-next names i l =
-    let e : take (i + 1) names ≡ take i names ++ (getD names i [] ∷ []) = ap (λ k. take k names) (add-one i) ∙ take-suc names i [] l in
-    omega (arith, ap (λ x. length (encodeNames x)) e ∙ ap length (encode-last (take i names) (getD names i [])) ∙ length-append (encodeNames (take i names)) (nameBytes (getD names i [])))
-
-stored-here : (names : List (List ℕ)) (bytes rest : List ℕ) → encodeNames names ++ rest ≡ bytes → (i : ℕ) → i < length names → NameHere bytes (nameStart names i) (getD names i [])
-unfolding encodeNames
-stored-here names bytes rest e i l =
-    let x = getD names i [] in
-    let after = encodeNames (drop (suc i) names) in
-    let split : encodeNames names ≡ encodeNames (take i names) ++ (nameBytes x ++ after) = ap encodeNames (split-at names i [] l) ∙ encode-append (take i names) (x ∷ drop (suc i) names) in
-    let all : bytes ≡ encodeNames (take i names) ++ (nameBytes x ++ (after ++ rest)) =
-    sym e ∙ ap (λ b. b ++ rest) split ∙ append-assoc (encodeNames (take i names)) (nameBytes x ++ after) rest ∙ ap (λ b. encodeNames (take i names) ++ b) (append-assoc (nameBytes x) after rest) in
-    stands bytes (nameStart names i) x (after ++ rest) (ap (drop (nameStart names i)) all ∙ drop-at (encodeNames (take i names)) (nameBytes x ++ (after ++ rest)) (nameStart names i) refl)
 
 pub record Passing (bytes : List ℕ) (count at i : ℕ) : Type 0 where
   pub front : AtFront count bytes
@@ -115,3 +96,38 @@ module _ (q : ℕ) {bytes : List ℕ} {split : ℕ} (f : AtFront q bytes) (e : s
       let first : firstBytes q bytes ≡ take split bytes = sym (ap (take split) (sym f) ∙ take-at (firstBytes q bytes) rest split (sym e)) in
       let last : rest ≡ take (length bytes - split) (drop split bytes) = ap (λ n. drop n bytes) (sym e) ∙ sym (part-rest split bytes) in
       record { are = ap₂ (λ u w. u ++ (encodeNames (map madeName (from 1 k)) ++ w)) first last }
+
+-- of the store of a list of names
+
+module _ (q : ℕ) (names : List (List ℕ)) (l : q ≤ length names) where
+  first-names : decodeNames q (encodeNames names) ≡ take q names
+  first-names =
+      decode-first q (length names) (encodeNames names) l
+      ∙ ap (λ b. take q (decodeNames (length names) b)) (sym (append-nil (encodeNames names)))
+      ∙ ap (take q) (decode-front names [])
+
+  abbrev front : List ℕ
+  front = encodeNames (take q names)
+
+  parts : encodeNames names ≡ front ++ encodeNames (drop q names)
+  parts = ap encodeNames (sym (take-append-drop q names)) ∙ encode-append (take q names) (drop q names)
+
+  others : drop (length front) (encodeNames names) ≡ encodeNames (drop q names)
+  others = ap (drop (length front)) parts ∙ drop-append-seam front (encodeNames (drop q names))
+
+  pub at-front : AtFront q (encodeNames names)
+  at-front = ap (λ x. encodeNames x ++ drop (length (encodeNames x)) (encodeNames names)) first-names ∙ ap (λ b. front ++ b) others ∙ sym parts
+
+  pub names-placed : (k : ℕ) → placedNames q k (encodeNames names) ≡ encodeNames (writtenNames q k names)
+  unfolding placedNames writtenNames
+  names-placed k =
+      let made = map madeName (from 1 k) in
+      ap (λ x. encodeNames x ++ (encodeNames made ++ drop (length (encodeNames x)) (encodeNames names))) first-names
+      ∙ ap (λ b. front ++ (encodeNames made ++ b)) others
+      ∙ sym (encode-append (take q names) (made ++ drop q names) ∙ ap (λ b. front ++ b) (encode-append made (drop q names)))
+
+  pub names-long : (k : ℕ) → length (encodeNames (writtenNames q k names)) ≡ length (encodeNames names) + length (encodeNames (map madeName (from 1 k)))
+  unfolding writtenNames
+  names-long k =
+      let made = map madeName (from 1 k) in
+      omega (arith, ap length (encode-append (take q names) (made ++ drop q names)), length-append front (encodeNames (made ++ drop q names)), ap length (encode-append made (drop q names)), length-append (encodeNames made) (encodeNames (drop q names)), ap length parts, length-append front (encodeNames (drop q names)))

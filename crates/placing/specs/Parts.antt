@@ -4,7 +4,7 @@ use mathlib.Core.Path.{_≡_}
 use mathlib.Core.List.{List, _++_, map}
 use lib.ListN.{length, drop}
 use Rattle.rules.specs.Lists.{from}
-use Rattle.conditions.specs.Left.{madeName}
+use Rattle.names.specs.Names.{madeName}
 use Rattle.name_store.specs.NameStore.{encodeNames, decodeNames}
 
 -- the bytes of the first n names

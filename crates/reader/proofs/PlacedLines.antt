@@ -6,25 +6,25 @@ use mathlib.Core.Logic.{_⊎_, inl, inr, _≢_}
 use mathlib.Core.Bool.{Bool, true, false, cond}
 use mathlib.Core.List.{List, [], _∷_, _++_, map}
 use lib.Dec.{T}
-use lib.ListN.{length, take, drop, length-append, length-map, length-drop, take-append-drop}
-use lib.Seq.{length-take-le}
+use lib.ListN.{length, take, drop, length-map, take-append-drop}
 use Rattle.kinds.specs.Limits.{atomLimit}
 use Rattle.kinds.specs.declared.limits.Kind.{Kind}
 use Rattle.kinds.specs.declared.limits.Kind.the-variants.{Plain, Preference}
 use Rattle.kinds.specs.declared.refusals.Refusal.the-variants.{BrokenForm}
 use Rattle.rules.specs.Lists.{All, Distinct, from}
 use Rattle.rules.specs.Rules.{Rule, rename}
-use Rattle.rules.proofs.Lists.{all-app, all-app-l, all-app-r, all-imp, all-map, all-from, from-all, distinct-from, distinct-map, length-from}
+use Rattle.rules.proofs.Lists.{all-app, all-app-l, all-app-r, all-imp, all-map, all-from, distinct-from, distinct-map}
 use Rattle.rules.proofs.ListLaws.{distinct-app}
 use Rattle.rules.proofs.Rules.{rename-occurrences}
-use Rattle.names.specs.Names.{allowed, madeName}
-use Rattle.names.proofs.MadeNames.{made-allowed, made-name-inj}
+use Rattle.names.specs.Names.{madeName}
+use Rattle.names.proofs.MadeNames.{made-name-inj}
 use Rattle.name_store.specs.NameStore.{NamesForm}
 use Rattle.stores.specs.Program.{Program, ProgramForm, ClassesForm, RuleForm}
 use Rattle.conditions.specs.Numbers.{unfixed, placedWords, placing}
 use Rattle.conditions.specs.Left.{writtenNames}
 use Rattle.conditions.proofs.Classes.{unfixed-le, placed-classes}
 use Rattle.conditions.proofs.InFile.{placing-forms}
+use Rattle.conditions.proofs.Names.{written-length, written-allowed}
 use Rattle.lines.specs.declared.stage.Stage.{Stage}
 use Rattle.lines.specs.Forms.{LineForm, declares, rules, condition, blank, broken, formOf}
 use Rattle.lines.specs.Faults.{SoFar, Step, next, fault, ruling?, stepForm}
@@ -76,26 +76,15 @@ module _ {A : Type 0} where
 
 -- the names
 
-module _ (q k : ℕ) (names : List (List ℕ)) (inside : q ≤ length names) where
-  pub written-length : length (writtenNames q k names) ≡ length names + k
-  unfolding writtenNames
-  written-length =
-      let made = map madeName (from 1 k) in
-      omega (arith, length-append (take q names) (made ++ drop q names), length-append made (drop q names), length-map (from 1 k) madeName, length-from 1 k, length-take-le q names inside, length-drop q names)
-
-  module _ (few : length names + k ≤ atomLimit Preference) (form : NamesForm Preference (length names) names) (untaken : All (λ t. Among names (madeName t) → ⊥) (from 1 k)) where
-    pub written-form : NamesForm Preference (length (writtenNames q k names)) (writtenNames q k names)
-    unfolding writtenNames
-    written-form =
-        let made = map madeName (from 1 k) in
-        let parts : All (λ x. T (allowed Preference x)) (take q names ++ drop q names) = subst (All (λ x. T (allowed Preference x))) (sym (take-append-drop q names)) (form .all-allowed) in
-        let new : All (λ x. T (allowed Preference x)) made = all-map (λ x. T (allowed Preference x)) madeName (from 1 k) (all-from (λ t. T (allowed Preference (madeName t))) 1 k (λ t l u. made-allowed t l (omega arith) Preference)) in
-        let small : All (λ t. t ≤ 256) (from 1 k) = all-from (λ t. t ≤ 256) 1 k (λ t l u. omega arith) in
-        record {
-          count = refl;
-          all-allowed = all-app (λ x. T (allowed Preference x)) (take q names) (made ++ drop q names) (all-app-l (λ x. T (allowed Preference x)) (take q names) (drop q names) parts) (all-app (λ x. T (allowed Preference x)) made (drop q names) new (all-app-r (λ x. T (allowed Preference x)) (take q names) (drop q names) parts));
-          different = between q names made (form .different) (distinct-map madeName (λ t. t ≤ 256) (λ s t a b e. made-name-inj s t (omega arith) (omega arith) e) (from 1 k) small (distinct-from 1 k)) (all-map (λ x. Among names x → ⊥) madeName (from 1 k) untaken);
-        }
+pub written-form : (q k : ℕ) (names : List (List ℕ)) → length names + k ≤ atomLimit Preference → NamesForm Preference (length names) names → All (λ t. Among names (madeName t) → ⊥) (from 1 k) → NamesForm Preference (length (writtenNames q k names)) (writtenNames q k names)
+unfolding writtenNames
+written-form q k names few form untaken =
+    let small : All (λ t. t ≤ 256) (from 1 k) = all-from (λ t. t ≤ 256) 1 k (λ t l u. omega arith) in
+    record {
+      count = refl;
+      all-allowed = written-allowed q k names (omega arith) (form .all-allowed);
+      different = between q names (map madeName (from 1 k)) (form .different) (distinct-map madeName (λ t. t ≤ 256) (λ s t a b e. made-name-inj s t (omega arith) (omega arith) e) (from 1 k) small (distinct-from 1 k)) (all-map (λ x. Among names x → ⊥) madeName (from 1 k) untaken);
+    }
 
 -- the program
 
@@ -140,7 +129,7 @@ module _ (stage : Stage) (j : ℕ) (words : List ℕ) (names : List (List ℕ)) 
           classes-form = subst (λ (i : ℕ). ClassesForm Preference i j (placedWords q (suc k) words)) size (placed-classes j words classes (suc k));
           rule-forms = subst (λ (i : ℕ). All (RuleForm Preference i) (map (rename (placing q n (suc k))) rs)) (sym long) (placing-forms q n (suc k) inside rs (f .rule-forms));
         },
-        written-form q (suc k) names inside (f .atoms-fit) (f .names-form) (f .untaken),
+        written-form q (suc k) names (f .atoms-fit) (f .names-form) (f .untaken),
       )
 
 pub placed-form : (st : SoFar) → Formed st → ProgramForm (programOf (placed st)) × NamesForm (placed st .kind) (length (placed st .names)) (placed st .names)

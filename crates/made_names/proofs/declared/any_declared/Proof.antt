@@ -4,7 +4,7 @@ use mathlib.Core.Path.{sym, _∙_}
 use lib.ListN.{length}
 use Rattle.kinds.specs.Limits.{atomLimit}
 use Rattle.kinds.specs.declared.limits.Kind.the-variants.{Preference}
-use Rattle.conditions.specs.Left.{madeName}
+use Rattle.names.specs.Names.{madeName}
 use Rattle.name_store.specs.NameStore.{decodeNames, among}
 use Rattle.made_names.proofs.NextNames.{Looking, look-first, look-again, one-found, none-found, past-limit}
 use Rattle.made_names.proofs.declared.any_declared.Statement.{statement}
@@ -29,7 +29,7 @@ is-declared-requires : tie.Need-is-declared-requires Inv-loop μ-loop
 is-declared-requires c κs = c .before .before .before .before .before .before .before .pre .0
 
 returns : tie.Need-returns Inv-loop μ-loop
-returns c = one-found (c .before .before .before .loop .inv .1) (c .before .before .loop-test .taken) (sym (c .before .is-declared .ensures) ∙ c .if1 .taken)
+returns c = one-found (c .before .before .before .loop .inv .1) (omega arith) (sym (c .before .is-declared .ensures) ∙ c .if1 .taken)
 
 add-number-2 : tie.Need-add-number-2 Inv-loop μ-loop
 add-number-2 c = omega (arith, c .before .before .before .loop .inv .0)
@@ -38,10 +38,10 @@ loop-less : tie.Need-loop-less Inv-loop μ-loop
 loop-less c = omega arith
 
 loop-again : tie.Need-loop-again Inv-loop μ-loop
-loop-again c = (c .before .before .before .loop .inv .0, look-again (c .before .before .before .loop .inv .1) (c .before .before .loop-test .taken) (sym (c .before .is-declared .ensures) ∙ c .if1 .left))
+loop-again c = (c .before .before .before .loop .inv .0, look-again (c .before .before .before .loop .inv .1) (omega arith) (sym (c .before .is-declared .ensures) ∙ c .if1 .left))
 
 returns-2 : tie.Need-returns-2 Inv-loop μ-loop
-returns-2 c = none-found (c .before .loop .inv .1) (c .loop-test .left)
+returns-2 c = none-found (c .before .loop .inv .1) (omega arith)
 
 pub any-declared-spec : {M : Type 1} → statement M
 any-declared-spec =

@@ -1,7 +1,7 @@
 use native.Mathlib.Omega.{arith}
 use mathlib.Core.Path.{refl, sym}
 use lib.Seq.{length-take-le}
-use Rattle.made_names.proofs.NamesPut.{made-short}
+use Rattle.made_names.proofs.NamesPut.{name-short}
 use Rattle.made_names.proofs.NextNames.{name-inside, declared, undeclared}
 use borrow.Author.Needs.{needs}
 use Rattle.made_names.proofs.declared.is_declared.Statement.{statement}
@@ -11,7 +11,7 @@ slice-aggregate-emit-made : tie.Need-slice-aggregate-emit-made
 slice-aggregate-emit-made c = search needs
 
 emit-made-requires : tie.Need-emit-made-requires
-emit-made-requires c κs = record { below = omega (arith, made-short (c .before .before .before .before .before .args .number)) }
+emit-made-requires c κs = record { below = omega (arith, name-short (c .before .before .before .before .before .args .number)) }
 
 array-share-prefix-name : tie.Need-array-share-prefix-name
 array-share-prefix-name c = name-inside _ (c .before .emit-made .ensures) refl

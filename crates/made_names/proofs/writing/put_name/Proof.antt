@@ -1,4 +1,5 @@
-use Rattle.made_names.proofs.NamesPut.{made-short, size-is, named}
+use Rattle.made_names.proofs.NamesPut.{name-short}
+use Rattle.output.proofs.Emitting.{run-length, behind-length}
 use native.Mathlib.Omega.{arith}
 use borrow.Author.Needs.{needs}
 use Rattle.made_names.proofs.writing.put_name.Statement.{statement}
@@ -17,7 +18,7 @@ sub-push-2 : tie.Need-sub-push-2
 sub-push-2 c = search needs
 
 cast-push : tie.Need-cast-push
-cast-push c = omega (arith, size-is _ (c .before .before .emit-made .ensures), made-short (c .before .before .before .before .before .args .number))
+cast-push c = omega (arith, run-length _ (c .before .before .emit-made .ensures), name-short (c .before .before .before .before .before .args .number))
 
 push-requires : tie.Need-push-requires
 push-requires c κs = search needs
@@ -26,7 +27,7 @@ same-length : tie.Need-same-length
 same-length c = search needs
 
 returns : tie.Need-returns
-returns c = named _ (c .before .before .before .before .before .before .emit-made .ensures) (c .before .before .push .ensures)
+returns c = behind-length _ (c .before .before .before .before .before .before .emit-made .ensures) (c .before .before .push .ensures)
 
 pub put-name-spec : {M : Type 1} → statement M
 put-name-spec =
