@@ -1,3 +1,4 @@
 -- What the lines state, line by line.
 pub mod Stated
 pub mod Direct
+pub mod Examples

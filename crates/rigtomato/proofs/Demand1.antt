@@ -14,7 +14,7 @@ use Rattle.text.specs.Text.{textOf}
 use Rattle.lines.specs.Said.{accepted}
 use Rattle.faults.specs.EarliestFault.{Accepts}
 use Rattle.faults.proofs.EarliestFault.{said-accepted}
-use Rattle.reader.specs.WrittenText.{TypedText}
+use Rattle.reader.specs.WrittenText.{NoConditions, TypedText}
 use Rattle.reader.proofs.RoundTrip.{write-read, accepted-iff, round-trips}
 use Rattle.clauses.specs.Sentences.{AcceptsClauses}
 use Rattle.clauses.proofs.Satisfying.{written-clauses}
@@ -24,10 +24,10 @@ use Rattle.answers.proofs.Readers.{read-refuses, clauses-refuse}
 use Rattle.answers.proofs.Refusals.{write-refuses, canonical-refuses, translate-refuses, verdict-refuses, print-refuses, prints-into}
 use Rattle.rigtomato.specs.Demand1.{PreferenceStores, Demand1}
 
-accepted-texts : (text : List ℕ) → ((p : Program) × (names : List (List ℕ)) × Accepts text p names) ↔ TypedText text
-accepted-texts text = (
-  λ h. accepted-iff text .0 (h .0, h .1, said-accepted text (h .0) (h .1) .1 (h .2)),
-  λ w. let r = accepted-iff text .1 w in (r .0, r .1, said-accepted text (r .0) (r .1) .0 (r .2)),
+accepted-texts : (text : List ℕ) → NoConditions text → ((p : Program) × (names : List (List ℕ)) × Accepts text p names) ↔ TypedText text
+accepted-texts text none = (
+  λ h. accepted-iff text none .0 (h .0, h .1, said-accepted text (h .0) (h .1) .1 (h .2)),
+  λ w. let r = accepted-iff text none .1 w in (r .0, r .1, said-accepted text (r .0) (r .1) .0 (r .2)),
 )
 
 stores-text : (p : Program) (names : List (List ℕ)) → ProgramForm p → NamesForm (p .kind) (p .atoms) names → storesText (encode p) (encodeNames names) ≡ textOf p names

@@ -11,6 +11,7 @@ use Rattle.faults.proofs.EarliestFault.{said-accepted}
 use Rattle.clauses.proofs.Satisfying.{written-clauses}
 use Rattle.reader.proofs.RoundTrip.{accepted-form}
 use Rattle.reader.proofs.StatesLeft.{states-left}
+use Rattle.condition_text.proofs.Direct.{read-directly}
 use Rattle.canonical_text.proofs.CanonicalTexts.{canonical-states}
 use Rattle.places.proofs.Places.{in-places}
 use Rattle.walks.proofs.Order.{ordered}
@@ -40,6 +41,7 @@ demand-2 = record {
   verdicts = judges;
   lists = lists;
   left-out = states-left;
+  conditions = read-directly;
   clause-sets = written-clauses;
   canonical-states = canonical-states;
 }

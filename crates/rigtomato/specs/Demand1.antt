@@ -1,4 +1,4 @@
--- Demand 1 (document 01, "Who can be turned back"; document 02, W-202 and W-205): each entry point refuses exactly what is wrong, and leaves every lent buffer as it was.
+-- Demand 1 (document 01, "Who can be turned back"; document 02, W-202, W-205 and W-208): each entry point refuses exactly what is wrong, and leaves every lent buffer as it was.
 use Prim.Native.Nat.{ℕ}
 use mathlib.Core.Path.{_≡_}
 use mathlib.Core.Logic.{_↔_}
@@ -10,7 +10,7 @@ use Rattle.name_store.specs.NameStore.{NamesOf, encodeNames}
 use Rattle.text.specs.Text.{textOf}
 use Rattle.faults.specs.EarliestFault.{Accepts}
 use Rattle.clauses.specs.Sentences.{AcceptsClauses}
-use Rattle.reader.specs.WrittenText.{TypedText}
+use Rattle.reader.specs.WrittenText.{NoConditions, TypedText}
 use Rattle.reader.specs.RoundTrips.{RoundTrips}
 use Rattle.canonical_text.specs.CanonicalTexts.{CanonicalTexts}
 use Rattle.answers.specs.Writing.{storesText}
@@ -25,8 +25,8 @@ pub record PreferenceStores (p : Program) (names : List (List ℕ)) : Type 0 whe
 
 pub record Demand1 : Type 0 where
   pub read : (text rules names : List ℕ) → ReadRefuses text rules names
-  -- a text is accepted exactly when its lines are ended and its strict text is the text of a program of the form
-  pub accepted : (text : List ℕ) → ((p : Program) × (names : List (List ℕ)) × Accepts text p names) ↔ TypedText text
+  -- a text without conditions is accepted exactly when its lines are ended and its strict text is the text of a program of the form
+  pub accepted : (text : List ℕ) → NoConditions text → ((p : Program) × (names : List (List ℕ)) × Accepts text p names) ↔ TypedText text
   -- what the writer gives for it, and the reader for that
   pub texts : RoundTrips
   pub clauses : (text rules names : List ℕ) → ClausesRefuse text rules names

@@ -1,4 +1,4 @@
--- Demand 2 (document 01, "Verdicts"; document 02, W-202, W-203, W-205, W-206 and W-207): unless the budget runs out, the verdicts are those of the theory, and every preferred state is listed once, in order.
+-- Demand 2 (document 01, "Verdicts"; document 02, W-202, W-203, W-205, W-206, W-207 and W-208): unless the budget runs out, the verdicts are those of the theory, and every preferred state is listed once, in order.
 use Prim.Native.Nat.{ℕ, _≤_}
 use mathlib.Core.Path.{_≡_}
 use mathlib.Core.Logic.{_⊎_}
@@ -10,6 +10,7 @@ use Rattle.stores.specs.Program.{Program}
 use Rattle.restriction.specs.Remaining.{left}
 use Rattle.restriction.specs.PreferredLeft.{PreferredLeft}
 use Rattle.faults.specs.EarliestFault.{Accepts}
+use Rattle.condition_text.specs.ReadDirectly.{ReadDirectly}
 use Rattle.clauses.specs.ClausesSaid.{clausesOf}
 use Rattle.clauses.specs.Satisfying.{WrittenClauses}
 use Rattle.clauses.specs.Sentences.{AcceptsClauses}
@@ -46,6 +47,8 @@ pub record Demand2 : Type 0 where
   -- a file's preferred sets are those of all atoms that it declares, cut to what is left
   pub left-out : (text : List ℕ) (p : Program) (names : List (List ℕ)) (a : Accepts text p names) → p .kind ≡ Preference
       → PreferredLeft (left (a .1 .whole)) (a .1 .whole .words) (a .1 .whole .rules) (p .words) (p .rules)
+  -- "The preferred states, cut to the planner's atoms, are those of the conditions read directly, each from just one state" (W-208)
+  pub conditions : (text : List ℕ) (p : Program) (names : List (List ℕ)) → Accepts text p names → p .kind ≡ Preference → ReadDirectly text p names
   -- "The sets satisfying the clauses are exactly the models of what is written, and its preferred states are their subset-minimal ones" (W-202)
   pub clause-sets : (text : List ℕ) (p : Program) (names : List (List ℕ)) (a : AcceptsClauses text p names) → WrittenClauses (a .atoms) (clausesOf text) p names
   -- "preferred states are those of the typed file" (W-205): what is read from a file's canonical text has the file's declarations, and its preferred and stable sets
