@@ -202,11 +202,7 @@ pub fn long_file(every: usize) -> Vec<u8> {
 /// room for, three to a condition; the rest are conditions of one name, up to the limit of rules.
 pub fn conditions_file() -> Vec<u8> {
     let mut random = Random::new(208);
-    let name = |i: usize| {
-        format!("object_{i:0>2}_of_the_long_loan")[..24]
-            .as_bytes()
-            .to_vec()
-    };
+    let name = |i: usize| format!("object_{i:0>2}_of_a_long_loan").into_bytes();
     let names: Vec<Vec<u8>> = (0..40).map(name).collect();
     let declared = |part: &[Vec<u8>]| part.join(&b' ');
     let mut text = [

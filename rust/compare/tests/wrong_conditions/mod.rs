@@ -5,11 +5,11 @@ use compare::engine::{Engine, ReadAnswer, Reference};
 use reference::limits::{Kind, TEXT_LIMIT};
 use reference::names::{made_name, made_number, name_fault};
 use reference::pieces::{pieces, Piece};
-use reference::program::{Names, Program, Role};
+use reference::program::{Names, Program};
 use reference::reader;
 use reference::refusal::Reason;
 use reference::stores::{name_store, rule_store};
-use reference::used_atoms::{restricted, used_atoms};
+use reference::used_atoms::restricted;
 use std::collections::HashSet;
 
 /// What is wrong with a reading.
@@ -895,9 +895,7 @@ fn behind_the_fixed(text: &[u8], made: &Names) -> Option<(Vec<u16>, Vec<u8>)> {
         .filter(|atom| !is_made(atom))
         .chain((0..program.atoms).filter(is_made))
         .collect();
-    debug_assert_eq!(used_atoms(&program).len(), program.atoms);
     let moved = restricted(&program, &order);
-    assert!(moved.roles.iter().any(|role| *role == Role::Varying));
     let names: Names = order.iter().map(|&atom| names[atom].clone()).collect();
     Some((rule_store(&moved), name_store(&names)))
 }
