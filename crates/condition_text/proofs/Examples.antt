@@ -43,7 +43,7 @@ nine-rules = refl
 
 -- `a and a`, `not not a`, and a condition of one name among rules; unused names are left out
 small-conditions :
-    All (λ c. written (said (c .0)) ≡ c .1)
+    All (λ (c : List ℕ × List ℕ). written (said (c .0)) ≡ c .1)
     ((bytes "(vary a b)\n(fix)\n(when a and a (then b))\n", bytes "(vary a b T.1)\n(fix)\n(rule (head T.1) (body a) (not))\n(rule (head a) (body T.1) (not))\n(rule (head a) (body T.1) (not))\n(rule (head b) (body T.1) (not))\n")
     ∷ (bytes "(min a)\n(vary)\n(fix b x)\n(when not not a (then b))\n", bytes "(min a)\n(vary T.1 T.2)\n(fix b)\n(rule (head T.1 T.2) (body) (not))\n(rule (head) (body T.1 T.2) (not))\n(rule (head T.2 a) (body) (not))\n(rule (head) (body T.2 a) (not))\n(rule (head b) (body T.1) (not))\n")
     ∷ (bytes "(vary a or)\n(fix)\n(rule (head a) (body) (not))\n (when(( a ))(then or)) ; behind a comment\n", bytes "(vary a or)\n(fix)\n(rule (head a) (body) (not))\n(rule (head or) (body a) (not))\n")
@@ -66,7 +66,7 @@ behind line = bytes "(vary a b)\n(fix)\n" ++ (line ++ bytes "\n")
 
 -- each on line 3
 refusals :
-    All (λ c. IsRefused (behind (c .0), c .1, 3))
+    All (λ (c : List ℕ × Refusal). IsRefused (behind (c .0), c .1, 3))
     (
     -- 2: no last `(then a))`, brackets that do not pair as one form, a word that is no name
     (bytes "(when a)", BrokenForm)
