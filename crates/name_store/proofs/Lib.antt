@@ -4,4 +4,5 @@ pub mod ByteLoops
 pub mod NamePlaces
 pub mod NameChains
 pub mod NameEntries
+pub mod NumberedNames
 pub mod NameClauses

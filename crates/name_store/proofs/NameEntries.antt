@@ -9,7 +9,7 @@ use mathlib.Core.List.{List, [], _∷_, _++_, append-assoc, append-nil}
 use mathlib.Core.Bool.{true, false, cond, not}
 use lib.Dec.{eqb}
 use lib.ListN.{replicate, length-replicate, getD-replicate, length, getD, take, drop, set, length-append, length-set, List·getD-append}
-use lib.Seq.{length-take-le, getD-take, drop-append-seam, take-append-le, take-append-seam, getD-append-seam, getD-set-same, getD-set-other, drop-drop}
+use lib.Seq.{length-take-le, take-suc, getD-take, drop-append-seam, take-append-le, take-append-seam, getD-append-seam, getD-set-same, getD-set-other, drop-drop}
 use borrow.Author.Tests.{eq-eqb, ne-eqb}
 use Rattle.rules.specs.Lists.{All, Distinct, some}
 use Rattle.name_store.specs.NameStore.{nameBytes, encodeNames, decodeNames, sameBytes, among}
@@ -19,13 +19,23 @@ use Rattle.name_store.proofs.NameChains.{last-ext, missing-differs, fou
 use Rattle.name_store.proofs.NamePlaces.{length-decode}
 use Rattle.name_store.proofs.NameStores.{not-seen, decode-front}
 use Rattle.rules.proofs.Booleans.{T-not-out, is-true, is-false}
+use Rattle.rules.proofs.ListLaws.{flat-append}
 use Rattle.name_store.specs.declared.index.Found.{Found}
 use Rattle.name_store.specs.declared.index.Found.the-variants.{At, Missing}
 
+pub encode-append : (xs ys : List (List ℕ)) → encodeNames (xs ++ ys) ≡ encodeNames xs ++ encodeNames ys
+unfolding encodeNames
+encode-append xs ys = flat-append nameBytes xs ys
+
 pub encode-last : (names : List (List ℕ)) (x : List ℕ) → encodeNames (names ++ (x ∷ [])) ≡ encodeNames names ++ nameBytes x
 unfolding encodeNames
-encode-last [] x = ap (λ l. length x ∷ l) (append-nil x)
-encode-last (y ∷ names) x = ap (λ l. nameBytes y ++ l) (encode-last names x) ∙ sym (append-assoc (nameBytes y) (encodeNames names) (nameBytes x))
+encode-last names x = encode-append names (x ∷ []) ∙ ap (λ l. encodeNames names ++ l) (append-nil (nameBytes x))
+
+-- the place after a name
+pub place-next : (names : List (List ℕ)) (i : ℕ) → i < length names → nameStart names (i + 1) ≡ nameStart names i + (1 + length (getD names i []))
+place-next names i l =
+    let e : take (i + 1) names ≡ take i names ++ (getD names i [] ∷ []) = ap (λ k. take k names) (add-one i) ∙ take-suc names i [] l in
+    omega (arith, ap (λ x. length (encodeNames x)) e ∙ ap length (encode-last (take i names) (getD names i [])) ∙ length-append (encodeNames (take i names)) (nameBytes (getD names i [])))
 
 distinct-last : (names : List (List ℕ)) (x : List ℕ) → Distinct names → All (λ y. x ≢ y) names → Distinct (names ++ (x ∷ []))
 distinct-last [] x d f = (tt, tt)

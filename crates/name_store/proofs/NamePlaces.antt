@@ -2,11 +2,11 @@
 use Prim.Native.Nat.{ℕ, zero, suc, _+_, _-_, _≤_, _<_}
 use native.Mathlib.Nat.{add-zero, add-sub-cancel-left}
 use native.Mathlib.Omega.{arith}
-use mathlib.Core.Path.{_≡_, refl, sym, ap, ap₂, _∙_}
+use mathlib.Core.Path.{_≡_, refl, sym, ap, ap₂, _∙_, subst}
 use mathlib.Core.List.{List, [], _∷_, _++_, append-assoc}
 use lib.ListN.{length, getD, take, drop, length-append, length-drop}
 use lib.Seq.{take-append-seam, drop-append-add, drop-drop, getD-drop}
-use Rattle.name_store.specs.NameStore.{nameBytes, encodeNames, decodeNames}
+use Rattle.name_store.specs.NameStore.{nameBytes, encodeNames, firstName, decodeNames}
 use lib.Dec.{leb}
 use mathlib.Core.Bool.{true, false}
 use borrow.Author.Tests.{le-leb, lt-leb}
@@ -17,6 +17,13 @@ pub length-decode : (n : ℕ) (bs : List ℕ) → length (decodeNames n bs) ≡ 
 unfolding decodeNames
 length-decode zero bs = refl
 length-decode (suc n) bs = ap suc (length-decode n (drop (1 + getD bs 0 0) bs))
+
+-- fewer of the names
+pub decode-first : (q n : ℕ) (bs : List ℕ) → q ≤ n → decodeNames q bs ≡ take q (decodeNames n bs)
+unfolding decodeNames
+decode-first zero n bs l = refl
+decode-first (suc q) zero bs l = absurd (omega arith)
+decode-first (suc q) (suc n) bs l = ap (λ r. firstName bs ∷ r) (decode-first q n (drop (1 + getD bs 0 0) bs) (omega arith))
 
 pub first-byte : (bs : List ℕ) (p : ℕ) → getD (drop p bs) 0 0 ≡ getD bs p 0
 first-byte bs p = getD-drop p bs 0 0 ∙ ap (λ k. getD bs k 0) (add-zero p)
@@ -48,11 +55,12 @@ drop-place (x ∷ names) rest (suc i) l =
     ∙ drop-append-add (nameBytes x) (encodeNames names ++ rest) (nameStart names i)
     ∙ drop-place names rest i (omega arith)
 
+pub stored-here : (names : List (List ℕ)) (bytes rest : List ℕ) → encodeNames names ++ rest ≡ bytes → (i : ℕ) → i < length names → NameHere bytes (nameStart names i) (getD names i [])
+stored-here names bytes rest e i l =
+    stands bytes (nameStart names i) (getD names i []) (encodeNames (drop (suc i) names) ++ rest) (ap (drop (nameStart names i)) (sym e) ∙ drop-place names rest i l)
+
 pub placed-here : {names : List (List ℕ)} {bytes starts : List ℕ} → Placed names bytes starts → (i : ℕ) → i < length names → NameHere bytes (getD starts i 0) (getD names i [])
-placed-here {names} {bytes} {starts} p i l =
-    let rest = drop (length (encodeNames names)) bytes in
-    stands bytes (getD starts i 0) (getD names i []) (encodeNames (drop (suc i) names) ++ rest)
-    (ap₂ drop (p .start i l) (sym (p .stored)) ∙ drop-place names rest i l)
+placed-here {names} {bytes} p i l = subst (λ k. NameHere bytes k (getD names i [])) (sym (p .start i l)) (stored-here names bytes (drop (length (encodeNames names)) bytes) (p .stored) i l)
 
 -- the part that the code lends
 pub part-here : {bytes : List ℕ} {p : ℕ} {x : List ℕ} → NameHere bytes p x → take (p + 1 + getD bytes p 0 - (p + 1)) (drop (p + 1) bytes) ≡ x

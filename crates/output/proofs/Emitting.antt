@@ -85,6 +85,21 @@ pushed d at b = record { place = refl; bytes = refl }
 pub passed : (d : List ℕ) (at b : ℕ) → length d ≤ at → Emitted d at (b ∷ []) d (at + 1)
 passed d at b h = counted h
 
+-- a run behind its length, which is written last
+module _ (at : ℕ) {w before after : List ℕ} {end : ℕ} (p : Emitted before (at + 1) w after end) where
+  pub run-length : end - at - 1 ≡ length w
+  run-length = omega (arith, p .place)
+
+  pub behind-length : {last : List ℕ} {next : ℕ} → Emitted after at ((end - at - 1) ∷ []) last next → Emitted before at (length w ∷ w) last end
+  behind-length q = record {
+    place = omega (arith, p .place);
+    bytes =
+        q .bytes
+        ∙ ap (λ (d : List ℕ). sets d at ((end - at - 1) ∷ [])) (p .bytes)
+        ∙ sets-front before at ((end - at - 1) ∷ []) (at + 1) w refl
+        ∙ ap (λ (n : ℕ). sets before at (n ∷ w)) run-length;
+  }
+
 pub range-renamed : {u v : List ℕ} {at : ℕ} → InRange at u → u ≡ v → InRange at v
 range-renamed {u} {v} {at} h e = subst (InRange at) e h
 

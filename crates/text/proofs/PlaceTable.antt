@@ -1,36 +1,16 @@
 -- Filling the table of the places of names.
-use Prim.Native.Nat.{ℕ, suc, _+_, _≤_, _<_}
-use native.Mathlib.Numerals.{add-one}
+use Prim.Native.Nat.{ℕ, _+_, _≤_, _<_}
 use native.Mathlib.Decide.{ℕ-discrete}
 use native.Mathlib.Omega.{arith}
 use mathlib.Core.Path.{_≡_, refl, sym, ap, _∙_, subst}
-use mathlib.Core.List.{List, [], _∷_, _++_, append-assoc, append-nil}
-use lib.ListN.{length, getD, take, drop, set, length-append, length-set}
-use lib.Seq.{take-suc, split-at, drop-at, drop-length, getD-set-same, getD-set-other}
-use Rattle.name_store.specs.NameStore.{nameBytes, encodeNames}
+use mathlib.Core.List.{List, [], _++_, append-nil}
+use lib.ListN.{length, getD, drop, set, length-set}
+use lib.Seq.{drop-length, getD-set-same, getD-set-other}
+use Rattle.name_store.specs.NameStore.{encodeNames}
 use Rattle.name_store.specs.NameIndex.{nameStart, Placed}
-use Rattle.name_store.proofs.NamePlaces.{NameHere, stands, length-decode}
-use Rattle.name_store.proofs.NameEntries.{encode-last}
+use Rattle.name_store.proofs.NamePlaces.{NameHere, stored-here, length-decode}
+use Rattle.name_store.proofs.NameEntries.{place-next}
 use Rattle.text.specs.Items.{storedNames, StoredNames}
-
-encode-append : (xs ys : List (List ℕ)) → encodeNames (xs ++ ys) ≡ encodeNames xs ++ encodeNames ys
-unfolding encodeNames
-encode-append [] ys = refl
-encode-append (x ∷ xs) ys = ap (λ (l : List ℕ). nameBytes x ++ l) (encode-append xs ys) ∙ sym (append-assoc (nameBytes x) (encodeNames xs) (encodeNames ys))
-
--- the place after a name
-place-next : (names : List (List ℕ)) (i : ℕ) → i < length names → nameStart names (i + 1) ≡ nameStart names i + (1 + length (getD names i []))
-place-next names i l =
-    let e : take (i + 1) names ≡ take i names ++ (getD names i [] ∷ []) = ap (λ (k : ℕ). take k names) (add-one i) ∙ take-suc names i [] l in
-    omega (arith, ap (λ (x : List (List ℕ)). length (encodeNames x)) e ∙ ap length (encode-last (take i names) (getD names i [])) ∙ length-append (encodeNames (take i names)) (nameBytes (getD names i [])))
-
--- the name that stands there
-here : (names : List (List ℕ)) (i : ℕ) → i < length names → NameHere (encodeNames names) (nameStart names i) (getD names i [])
-unfolding encodeNames
-here names i l =
-    let rest = encodeNames (drop (suc i) names) in
-    let e : encodeNames names ≡ encodeNames (take i names) ++ (nameBytes (getD names i []) ++ rest) = ap encodeNames (split-at names i [] l) ∙ encode-append (take i names) (getD names i [] ∷ drop (suc i) names) in
-    stands (encodeNames names) (nameStart names i) (getD names i []) rest (ap (drop (nameStart names i)) e ∙ drop-at (encodeNames (take i names)) (nameBytes (getD names i []) ++ rest) (nameStart names i) refl)
 
 -- the places before i are filled, and `at` is the next
 pub record Placing (bytes before starts : List ℕ) (at i : ℕ) : Type 0 where
@@ -65,7 +45,7 @@ module _ {bytes before starts : List ℕ} {at i : ℕ} (h : Placing bytes before
     inside = omega (arith, length-decode (length before) bytes, h .long)
 
     name-here : NameHere bytes at name
-    name-here = subst (λ (b : List ℕ). NameHere b at name) (h .stored .whole) (subst (λ (p : ℕ). NameHere (encodeNames (storedNames bytes before)) p name) (sym (h .counted)) (here (storedNames bytes before) i inside))
+    name-here = subst (λ (b : List ℕ). NameHere b at name) (h .stored .whole) (subst (λ (p : ℕ). NameHere (encodeNames (storedNames bytes before)) p name) (sym (h .counted)) (stored-here (storedNames bytes before) (encodeNames (storedNames bytes before)) [] (append-nil (encodeNames (storedNames bytes before))) i inside))
 
     pub place-inside : at + 1 + getD bytes at 0 ≤ length bytes
     place-inside = omega (arith, name-here .inside, name-here .size)

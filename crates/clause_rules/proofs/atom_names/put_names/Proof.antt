@@ -2,13 +2,14 @@ use Prim.Native.Nat.{_-_}
 use native.Mathlib.Omega.{arith}
 use Rattle.name_store.specs.NameStore.{encodeNames}
 use Rattle.output.proofs.Emitting.{Emitting, turn, finish, range-here, length-kept}
-use Rattle.clauses.specs.Written.{clauseNames}
-use Rattle.clause_rules.proofs.ClauseNames.{namesLeft, names-begin, names-next, names-end}
+use Rattle.name_store.proofs.NumberedNames.{numberedNames, numbered-none}
+use Rattle.clauses.specs.Written.{clauseName, clauseNames}
+use Rattle.clause_rules.proofs.ClauseNames.{names-begin, names-next}
 use Rattle.clause_rules.proofs.atom_names.put_names.Statement.{statement}
 use Rattle.clause_rules.proofs.atom_names.put_names.Tie as tie
 
 abbrev Inv-loop : tie.InvT-loop
-Inv-loop atoms bytes₀ at₀ atom₀ bytes at atom = Emitting (encodeNames (clauseNames atoms)) bytes₀ 0 (namesLeft atoms atom) bytes at
+Inv-loop atoms bytes₀ at₀ atom₀ bytes at atom = Emitting (encodeNames (clauseNames atoms)) bytes₀ 0 (numberedNames clauseName atom atoms) bytes at
 
 abbrev μ-loop : tie.MeasureT-loop
 μ-loop atoms bytes₀ at₀ atom₀ bytes at atom = atoms - atom
@@ -32,7 +33,7 @@ same-length : tie.Need-same-length Inv-loop μ-loop
 same-length c = length-kept (c .before .loop .inv)
 
 returns : tie.Need-returns Inv-loop μ-loop
-returns c = finish (c .before .loop .inv) (names-end _ _ (c .loop-test .left))
+returns c = finish (c .before .loop .inv) (numbered-none _ _ _ (c .loop-test .left))
 
 pub put-names-spec : {M : Type 1} → statement M
 put-names-spec =
