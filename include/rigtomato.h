@@ -17,6 +17,9 @@
  * - Only atoms that stand in some rule belong to a preference file's program. rigtomato_read leaves
  *   the others out. Stores handed in may hold such atoms: they are taken as they stand, and n and
  *   sets count them.
+ * - Among a preference file's rules conditions may stand, `(when COND (then a))`, where COND joins
+ *   names by `not`, `and`, `or` and brackets. rigtomato_read makes rules of them, with an atom `T.1`,
+ *   `T.2`, .. for each `not`, `and` and `or`. From there on they are rules and atoms like all others.
  * - A clause file (DIMACS CNF) is a third kind of text: rigtomato_read_clauses gives the two stores of
  *   a preference file whose models are the sets that satisfy the clauses.
  * - A rule store is an array of uint16_t: kind (0 plain, 1 preference), atom count n, class count
@@ -55,17 +58,20 @@ extern "C" {
 /* ---- The refusals ---- */
 
 /* Of a text, with the line (from 1) on which it shows. The earliest faulty line counts; on it, the
- * lowest number, in a clause file 15, then 16, then 7. A missing line stands one past the last. */
+ * lowest number, but in a clause file 15, then 16, then 7, and on a condition's line 2, 17, 18, 3, 4,
+ * 5, 7. A missing line stands one past the last. */
 #define RIGTOMATO_TEXT_TOO_LONG 1    /* more than RIGTOMATO_TEXT_LIMIT bytes; line 0 */
 #define RIGTOMATO_FORM 2             /* form, a name's bytes or line order broken, or a line missing */
 #define RIGTOMATO_NAME 3             /* house name too long, or a generated name in a preference file */
-#define RIGTOMATO_DECLARED_TWICE 4   /* atom declared twice */
+#define RIGTOMATO_DECLARED_TWICE 4   /* atom declared twice, or declared and made by a condition */
 #define RIGTOMATO_NOT_DECLARED 5     /* atom not declared */
 #define RIGTOMATO_TWICE_IN_LIST 6    /* atom twice in one list of a rule */
 #define RIGTOMATO_LIMIT 7            /* too many atoms, rules, atom occurrences or classes */
 #define RIGTOMATO_FILLED_NOT 8       /* a filled `not` list in a preference file */
 #define RIGTOMATO_BROKEN_CLAUSES 15  /* header, clause or a line's end broken, or clause count differs */
 #define RIGTOMATO_LITERAL_BEYOND 16  /* literal beyond the header's atoms */
+#define RIGTOMATO_BROKEN_CONDITION 17 /* no condition between `(when` and its `(then ..)` */
+#define RIGTOMATO_DEEP_BRACKETS 18   /* a condition's brackets deeper than 32 */
 
 /* Of what the caller handed in. They are tested in the sequence 10, 14, 11, 12, 13, 9; the two
  * readers test 9 after all refusals of the text. */
@@ -90,8 +96,9 @@ extern "C" {
 /* ---- Reading and writing ---- */
 
 struct rigtomato_read_answer {
-    uint64_t refusal; /* 0 accepted, else the refusal's number: 1 to 9; of clauses 1, 7, 9, 15, 16 */
-    uint64_t line;    /* the line of refusals 2 to 8, 15 and 16, from 1; else 0 */
+    uint64_t refusal; /* 0 accepted, else the refusal's number: 1 to 9, 17, 18; of clauses 1, 7, 9, 15,
+                       * 16 */
+    uint64_t line;    /* the line of refusals 2 to 8 and 15 to 18, from 1; else 0 */
     uint64_t words;   /* accepted: the words written to `rules`; else 0 */
     uint64_t bytes;   /* accepted: the bytes written to `names`; else 0 */
 };
@@ -103,6 +110,25 @@ struct rigtomato_read_answer {
  * else, and none is needed beside a bracket. One bracket form stands on a line; a line with nothing
  * left is blank, and counts as a line. A tab or a carriage return belongs to a word and so breaks it.
  * The text is a plain program exactly when its first form's first word is `atoms`.
+ *
+ * Behind its `fix` line a preference file may have lines `(when COND (then a))` among its rules. COND
+ * is a name, `not` before a COND, two of them with `and` or `or` between, or one in brackets, at most 32
+ * deep; `not` binds before `and`, `and` before `or`, and equals group to the left. Each of the three
+ * words, where it stands, gets a varying atom T: `T.1`, `T.2` and so on through the whole file, after
+ * the varying atoms and before the fixed ones. In the line's place stand the rules of these atoms, in
+ * that sequence, and then the rule of `a`:
+ *
+ *     l and r    (rule (head T) (body l r) (not))  (rule (head l) (body T) (not))
+ *                (rule (head r) (body T) (not))
+ *     l or r     (rule (head l r) (body T) (not))  (rule (head T) (body l) (not))
+ *                (rule (head T) (body r) (not))
+ *     not c      (rule (head T c) (body) (not))    (rule (head) (body T c) (not))
+ *     then a     (rule (head a) (body COND) (not))
+ *
+ * An atom stands once in a list. The limits count these atoms and rules. So the preferred states, cut
+ * to the declared atoms, are those of the conditions as they are read, each from just one state. `T.1`
+ * to `T.256` may be declared like other names, but a condition that would get such an atom is refusal
+ * 4; a rule or a condition that names one not declared is 5.
  *
  * A preference file's atoms that stand in no rule are checked with the others: a name too long, an
  * atom declared twice or a 257th is refused. Then they are left out of both stores. The remaining

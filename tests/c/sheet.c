@@ -1,6 +1,6 @@
 /* Document 01's sheet for file A, with places and order by document 02, W-206, units by W-207, what
  * is left out by W-203, clause files by W-202, hand-typed files and the canonical text by W-205,
- * through the C interface. Prints what fails and ends with status 1 then. Compile with
+ * conditions by W-208, through the C interface. Prints what fails and ends with status 1 then. Compile with
  *     gcc -Wall -Wextra -Werror -Iinclude tests/c/sheet.c target/staticlib/librigtomato.a */
 #include "rigtomato.h"
 
@@ -639,6 +639,92 @@ static void canonical_of_the_most_rules(void)
     CHECK(memcmp(out, text, declared + 30) == 0);
 }
 
+/* Document 02, W-208: what a condition becomes, and the names `T.1` to `T.256`. */
+static void conditions(void)
+{
+    written_as("(vary a b c d)\n(fix)\n(when not (a and b) or c (then d))\n",
+               "(vary a b c d T.1 T.2 T.3)\n(fix)\n"
+               "(rule (head T.1 T.2) (body) (not))\n(rule (head) (body T.1 T.2) (not))\n"
+               "(rule (head T.2) (body a b) (not))\n(rule (head a) (body T.2) (not))\n"
+               "(rule (head b) (body T.2) (not))\n(rule (head T.1 c) (body T.3) (not))\n"
+               "(rule (head T.3) (body T.1) (not))\n(rule (head T.3) (body c) (not))\n"
+               "(rule (head d) (body T.3) (not))\n");
+    /* a name alone gets no atom; an atom stands once in a list; the new atoms stand before the fixed */
+    written_as("(vary a)\n(fix b)\n(when (a) (then b)) ; typed\n(when a and a (then b))\n",
+               "(vary a T.1)\n(fix b)\n(rule (head b) (body a) (not))\n"
+               "(rule (head T.1) (body a) (not))\n(rule (head a) (body T.1) (not))\n"
+               "(rule (head a) (body T.1) (not))\n(rule (head b) (body T.1) (not))\n");
+    /* a, b, T.1, T.2, c: neither `not b` nor c; then b; then b and c */
+    const char *states = "(min a)\n(vary b)\n(fix c)\n(when not b and c (then a))\n";
+    CHECK(read_text(states, strlen(states)).refusal == 0);
+    CHECK(file.rules[1] == 5 && file.rules[3] == 6);
+    CHECK(states_are(3, (const uint64_t[]){4, 2, 18}));
+    written("(atoms T.1 T.256 N.T.1 S.T.256 D.T.9)\n");
+    CHECK(read_gives("(vary T.0)\n(fix)\n", RIGTOMATO_FORM, 1));
+    CHECK(read_gives("(vary T.01)\n(fix)\n", RIGTOMATO_FORM, 1));
+    CHECK(read_gives("(atoms T.257)\n", RIGTOMATO_FORM, 1));
+    CHECK(read_gives("(atoms N.T.257)\n", RIGTOMATO_FORM, 1));
+    CHECK(read_gives("(vary N.T.1)\n(fix)\n", RIGTOMATO_NAME, 1));
+}
+
+/* A file whose third line has this between `(when ` and ` (then a))`. */
+static int condition_gives(const char *condition, uint64_t refusal)
+{
+    char text[256];
+    snprintf(text, sizeof text, "(vary a b T.2)\n(fix)\n(when %s (then a))\n", condition);
+    return read_gives(text, refusal, refusal ? 3 : 0);
+}
+
+static void condition_refusals(void)
+{
+    CHECK(RIGTOMATO_BROKEN_CONDITION == 17 && RIGTOMATO_DEEP_BRACKETS == 18);
+    CHECK(condition_gives("a", 0));
+    CHECK(condition_gives("", RIGTOMATO_BROKEN_CONDITION));
+    CHECK(condition_gives("a b", RIGTOMATO_BROKEN_CONDITION));
+    CHECK(condition_gives("a and or b", RIGTOMATO_BROKEN_CONDITION));
+    CHECK(condition_gives("not ()", RIGTOMATO_BROKEN_CONDITION));
+    CHECK(condition_gives("((((((((((((((((((((((((((((((((a))))))))))))))))))))))))))))))))", 0));
+    CHECK(condition_gives("(((((((((((((((((((((((((((((((((a)))))))))))))))))))))))))))))))))",
+                          RIGTOMATO_DEEP_BRACKETS));
+    CHECK(condition_gives("(((((((((((((((((((((((((((((((((A)))))))))))))))))))))))))))))))))",
+                          RIGTOMATO_FORM));
+    CHECK(condition_gives("(a", RIGTOMATO_FORM));
+    CHECK(condition_gives("a) and (b", RIGTOMATO_FORM));
+    CHECK(condition_gives("a and N.b", RIGTOMATO_NAME));
+    CHECK(condition_gives("a and c or b", RIGTOMATO_DECLARED_TWICE));
+    CHECK(condition_gives("a and c", RIGTOMATO_NOT_DECLARED));
+    CHECK(condition_gives("T.1", RIGTOMATO_NOT_DECLARED));
+    CHECK(condition_gives("not T.2", 0));
+    CHECK(read_gives("(vary a)\n(fix)\n(when a)\n", RIGTOMATO_FORM, 3));
+    CHECK(read_gives("(vary a)\n(when a (then a))\n(fix)\n", RIGTOMATO_FORM, 2));
+    CHECK(read_gives("(atoms a)\n(when a (then a))\n", RIGTOMATO_FORM, 2));
+}
+
+/* Lines as long as a text may be: they are refused, whatever they nest. */
+static void longest_conditions(void)
+{
+    static char text[RIGTOMATO_TEXT_LIMIT + 1];
+    struct rigtomato_read_answer answer;
+    const size_t parts = 900000;
+    size_t length = (size_t)sprintf(text, "(vary a)\n(fix)\n(when ");
+    const size_t first = length;
+    for (; length < first + parts; length += 4)
+        memcpy(text + length, "not ", 4);
+    length += (size_t)sprintf(text + length, "a (then a))\n");
+    answer = read_text(text, length);
+    CHECK(answer.refusal == RIGTOMATO_LIMIT && answer.line == 3);
+    memset(text + first, '(', parts / 2);
+    text[first + parts / 2] = 'a';
+    memset(text + first + parts / 2 + 1, ')', parts / 2);
+    length = first + parts + 1;
+    length += (size_t)sprintf(text + length, " (then a))\n");
+    answer = read_text(text, length);
+    CHECK(answer.refusal == RIGTOMATO_DEEP_BRACKETS && answer.line == 3);
+    memset(text + first, '(', parts);
+    answer = read_text(text, length);
+    CHECK(answer.refusal == RIGTOMATO_FORM && answer.line == 3);
+}
+
 /* The sizes that the header names, met and passed by one. */
 static void sizes(void)
 {
@@ -673,6 +759,9 @@ int main(void)
     longest_texts();
     canonical();
     canonical_of_the_most_rules();
+    conditions();
+    condition_refusals();
+    longest_conditions();
     sizes();
     printf("tests/c/sheet.c: %d checks, %d failed\n", checks, failures);
     return failures != 0;

@@ -22,18 +22,30 @@ def output(command, path):
         return subprocess.run(shlex.split(command), stdin=text, capture_output=True, check=True).stdout.decode()
 
 
+CONNECTIVES = ("not", "and", "or")
+
+
 def atoms(path):
-    """The declared atoms that stand in some rule, in declared order: only these belong to the program."""
-    declared, used = [], set()
+    """The declared atoms that stand in some rule or condition, in declared order, and before the fixed ones those that
+    the conditions make: only these belong to the program."""
+    declared, fixed, used, made = [], [], set(), 0
     with open(path, "rb") as text:
         for line in text.read().decode("latin-1").split("\n"):
             form = line.partition(";")[0]
             word, *rest = re.findall(r"[^ ()]+", form) or [None]
             if word == "rule":
                 used.update(name for names in LIST.findall(form) for name in names.split())
+            elif word == "when":
+                *between, _, then = rest
+                made += sum(name in CONNECTIVES for name in between)
+                used.update(name for name in between if name not in CONNECTIVES)
+                used.add(then)
+            elif word == "fix":
+                fixed = rest
             else:
                 declared += rest
-    return [name for name in declared if name in used]
+    made = [f"T.{i + 1}" for i in range(made)]
+    return [name for name in declared if name in used] + made + [name for name in fixed if name in used]
 
 
 def stable_models(program):

@@ -1,2 +1,3 @@
 -- What the lines state, line by line.
 pub mod Stated
+pub mod Direct

@@ -10,8 +10,9 @@ use Rattle.rules.specs.Sets.{In, Out}
 use Rattle.rules.specs.Preferred.{OfClass}
 use Rattle.rules.proofs.Booleans.{T-of}
 use Rattle.rules.proofs.Lists.{all-imp, all-both, all-app-l, all-app-r, map-all}
-use Rattle.conditions.specs.Conditions.{Atom, made, Statement, states, when, namesOf, statementNames, madeAtoms, statementValues}
-use Rattle.conditions.specs.Readings.{BeatsOver, StatementHolds, DirectModel, DirectPreferred, WrittenPreferred, cutDown, Has, Valued}
+use Rattle.conditions.specs.Conditions.{Atom, made, Statement, states, when, namesOf, statementNames, madeAtoms}
+use Rattle.conditions.specs.Readings.{BeatsOver, StatementHolds, DirectModel, DirectPreferred, WrittenPreferred, cutDown}
+use Rattle.conditions.proofs.Values.{statementValues, Has, Valued}
 use Rattle.conditions.proofs.Connectives.{written-law}
 use Rattle.conditions.proofs.Extended.{truth-congr, all-values-congr, all-values-of, first}
 use Rattle.conditions.proofs.Paired.{beats-cut}

@@ -3,16 +3,17 @@ use Prim.Native.Nat.{ℕ}
 use mathlib.Core.Path.{_≡_, refl, sym, ap, ap₂, _∙_, subst}
 use mathlib.Core.List.{List, [], _∷_, _++_}
 use mathlib.Core.Bool.{Bool, true, false, not, _&&_, _||_}
-use mathlib.Core.Logic.{_⊎_, inl, inr, _↔_}
+use mathlib.Core.Logic.{_⊎_, inl, inr, _↔_, _≢_}
 use lib.Dec.{T, eqb→eq}
-use Rattle.rules.specs.Lists.{All, Any, keep, flat}
+use Rattle.rules.specs.Lists.{All, Any, Distinct, keep, flat}
 use Rattle.rules.specs.Sets.{In, Out}
 use Rattle.rules.specs.Rules.{Rule, Holds, Model, rename}
-use Rattle.rules.proofs.Booleans.{decide, T-of, bool-ext, T-and, T-and-l, T-and-r, T-or, T-or-out, T-not-in, T-not-out}
+use Rattle.rules.proofs.Booleans.{eq→eqb, decide, T-of, bool-ext, T-and, T-and-l, T-and-r, T-or, T-or-out, T-not-in, T-not-out}
 use Rattle.rules.proofs.Lists.{all-app, all-app-l, all-app-r, all-keep, keep-any, all-map, map-all, any-map, map-any}
-use Rattle.conditions.specs.Conditions.{Atom, planner, made, Cond, name, NOT, AND, OR, Statement, states, when, truth, values, statementValues}
+use Rattle.conditions.specs.Conditions.{Atom, planner, made, Cond, name, NOT, AND, OR, Statement, states, when, truth}
 use Rattle.conditions.specs.Written.{same?, once, part, andRules, orRules, notRules, connectiveRules, thenRule, statementRules, written}
-use Rattle.conditions.specs.Readings.{StatementHolds, DirectModel, cutDown, Has, Valued}
+use Rattle.conditions.specs.Readings.{StatementHolds, DirectModel, cutDown}
+use Rattle.conditions.proofs.Values.{values, statementValues, Has, Valued}
 
 same-atom : (a b : Atom) → T (same? a b) → a ≡ b
 same-atom (planner a) (planner b) h = ap planner (eqb→eq a b h)
@@ -20,7 +21,22 @@ same-atom (planner a) (made b) h = absurd h
 same-atom (made a) (planner b) h = absurd h
 same-atom (made a) (made b) h = ap made (eqb→eq a b h)
 
+same-refl : (a : Atom) → T (same? a a)
+same-refl (planner a) = eq→eqb a a refl
+same-refl (made t) = eq→eqb t t refl
+
 -- of two atoms, each once in a list
+
+pub once-distinct : (l r : Atom) → Distinct (once l r)
+unfolding once
+once-distinct l r = (
+  all-keep (λ y. l ≢ y) (not (same? l r)) r [] (λ t e. T-not-out (same? l r) t (subst (λ (c : Atom). T (same? l c)) e (same-refl l))) tt,
+  one (not (same? l r)),
+)
+  where
+    one : (b : Bool) → Distinct (keep b r [])
+    one true = (tt, tt)
+    one false = tt
 
 module _ (P : Atom → Type 0) (l r : Atom) where
   pub once-all : All P (once l r) ↔ (P l × P r)

@@ -9,10 +9,6 @@ use Rattle.rules.proofs.Lists.{distinct-from, from-append, length-from}
 use Rattle.conditions.specs.Conditions.{made, Cond, name, NOT, AND, OR, Statement, states, when, connectives, madeAtoms, Numbered, numberFrom, numberStatements}
 use Rattle.conditions.specs.Written.{part, andRules, orRules, connectiveRules, thenRule, statementRules, written}
 
--- numbers from 1 in file order are all different
-pub numbered-distinct : (ls : List Statement) → Numbered ls → Distinct (madeAtoms ls)
-numbered-distinct ls e = subst Distinct (sym e) (distinct-from 1 (length (madeAtoms ls)))
-
 -- the parts of `and` and `or` take following numbers, the word between them
 between : (k p q : ℕ) → from k p ++ ((k + p) ∷ from (suc (k + p)) q) ≡ from k (p + suc q)
 between k p q = from-append k p (suc q)
@@ -39,6 +35,10 @@ numbered ls =
     let e = number-statements 1 ls in
     let n : length (madeAtoms ls) ≡ length (madeAtoms (numberStatements 1 ls)) = sym (ap length e ∙ length-from 1 (length (madeAtoms ls))) in
     e ∙ ap (from 1) n
+
+-- numbers from 1 in file order are all different
+pub numbered-distinct : (ls : List Statement) → Numbered ls → Distinct (madeAtoms ls)
+numbered-distinct ls e = subst Distinct (sym e) (distinct-from 1 (length (madeAtoms ls)))
 
 -- at most three rules a connective, and one rule a condition
 

@@ -26,13 +26,13 @@ use Rattle.conditions.proofs.Left.{left-taken, written-left}
 
 -- the cut has a planner's atom exactly when the set has it at its place
 module _ (q k n : ℕ) where
-  places-length : length (plannerPlaces q k n) ≡ n
-  places-length = length-map (from 0 n) (λ a. place q k (planner a)) ∙ length-from 0 n
-
   cut-has : (t a : ℕ) → a < n → has t (place q k (planner a)) ≡ has (cutTo (plannerPlaces q k n) t) a
   cut-has t a l =
       let e : 0 + a ≡ a = omega arith in
-      sym (cut-at (plannerPlaces q k n) t a (omega (arith, places-length)) ∙ ap (has t) (map-from-at (λ a. place q k (planner a)) 0 0 n a l ∙ ap (λ (b : ℕ). place q k (planner b)) e))
+      sym (cut-at (plannerPlaces q k n) t a (omega (arith, length-map (from 0 n) (λ a. place q k (planner a)), length-from 0 n)) ∙ ap (has t) (map-from-at (λ a. place q k (planner a)) 0 0 n a l ∙ ap (λ (b : ℕ). place q k (planner b)) e))
+
+  places-length : length (plannerPlaces q k n) ≡ n
+  places-length = length-map (from 0 n) (λ a. place q k (planner a)) ∙ length-from 0 n
 
   cuts-to : (t s : ℕ) → cutTo (plannerPlaces q k n) t ≡ s → CutsTo q k n t s
   cuts-to t s e a l = cut-has t a l ∙ ap (λ (x : ℕ). has x a) e

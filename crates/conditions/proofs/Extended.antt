@@ -8,8 +8,9 @@ use lib.Dec.{eqb}
 use borrow.Author.Tests.{eq-eqb, ne-eqb}
 use Rattle.rules.specs.Lists.{All, Distinct, flat}
 use Rattle.rules.proofs.Lists.{all-imp, all-both, all-app-l, all-app-r, all-map, map-all}
-use Rattle.conditions.specs.Conditions.{Atom, planner, made, Cond, name, NOT, AND, OR, Statement, states, when, truth, connectives, madeAtoms, namesOf, statementNames, values, statementValues}
-use Rattle.conditions.specs.Readings.{cutDown, Has, Valued}
+use Rattle.conditions.specs.Conditions.{Atom, planner, made, Cond, name, NOT, AND, OR, Statement, states, when, truth, connectives, madeAtoms, namesOf, statementNames}
+use Rattle.conditions.specs.Readings.{cutDown}
+use Rattle.conditions.proofs.Values.{values, statementValues, Has, Valued}
 
 abbrev pub first : ℕ × Bool → ℕ
 first v = v .0

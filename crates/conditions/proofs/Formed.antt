@@ -1,22 +1,19 @@
--- The written program is of the store's form, as far as the limits allow it: so every verdict, list and translation takes it.
+-- The written rules are of the form: declared atoms, none twice in a list, no `not` list.
 use Prim.Native.Nat.{ℕ, _+_, _≤_, _<_}
 use native.Mathlib.Omega.{arith}
 use mathlib.Core.Path.{_≡_, refl, sym, ap, subst, _∙_}
 use mathlib.Core.List.{List, [], _∷_, _++_, map}
-use mathlib.Core.Bool.{Bool, true, false, not}
 use mathlib.Core.Logic.{_≢_}
-use lib.Dec.{T}
 use Rattle.kinds.specs.declared.limits.Kind.the-variants.{Preference}
-use Rattle.rules.specs.Lists.{All, Distinct, keep}
+use Rattle.rules.specs.Lists.{All, Distinct}
 use Rattle.rules.specs.Rules.{Rule, rule, rename}
-use Rattle.rules.proofs.Booleans.{eq→eqb, T-not-out}
-use Rattle.rules.proofs.Lists.{all-imp, all-app, all-app-l, all-app-r, all-keep, all-map, distinct-map}
+use Rattle.rules.proofs.Lists.{all-imp, all-app, all-app-l, all-app-r, all-map, distinct-map}
 use Rattle.stores.specs.Program.{ListForm, RuleForm}
 use Rattle.conditions.specs.Conditions.{Atom, planner, made, Cond, name, NOT, AND, OR, Statement, states, when, namesOf, connectives, statementConnectives, madeAtoms}
-use Rattle.conditions.specs.Written.{same?, once, part, andRules, orRules, notRules, connectiveRules, thenRule, statementRules, written}
+use Rattle.conditions.specs.Written.{part, andRules, orRules, notRules, connectiveRules, thenRule, statementRules, written}
 use Rattle.conditions.specs.Numbers.{place, Declared}
 use Rattle.conditions.specs.Programs.{StatementForm}
-use Rattle.conditions.proofs.Connectives.{once-all}
+use Rattle.conditions.proofs.Connectives.{once-distinct, once-all}
 use Rattle.conditions.proofs.Placed.{unplace, unplace-planner, unplace-made, place-lt}
 
 -- entries that differ
@@ -28,21 +25,6 @@ distinct-l (x ∷ xs) ys h = (all-app-l (λ y. x ≢ y) xs ys (h .0), distinct-l
 distinct-r : {A : Type 0} (xs ys : List A) → Distinct (xs ++ ys) → Distinct ys
 distinct-r [] ys h = h
 distinct-r (x ∷ xs) ys h = distinct-r xs ys (h .1)
-
-same-refl : (a : Atom) → T (same? a a)
-same-refl (planner a) = eq→eqb a a refl
-same-refl (made t) = eq→eqb t t refl
-
-once-distinct : (l r : Atom) → Distinct (once l r)
-unfolding once
-once-distinct l r = (
-  all-keep (λ y. l ≢ y) (not (same? l r)) r [] (λ t e. T-not-out (same? l r) t (subst (λ (c : Atom). T (same? l c)) e (same-refl l))) tt,
-  one (not (same? l r)),
-)
-  where
-    one : (b : Bool) → Distinct (keep b r [])
-    one true = (tt, tt)
-    one false = tt
 
 -- rules of the form, by numbers that keep the atoms apart
 

@@ -12,7 +12,7 @@ use Rattle.kinds.specs.declared.limits.Kind.the-variants.{Preference}
 use Rattle.rules.specs.Lists.{All, filter, flat, from}
 use Rattle.rules.specs.Rules.{rename}
 use Rattle.rules.specs.Renumbering.{Within}
-use Rattle.rules.proofs.Lists.{all-imp, all-zip, all-at, all-map, length-from}
+use Rattle.rules.proofs.Lists.{all-imp, all-zip, all-at, all-map}
 use Rattle.rules.proofs.Renumbering.{rename-same, rename-again}
 use Rattle.restriction.specs.Atoms.{member?, used?, placeIn, renumbered, entries}
 use Rattle.restriction.specs.Remaining.{restrict, remaining, remainingNames}
@@ -30,6 +30,7 @@ use Rattle.conditions.proofs.InFile.{written-declared}
 use Rattle.conditions.proofs.Between.{filter-two, filter-within}
 use Rattle.conditions.proofs.Renamed.{renameAtom, all-names-renamed, made-renamed, written-renamed}
 use Rattle.conditions.proofs.Programs.{typed-taken}
+use Rattle.conditions.proofs.Names.{names-size}
 use Rattle.conditions.proofs.Used.{ys, q′, used-at, left-length, left-entries, left-place}
 
 module _ (ws : List ℕ) (ls : List Statement) (taken : Taken ws ls) where
@@ -55,9 +56,6 @@ module _ (ws : List ℕ) (ls : List Statement) (taken : Taken ws ls) where
   words-left : length ws′ ≡ length xs
   words-left = length-map xs (λ a. getD ws a 0)
 
-  made-left : k ≡ length (madeAtoms ls′)
-  made-left = sym (ap length (made-renamed (placeIn xs) ls))
-
   -- the statements
 
   all-spoken : All (λ a. T (member? xs a)) (flat statementNames ls)
@@ -69,8 +67,11 @@ module _ (ws : List ℕ) (ls : List Statement) (taken : Taken ws ls) where
     declared =
         subst (All (λ a. a < length ws′)) (sym (all-names-renamed (placeIn xs) ls))
         (all-map (λ a. a < length ws′) (placeIn xs) (flat statementNames ls) (all-imp (λ a. T (member? xs a)) _ (λ a m. omega (arith, words-left, at-place xs a m .0)) (flat statementNames ls) all-spoken));
-    numbered = made-renamed (placeIn xs) ls ∙ (taken .numbered ∙ ap (from 1) made-left);
+    numbered = let e = made-renamed (placeIn xs) ls in e ∙ (taken .numbered ∙ ap (λ (l : List ℕ). from 1 (length l)) (sym e));
   }
+
+  made-left : k ≡ length (madeAtoms ls′)
+  made-left = sym (ap length (made-renamed (placeIn xs) ls))
 
   -- the rules
 
@@ -170,5 +171,5 @@ module _ (classes : ℕ) (ws : List ℕ) (ls : List Statement) (typed : Typed cl
   written-names-left names count =
       let k = length (madeAtoms ls) in
       names-preference (writtenProgram classes ws ls) (writtenNames (unfixed ws) k names) refl
-      ∙ (left-entries ws ls h (unfixed ws) (unfixed-le ws) [] names (map madeName (from 1 k)) count (length-map (from 1 k) madeName ∙ length-from 1 k)
+      ∙ (left-entries ws ls h (unfixed ws) (unfixed-le ws) [] names (map madeName (from 1 k)) count (names-size k)
       ∙ ap (λ (a : ℕ). writtenNames a k (entries [] names (spoken (length ws) ls))) unfixed-left)

@@ -16,23 +16,23 @@ use Rattle.names.proofs.MadeNames.{made-allowed}
 use Rattle.conditions.specs.Left.{writtenNames}
 use Rattle.conditions.proofs.Placed.{inserted-length, inserted-made, inserted-planner}
 
+pub names-size : (k : ℕ) → length (map madeName (from 1 k)) ≡ k
+names-size k = length-map (from 1 k) madeName ∙ length-from 1 k
+
 module _ (q k : ℕ) (names : List (List ℕ)) (fits : q ≤ length names) where
-  size : length (map madeName (from 1 k)) ≡ k
-  size = length-map (from 1 k) madeName ∙ length-from 1 k
-
-  pub planner-name : (a : ℕ) → getD (writtenNames q k names) (place q k (planner a)) [] ≡ getD names a []
-  unfolding writtenNames
-  planner-name a = inserted-planner q k [] names (map madeName (from 1 k)) fits size a
-
   pub made-name : (t : ℕ) → 1 ≤ t → t ≤ k → getD (writtenNames q k names) (place q k (made t)) [] ≡ madeName t
   unfolding writtenNames
   made-name t l u =
       let e : 1 + (t - 1) ≡ t = omega arith in
-      inserted-made q k [] names (map madeName (from 1 k)) fits size (t - 1) (omega arith) ∙ (map-from-at madeName [] 1 k (t - 1) (omega arith) ∙ ap madeName e)
+      inserted-made q k [] names (map madeName (from 1 k)) fits (names-size k) (t - 1) (omega arith) ∙ (map-from-at madeName [] 1 k (t - 1) (omega arith) ∙ ap madeName e)
+
+  pub planner-name : (a : ℕ) → getD (writtenNames q k names) (place q k (planner a)) [] ≡ getD names a []
+  unfolding writtenNames
+  planner-name a = inserted-planner q k [] names (map madeName (from 1 k)) fits (names-size k) a
 
   pub written-length : length (writtenNames q k names) ≡ length names + k
   unfolding writtenNames
-  written-length = inserted-length q k [] names (map madeName (from 1 k)) fits size
+  written-length = inserted-length q k [] names (map madeName (from 1 k)) fits (names-size k)
 
 -- all are names of a preference file
 pub written-allowed : (q k : ℕ) (names : List (List ℕ)) → k ≤ atomLimit Preference → All (λ x. T (allowed Preference x)) names → All (λ x. T (allowed Preference x)) (writtenNames q k names)

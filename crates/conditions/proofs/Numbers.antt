@@ -16,8 +16,9 @@ use Rattle.rules.proofs.Lists.{all-imp, all-from, from-all, all-map, map-all}
 use Rattle.rules.proofs.Sets.{same-set, set-of}
 use Rattle.conditions.specs.Conditions.{Atom, planner, made, Statement, states, madeAtoms, statementNames}
 use Rattle.conditions.specs.Written.{written}
-use Rattle.conditions.specs.Readings.{BeatsOver, StatementHolds, DirectModel, DirectPreferred, DirectSet, WrittenClass, WrittenPreferred, cutDown, Valued}
+use Rattle.conditions.specs.Readings.{BeatsOver, StatementHolds, DirectModel, DirectPreferred, DirectSet, WrittenClass, WrittenPreferred, cutDown}
 use Rattle.conditions.specs.Numbers.{unfixed, place, placedWords, placedRules, writtenWords, writtenRules, Taken}
+use Rattle.conditions.proofs.Values.{Valued}
 use Rattle.conditions.proofs.Connectives.{written-law}
 use Rattle.conditions.proofs.Extended.{extended, extended-valued}
 use Rattle.conditions.proofs.Paired.{paired, only-one}

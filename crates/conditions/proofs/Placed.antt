@@ -108,13 +108,13 @@ module _ (q k : ℕ) where
   -- the words are the atoms' classes
 
   module _ (ws : List ℕ) (fits : q ≤ length ws) where
-    word-planner : (a : ℕ) → getD (placedWords q k ws) (place q k (planner a)) 0 ≡ getD ws a 0
-    unfolding placedWords
-    word-planner a = inserted-planner 0 ws (replicate k varying) fits (length-replicate k varying) a
-
     word-made : (i : ℕ) → i < k → getD (placedWords q k ws) (q + i) 0 ≡ varying
     unfolding placedWords
     word-made i l = inserted-made 0 ws (replicate k varying) fits (length-replicate k varying) i l ∙ getD-replicate k i varying 0 l
+
+    word-planner : (a : ℕ) → getD (placedWords q k ws) (place q k (planner a)) 0 ≡ getD ws a 0
+    unfolding placedWords
+    word-planner a = inserted-planner 0 ws (replicate k varying) fits (length-replicate k varying) a
 
     pub words-length : length (placedWords q k ws) ≡ length ws + k
     unfolding placedWords

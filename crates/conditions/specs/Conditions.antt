@@ -74,14 +74,3 @@ namesOf (OR l t r) = namesOf l ++ namesOf r
 abbrev pub statementNames : Statement → List ℕ
 statementNames (states r) = atomsOf r
 statementNames (when c a) = namesOf c ++ (a ∷ [])
-
--- each T atom of a condition with the truth of the condition that its connective makes
-unfoldable pub values : (ℕ → Bool) → Cond → List (ℕ × Bool)
-values m (name a) = []
-values m (NOT t c) = (t, truth m (NOT t c)) ∷ values m c
-values m (AND l t r) = values m l ++ ((t, truth m (AND l t r)) ∷ values m r)
-values m (OR l t r) = values m l ++ ((t, truth m (OR l t r)) ∷ values m r)
-
-abbrev pub statementValues : (ℕ → Bool) → Statement → List (ℕ × Bool)
-statementValues m (states r) = []
-statementValues m (when c a) = values m c

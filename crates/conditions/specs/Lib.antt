@@ -4,6 +4,7 @@ pub mod Written
 pub mod Rows
 pub mod Readings
 pub mod Numbers
+pub mod Table
 pub mod Programs
 pub mod Left
 pub mod DirectReading

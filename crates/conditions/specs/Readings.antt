@@ -7,11 +7,11 @@ use mathlib.Core.Logic.{_↔_}
 use lib.Dec.{T}
 use lib.ListN.{length}
 use Rattle.kinds.specs.Limits.{classLimit, varying, fixed}
-use Rattle.rules.specs.Lists.{All, flat}
+use Rattle.rules.specs.Lists.{All}
 use Rattle.rules.specs.Sets.{has, In, Out}
 use Rattle.rules.specs.Rules.{Holds, Model}
 use Rattle.rules.specs.Preferred.{OfClass}
-use Rattle.conditions.specs.Conditions.{Atom, planner, made, Statement, states, when, truth, statementValues}
+use Rattle.conditions.specs.Conditions.{Atom, planner, made, Statement, states, when, truth}
 use Rattle.conditions.specs.Written.{written}
 
 module _ {A : Type 0} (Models : (A → Bool) → Type 0) (Class : ℕ → A → Type 0) where
@@ -60,11 +60,3 @@ WrittenPreferred ws ls x = PreferredOver (Model (written ls)) (WrittenClass ws) 
 -- a set cut to the planner's atoms
 abbrev pub cutDown : (Atom → Bool) → ℕ → Bool
 cutDown x a = x (planner a)
-
--- T has the value b in x
-abbrev pub Has : (Atom → Bool) → ℕ × Bool → Type 0
-Has x v = x (made (v .0)) ≡ v .1
-
--- each T is its condition's truth in the cut
-abbrev pub Valued : (Atom → Bool) → List Statement → Type 0
-Valued x ls = All (Has x) (flat (statementValues (cutDown x)) ls)

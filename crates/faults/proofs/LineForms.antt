@@ -6,8 +6,8 @@ use mathlib.Core.Logic.{_⊎_, inl, inr, _↔_, _≢_}
 use mathlib.Core.Bool.{true, cond}
 use mathlib.Core.List.{List, [], _∷_, _++_, map}
 use lib.Dec.{T, eqb→eq}
-use lib.ListN.{length, length-append, getD, drop}
-use Rattle.kinds.specs.Words.{decimal, line-end, ruleWord, headWord, bodyWord, notWord, whenWord, thenWord}
+use lib.ListN.{length, getD, drop}
+use Rattle.kinds.specs.Words.{decimal, line-end, ruleWord, headWord, bodyWord, notWord, whenWord}
 use Rattle.rules.specs.Lists.{All}
 use Rattle.rules.proofs.Booleans.{eq→eqb, is-true}
 use Rattle.rules.proofs.Connectives.{on-cond}
@@ -23,7 +23,9 @@ use Rattle.name_store.proofs.NameStores.{same-equal, same-self}
 use Rattle.lines.specs.Lines.{ended?}
 use Rattle.lines.specs.Tokens.{Token, opening, closing, word, tokens, leading, behind}
 use Rattle.lines.specs.Conditions.{WordSort, negation, conjunction, disjunction, called, sortOf, bySort, wordsIn, namesIn, pairs}
-use Rattle.lines.specs.Forms.{Word, wordBytes, atoms, min, vary, fix, LineForm, declares, rules, condition, blank, broken, Opened, opened, unopened, openedBy, openedOf, Split, split, none, closedBy, splitNames, onOpened, splitList, onSplit, lastly, closedLastly, declaredForm, ruleForm, Conditional, conditional, unconditional, onlyClosing, onlyName, thenOr, inFront, splitThen, pairedForm, whenForm, openedForm, tokenForm, typedForm, isName, names?, named, formOf}
+use Rattle.lines.specs.Forms.{Word, wordBytes, atoms, min, vary, fix, LineForm, declares, rules, condition, blank, broken, Opened, opened, unopened, openedBy, openedOf, Split, split, none, closedBy, splitNames, onOpened, splitList, onSplit, lastly, closedLastly, declaredForm, ruleForm, Conditional, conditional, unconditional, splitThen, pairedForm, whenForm, openedForm, tokenForm, typedForm, isName, names?, named, formOf}
+use Rattle.lines.specs.Shapes.{thenTokens}
+use Rattle.lines.proofs.ConditionLines.{then-split, when-form}
 use Rattle.faults.specs.NameForms.{Letter, Digit, NameByte, HouseBytes, CommonName, Marked, ClassNumber}
 use Rattle.faults.specs.LineForms.{WordByte, IsWord, IsName, Ended, listThen, declaringTokens, ruleTokens, conditionTokens, Paired, DeclaringLine, RuleLine, ConditionLine, BlankLine, HasForm}
 use Rattle.faults.specs.Sentences.{namesOf}
@@ -192,58 +194,6 @@ unfolding splitList openedOf
 list-cut w xs rest =
     ap (λ b. cond b (splitNames (map word xs ++ (closing ∷ rest))) none) (is-true (sameBytes w w) (same-self w)) ∙ names-cut xs rest
 
--- the last `(then a))`
-
-abbrev thenTokens : List ℕ → List Token
-thenTokens a = listThen thenWord (a ∷ []) (closing ∷ [])
-
-abbrev ThenCut : List Token → Conditional → Type 0
-ThenCut ts (conditional us a) = ts ≡ us ++ thenTokens a
-ThenCut ts unconditional = Unit {0}
-
-cut-then : (ts : List Token) → ThenCut ts (splitThen ts)
-unfolding splitThen
-cut-then [] = tt
-cut-then (t ∷ ts) = go (splitList thenWord (t ∷ ts)) (cut-list thenWord (t ∷ ts)) (splitThen ts) (cut-then ts)
-  where
-    later : (d : Conditional) → ThenCut ts d → ThenCut (t ∷ ts) (inFront t d)
-    later (conditional us a) h = ap (λ l. t ∷ l) h
-    later unconditional h = tt
-
-    closed : (a : List ℕ) (rest : List Token) → t ∷ ts ≡ listThen thenWord (a ∷ []) rest → (d : Conditional) → ThenCut ts d → ThenCut (t ∷ ts) (thenOr (onlyClosing rest a) (inFront t d))
-    closed a [] e d h = later d h
-    closed a (opening ∷ rest) e d h = later d h
-    closed a (closing ∷ []) e d h = e
-    closed a (closing ∷ k ∷ rest) e d h = later d h
-    closed a (word x ∷ rest) e d h = later d h
-
-    go : (c : Split) → ListCut thenWord (t ∷ ts) c → (d : Conditional) → ThenCut ts d → ThenCut (t ∷ ts) (thenOr (onlyName c) (inFront t d))
-    go (split [] rest) e d h = later d h
-    go (split (a ∷ []) rest) e d h = closed a rest e d h
-    go (split (a ∷ b ∷ xs) rest) e d h = later d h
-    go none e d h = later d h
-
-then-cut : (us : List Token) (a : List ℕ) → splitThen (us ++ thenTokens a) ≡ conditional us a
-unfolding splitThen
-then-cut [] a = ap (λ c. thenOr (onlyName c) (inFront opening (splitThen (word thenWord ∷ word a ∷ closing ∷ closing ∷ [])))) (list-cut thenWord (a ∷ []) (closing ∷ []))
-then-cut (t ∷ us) a = go (splitList thenWord (t ∷ ts)) (cut-list thenWord (t ∷ ts)) ∙ ap (inFront t) (then-cut us a)
-  where
-    ts : List Token
-    ts = us ++ thenTokens a
-
-    closed : (b : List ℕ) (rest : List Token) → t ∷ ts ≡ listThen thenWord (b ∷ []) rest → thenOr (onlyClosing rest b) (inFront t (splitThen ts)) ≡ inFront t (splitThen ts)
-    closed b [] e = refl
-    closed b (opening ∷ rest) e = refl
-    closed b (closing ∷ []) e = absurd (let z : suc (length ts) ≡ 5 = ap length e in omega (arith, length-append us (thenTokens a)))
-    closed b (closing ∷ k ∷ rest) e = refl
-    closed b (word x ∷ rest) e = refl
-
-    go : (c : Split) → ListCut thenWord (t ∷ ts) c → thenOr (onlyName c) (inFront t (splitThen ts)) ≡ inFront t (splitThen ts)
-    go (split [] rest) e = refl
-    go (split (b ∷ []) rest) e = closed b rest e
-    go (split (b ∷ d ∷ xs) rest) e = refl
-    go none e = refl
-
 -- the form found says what the tokens are
 
 abbrev Reads : List Token → LineForm → Type 0
@@ -292,11 +242,12 @@ reads-rule x us e =
 
 reads-when : (x : List ℕ) (us : List Token) → x ≡ whenWord → Reads (opening ∷ word x ∷ us) (whenForm us)
 unfolding whenForm
-reads-when x us e = go (splitThen us) (cut-then us)
+reads-when x us e = go (splitThen us) refl
   where
-    go : (d : Conditional) → ThenCut us d → Reads (opening ∷ word x ∷ us) (pairedForm d)
-    go (conditional vs a) h = on-cond (Reads (opening ∷ word x ∷ us)) (pairs 0 vs) (condition vs a) broken (λ t. (ap₂ (λ y l. opening ∷ word y ∷ l) e h, pairs-law vs .0 t)) (λ n. tt)
-    go unconditional h = tt
+    go : (d : Conditional) → splitThen us ≡ d → Reads (opening ∷ word x ∷ us) (pairedForm d)
+    go (conditional vs a) q =
+        on-cond (Reads (opening ∷ word x ∷ us)) (pairs 0 vs) (condition vs a) broken (λ t. (ap₂ (λ y l. opening ∷ word y ∷ l) e (then-split us q), pairs-law vs .0 t)) (λ n. tt)
+    go unconditional q = tt
 
 reads-tokens : (ts : List Token) → Reads ts (tokenForm ts)
 unfolding tokenForm
@@ -341,8 +292,8 @@ rule-form hs bs ns =
     ∙ ap (λ c. onSplit c (f₃ hs bs)) (list-cut notWord ns (closing ∷ []))
 
 condition-form : (ts : List Token) (a : List ℕ) → Paired ts → tokenForm (conditionTokens ts a) ≡ condition ts a
-unfolding tokenForm openedOf whenForm sameBytes
-condition-form ts a p = ap pairedForm (then-cut ts a) ∙ ap (λ b. cond b (condition ts a) broken) (is-true (pairs 0 ts) (pairs-law ts .1 p))
+unfolding tokenForm openedOf sameBytes
+condition-form ts a p = when-form (ts ++ thenTokens a) ts a refl ∙ ap (λ b. cond b (condition ts a) broken) (is-true (pairs 0 ts) (pairs-law ts .1 p))
 
 blank-form : tokenForm [] ≡ blank
 unfolding tokenForm

@@ -211,7 +211,7 @@ module _ (st : SoFar) (sound : Sound st) where
       stands c e = let r = parse-iff (nameNumber (st .names)) (suc (st .made)) ts c .0 e in (r .0, r .1)
 
       go : NoneBelow st f (suc (lineRank BrokenForm)) → (p : Parsed) → conditionOf st ts ≡ p → Answers st f (onParsed p rest)
-      go b2 unparsed e = inl (BrokenCondition, refl, record { says = unparsed-iff (nameNumber (st .names)) (suc (st .made)) ts .0 e; none-lower = b2 })
+      go b2 unparsed e = inl (BrokenCondition, refl, record { says = unparsed-iff (nameNumber (st .names)) (suc (st .made)) ts .0 e; none-lower = λ q l. b2 q (omega arith) })
       go b2 (parsed c) e =
           tested st f (deeper bracketLimit ts) DeepBrackets _ (deep-law bracketLimit ts (stands c e)) (none-up st f BrokenCondition b2 (λ h. h (stands c e)))
           (λ b18. tested st f (some (refusedName (st .kind)) xs) Name _ (names-law (st .kind) xs named) b18

@@ -17,13 +17,14 @@ use Rattle.name_store.proofs.NameStores.{same-law}
 use Rattle.rules.proofs.Booleans.{is-true}
 use Rattle.lines.specs.declared.scan.Item.the-variants.{At, Stop}
 use Rattle.lines.specs.declared.scan.Place.the-variants as Place
+use Rattle.lines.specs.declared.scan.Bracket.the-variants as Bracket
 use Rattle.lines.specs.Tokens.{word, ends?, delimiter?, run, tokens, tokensFrom}
 use Rattle.lines.specs.Forms.{unopened, openedBy, openedOf}
-use Rattle.lines.specs.Shapes.{begins, gap, wordBehind, itemOf, closes?, opensWith, Onward, ClosedIs, OpenedIs}
+use Rattle.lines.specs.Shapes.{begins, gap, wordBehind, itemOf, closes?, opensWith, Onward, ClosedIs, OpenedIs, bracket?, BracketIs}
 use Rattle.lines.proofs.Scanning.{run-goes-on, run-ends, run-out, run-le, gap-le}
 use Rattle.lines.proofs.TokenPlaces.{tokens-gap, past-gap, First, is-end, is-space, is-open, is-close, is-other, first-of, end-tokens, open-tokens, close-tokens, word-tokens}
 
-no-end : (a c d f : Bool) → (a || (c || (d || f))) ≡ false → f ≡ false
+pub no-end : (a c d f : Bool) → (a || (c || (d || f))) ≡ false → f ≡ false
 no-end a c d false p = refl
 no-end true c d true p = p
 no-end false true d true p = p
@@ -47,6 +48,9 @@ module _ (s : List ℕ) (at : ℕ) {g : ℕ} (e : g ≡ gap (drop at s)) where
 
   pub closing-out : length s ≤ at + g → ClosedIs s at Place.Absent
   closing-out l = record { says = ap closes? (nothing-out l) }
+
+  pub bracket-out : length s ≤ at + g → BracketIs s at Bracket.Absent
+  bracket-out l = record { says = ap bracket? (nothing-out l) }
 
   pub opening-out : length s ≤ at + g → (w : List ℕ) → OpenedIs s at w Place.Absent
   unfolding openedOf
@@ -110,6 +114,16 @@ module _ (s : List ℕ) (at : ℕ) {g : ℕ} (e : g ≡ gap (drop at s)) where
         go (is-open f) = ap closes? (open-tokens b rest f)
         go (is-close f) = absurd (n f)
         go (is-other f) = ap closes? (word-tokens b rest f)
+
+    pub no-bracket : (b ≡ open-bracket → ⊥) → (b ≡ close-bracket → ⊥) → BracketIs s at Bracket.Absent
+    no-bracket m n = record { says = ap bracket? all ∙ go (first-of b) }
+      where
+        go : First b → bracket? (tokens (b ∷ rest)) ≡ false
+        go (is-end f) = ap bracket? (end-tokens b rest f)
+        go (is-space f) = absurd (no-space f)
+        go (is-open f) = absurd (m f)
+        go (is-close f) = absurd (n f)
+        go (is-other f) = ap bracket? (word-tokens b rest f)
 
     pub no-opening : (b ≡ open-bracket → ⊥) → (w : List ℕ) → OpenedIs s at w Place.Absent
     unfolding openedOf

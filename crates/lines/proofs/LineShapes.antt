@@ -271,9 +271,12 @@ module _ (l : List ℕ) where
       go unopened r m v f a = tt
 
   -- a line that is not ended, a blank one, and any other
-  pub of-unended : {r : Bool} → r ≡ ended? l → not r ≡ true → Otherwise (formOf l)
+  pub unended-broken : {r : Bool} → r ≡ ended? l → not r ≡ true → formOf l ≡ broken
   unfolding formOf typedForm
-  of-unended e d = otherwise (ap (λ b. named (cond b (tokenForm (tokens l)) broken)) (sym e ∙ not-true _ d))
+  unended-broken e d = ap (λ b. named (cond b (tokenForm (tokens l)) broken)) (sym e ∙ not-true _ d)
+
+  pub of-unended : {r : Bool} → r ≡ ended? l → not r ≡ true → Otherwise (formOf l)
+  of-unended e d = otherwise (unended-broken e d)
 
   module _ {r : Bool} (e : r ≡ ended? l) (d : not r ≡ false) where
     ended : formOf l ≡ named (tokenForm (tokens l))
@@ -295,6 +298,14 @@ module _ (l : List ℕ) where
         go : (ts : List Token) → empty? ts ≡ false → named (tokenForm ts) ≡ named (openedForm (openedOf ts))
         go [] n = absurd (let z : _≡_ {A = ℕ} 0 1 = cc in omega arith)
         go (t ∷ ts) n = refl
+
+    pub of-when : {q : Place} → OpenedIs l 0 whenWord q → {p : ℕ} → q ≡ Place.At p → formOf l ≡ named (whenForm (tokens (drop p l)))
+    unfolding sameBytes openedOf
+    of-when o {p} g = of-filled refl (go (tokens l) (opened-at o g)) ∙ ap (λ t. named (openedForm t)) (opened-at o g)
+      where
+        go : (ts : List Token) → openedOf ts ≡ opened whenWord (tokens (drop p l)) → empty? ts ≡ false
+        go [] e = absurd (let z : _≡_ {A = ℕ} 0 1 = cc in omega arith)
+        go (t ∷ ts) e = refl
 
 -- a line with a bracket or a word is not blank
 

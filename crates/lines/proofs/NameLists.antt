@@ -35,7 +35,7 @@ pub fit-is : (kind : Kind) (x : List ℕ) {c : NameClass} → c ≡ nameClass x 
 unfolding nameFit
 fit-is kind x e d = ap (classFit kind) (sym d ∙ e)
 
-abbrev Says : Kind → NameClass → NameFit → Type 0
+abbrev pub Says : Kind → NameClass → NameFit → Type 0
 Says kind c Fit.Taken = (isName c ≡ true) × (not (takes kind c) ≡ false)
 Says kind c Fit.Refused = (isName c ≡ true) × (not (takes kind c) ≡ true)
 Says kind c Fit.Wrong = isName c ≡ false
@@ -50,7 +50,7 @@ says Preference Generated = (refl, refl)
 says Preference TooLong = (refl, refl)
 says Preference Wrong = refl
 
-fit-says : (kind : Kind) (x : List ℕ) {q d : NameFit} → q ≡ nameFit kind x → q ≡ d → Says kind (nameClass x) d
+pub fit-says : (kind : Kind) (x : List ℕ) {q d : NameFit} → q ≡ nameFit kind x → q ≡ d → Says kind (nameClass x) d
 unfolding nameFit
 fit-says kind x e d = subst (Says kind (nameClass x)) (sym e ∙ d) (says kind (nameClass x))
 

@@ -166,7 +166,7 @@ module _ (s : List ℕ) (i : ℕ) {r : Item} (e : r ≡ itemOf (drop i s)) where
     abbrev pub later : List (List ℕ)
     later = items (drop (i + g + n) s)
 
-    word-is : tokens (drop i s) ≡ word item ∷ tokens (drop (i + g + n) s)
+    pub word-is : tokens (drop i s) ≡ word item ∷ tokens (drop (i + g + n) s)
     word-is =
         let q : i + (g + n) ≡ i + g + n = omega arith in
         at-word .is

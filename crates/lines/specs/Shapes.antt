@@ -1,10 +1,10 @@
 -- What the code finds in the bytes, at their places.
-use Prim.Native.Nat.{ℕ, suc, _≤_}
+use Prim.Native.Nat.{ℕ, suc, _+_, _≤_, _<_}
 use mathlib.Core.Path.{_≡_}
 use mathlib.Core.Bool.{Bool, false, true, cond}
 use mathlib.Core.List.{List, [], _∷_}
 use lib.Dec.{eqb}
-use lib.ListN.{length, take, drop}
+use lib.ListN.{length, getD, take, drop}
 use Rattle.kinds.specs.declared.limits.Kind.{Kind}
 use Rattle.kinds.specs.declared.limits.Kind.the-variants.{Plain, Preference}
 use Rattle.rules.specs.Lists.{some, empty?}
@@ -12,11 +12,13 @@ use Rattle.names.specs.declared.forms.NameClass.{NameClass}
 use Rattle.names.specs.declared.forms.NameClass.the-variants.{Common, Generated, TooLong, Wrong}
 use Rattle.names.specs.Names.{nameClass}
 use Rattle.name_store.specs.NameStore.{sameBytes}
-use Rattle.kinds.specs.Words.{space}
+use Rattle.kinds.specs.Words.{space, open-bracket, close-bracket, thenWord}
 use Rattle.lines.specs.declared.scan.Item.{Item}
 use Rattle.lines.specs.declared.scan.Item.the-variants.{At, Stop}
 use Rattle.lines.specs.declared.scan.Place.{Place}
 use Rattle.lines.specs.declared.scan.Place.the-variants as Place
+use Rattle.lines.specs.declared.scan.Bracket.{Bracket}
+use Rattle.lines.specs.declared.scan.Bracket.the-variants as Bracket
 use Rattle.lines.specs.declared.forms.NameFit.{NameFit}
 use Rattle.lines.specs.declared.forms.NameFit.the-variants as Fit
 use Rattle.lines.specs.declared.forms.Names.{Names}
@@ -90,6 +92,26 @@ OpenedSays s at w Place.Absent = opensWith w (openedOf (tokens (drop at s))) ≡
 pub record OpenedIs (s : List ℕ) (at : ℕ) (w : List ℕ) (r : Place) : Type 0 where
   pub says : OpenedSays s at w r
 
+-- behind the spaces at a place stands a byte
+pub record ByteBehind (s : List ℕ) (at b p : ℕ) : Type 0 where
+  pub place : p ≡ at + gap (drop at s)
+  pub inside : p < length s
+  pub byte : getD s p 0 ≡ b
+
+abbrev pub bracket? : List Token → Bool
+bracket? [] = false
+bracket? (opening ∷ ts) = true
+bracket? (closing ∷ ts) = true
+bracket? (word x ∷ ts) = false
+
+abbrev pub BracketSays : List ℕ → ℕ → Bracket → Type 0
+BracketSays s at (Bracket.Opening p) = ByteBehind s at open-bracket p
+BracketSays s at (Bracket.Closing p) = ByteBehind s at close-bracket p
+BracketSays s at Bracket.Absent = bracket? (tokens (drop at s)) ≡ false
+
+pub record BracketIs (s : List ℕ) (at : ℕ) (r : Bracket) : Type 0 where
+  pub says : BracketSays s at r
+
 -- what names of a class are to a kind
 abbrev pub classFit : Kind → NameClass → NameFit
 classFit kind Common = Fit.Taken
@@ -152,6 +174,10 @@ pub record Ruled (kind : Kind) (f : LineForm) (refused : Bool) : Type 0 where
   pub nots : List (List ℕ)
   pub form : f ≡ rules heads bodies nots
   pub is-refused : refused ≡ anyOf (some (refusedName kind)) heads bodies nots
+
+-- `(then a))`, the end of a condition's line
+abbrev pub thenTokens : List ℕ → List Token
+thenTokens a = opening ∷ word thenWord ∷ word a ∷ closing ∷ closing ∷ []
 
 -- a condition, or no form
 abbrev pub Otherwise : LineForm → Type 0

@@ -8,7 +8,7 @@ ghost use Rattle.name_store.specs.NameStore.{sameBytes};
 ghost use Rattle.kinds.specs.Words.{line-end};
 ghost use Rattle.lines.specs.Lines.{lineLength, ended?};
 ghost use Rattle.lines.specs.Tokens.{ends?, delimiter?, run, tokens};
-ghost use Rattle.lines.specs.Shapes.{begins, gap, itemOf, WholeWord, ClosedIs, OpenedIs};
+ghost use Rattle.lines.specs.Shapes.{begins, gap, itemOf, WholeWord, ClosedIs, OpenedIs, BracketIs};
 
 // A word behind so many spaces, or anything else.
 pub enum Item {
@@ -19,6 +19,13 @@ pub enum Item {
 // The place behind what is looked for, or that something else stands there.
 pub enum Place {
     At(usize),
+    Absent,
+}
+
+// A bracket by its place, or anything else.
+pub enum Bracket {
+    Opening(usize),
+    Closing(usize),
     Absent,
 }
 
@@ -164,6 +171,24 @@ pub fn closed_at(s: &[u8], at: usize) -> Place
         return Place::At(i + 1);
     }
     Place::Absent
+}
+
+// The bracket at `at`.
+pub fn bracket_at(s: &[u8], at: usize) -> Bracket
+    requires { ⌜ at ≤ length (now s) ⌝ }
+    ensures { λ r. ⌜ BracketIs (now (s .entry)) at r ⌝ }
+{
+    let i = at + gap_at(s, at);
+    if s.len() <= i {
+        return Bracket::Absent;
+    }
+    if s[i] == b'(' {
+        return Bracket::Opening(i);
+    }
+    if s[i] == b')' {
+        return Bracket::Closing(i);
+    }
+    Bracket::Absent
 }
 
 // Whether `tag` stands at `at`.

@@ -8,7 +8,7 @@ use Rattle.kinds.specs.declared.refusals.Refusal.{Refusal}
 use Rattle.kinds.specs.declared.refusals.Refusal.the-variants.{BrokenForm, Name, DeclaredTwice, Undeclared, TwiceInList, FilledNot}
 use Rattle.rules.specs.Lists.{All}
 use Rattle.rules.specs.Rules.{rule}
-use Rattle.names.specs.Names.{nameClass, house?, classNumber?, allowed}
+use Rattle.names.specs.Names.{nameClass, commonName?, madeName?, house?, classNumber?, allowed}
 use Rattle.name_store.specs.NameStore.{sameBytes}
 use Rattle.text.specs.Text.{textOf, listLine, openText, ruleLine}
 use Rattle.lines.specs.declared.stage.Stage.the-variants.{Ruling}
@@ -19,13 +19,13 @@ use Rattle.lines.specs.Strict.{spelled, strictText}
 use Rattle.lines.specs.Faults.{SoFar, twice, nameNumber, declare, addRule}
 use Rattle.restriction.specs.Atoms.{used}
 use Rattle.restriction.specs.Remaining.{restrict, remaining, remainingNames}
-use Rattle.lines.specs.Said.{accepted, refused, kindOf, start, readLines, typed, said, programOf}
+use Rattle.lines.specs.Said.{accepted, refused, kindOf, start, readLines, typed, said, programOf, placed}
 
 fileA : List ℕ
 fileA = bytes "(min sensor)\n(min lamp)\n(vary dark)\n(fix)\n(rule (head sensor lamp) (body) (not))\n(rule (head dark) (body lamp) (not))\n"
 
 stateA : SoFar
-stateA = record { kind = Preference; stage = Ruling; classes = 2; words = 1 ∷ 2 ∷ 17 ∷ []; names = bytes "sensor" ∷ bytes "lamp" ∷ bytes "dark" ∷ []; program-rules = rule (0 ∷ 1 ∷ []) [] [] ∷ rule (2 ∷ []) (1 ∷ []) [] ∷ [] }
+stateA = record { kind = Preference; stage = Ruling; classes = 2; words = 1 ∷ 2 ∷ 17 ∷ []; names = bytes "sensor" ∷ bytes "lamp" ∷ bytes "dark" ∷ []; program-rules = rule (0 ∷ 1 ∷ []) [] [] ∷ rule (2 ∷ []) (1 ∷ []) [] ∷ []; made = 0 }
 
 a-text : textOf (programOf stateA) (stateA .names) ≡ fileA
 unfolding fileA stateA textOf listLine openText ruleLine
@@ -44,7 +44,7 @@ filesA =
     ∷ []
 
 a-said : All (λ t. said t ≡ accepted (programOf stateA) (stateA .names)) filesA
-unfolding fileA filesA stateA said typed remaining remainingNames restrict used start kindOf readLines lines linesFrom lineLength tokens tokensFrom run openedOf splitNames splitList declaredForm ruleForm tokenForm typedForm formOf twice nameNumber declare addRule nameClass house? classNumber? allowed sameBytes
+unfolding fileA filesA stateA said typed remaining remainingNames restrict used start kindOf readLines lines linesFrom lineLength tokens tokensFrom run openedOf splitNames splitList declaredForm ruleForm tokenForm typedForm formOf twice nameNumber declare addRule nameClass commonName? madeName? house? classNumber? allowed sameBytes placed
 a-said = (refl, (refl, (refl, (refl, tt))))
 
 a-strict : All (λ t. strictText t ≡ fileA) filesA
@@ -81,7 +81,7 @@ refusals :
     -- "Lines are counted as typed"
     ∷ (bytes "; one\n\n(min a)\n  ; four\n(vary a)\n", DeclaredTwice, 5)
     ∷ [])
-unfolding said typed start kindOf readLines lines linesFrom lineLength tokens tokensFrom run openedOf splitNames splitList declaredForm ruleForm tokenForm typedForm formOf twice nameNumber declare addRule nameClass house? classNumber? allowed sameBytes
+unfolding said typed start kindOf readLines lines linesFrom lineLength tokens tokensFrom run openedOf splitNames splitList declaredForm ruleForm tokenForm typedForm formOf twice nameNumber declare addRule nameClass commonName? madeName? house? classNumber? allowed sameBytes
 refusals = (refl, (refl, (refl, (refl, (refl, (refl, (refl, (refl, (refl, (refl, (refl, (refl, tt))))))))))))
 
 -- form broken on the first line
@@ -103,5 +103,5 @@ broken-forms :
     ∷ bytes "vary\n(fix)\n"
     ∷ bytes "(vary))\n(fix)\n"
     ∷ [])
-unfolding said typed start kindOf readLines lines linesFrom lineLength tokens tokensFrom run openedOf splitNames splitList declaredForm ruleForm tokenForm typedForm formOf twice nameNumber declare addRule nameClass house? classNumber? allowed sameBytes
+unfolding said typed start kindOf readLines lines linesFrom lineLength tokens tokensFrom run openedOf splitNames splitList declaredForm ruleForm tokenForm typedForm formOf twice nameNumber declare addRule nameClass commonName? madeName? house? classNumber? allowed sameBytes
 broken-forms = (refl, (refl, (refl, (refl, (refl, (refl, (refl, (refl, (refl, (refl, tt))))))))))

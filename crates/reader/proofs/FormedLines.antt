@@ -1,7 +1,6 @@
 -- What holds after each line that passes: the state so far is of the form, and so is the program that it declares.
 use Prim.Native.Nat.{ℕ, zero, suc, _+_, _≤_, _<_}
 use native.Mathlib.Omega.{arith}
-use native.Mathlib.Decide.{decLt}
 use mathlib.Core.Path.{_≡_, refl, sym, ap, ap₂, _∙_, subst, subst₂}
 use mathlib.Core.Logic.{_⊎_, inl, inr, _≢_}
 use mathlib.Core.Bool.{Bool, true, false, cond}
@@ -14,7 +13,7 @@ use Rattle.kinds.specs.declared.limits.Kind.the-variants.{Plain, Preference}
 use Rattle.kinds.specs.declared.refusals.Refusal.the-variants.{BrokenForm}
 use Rattle.rules.specs.Lists.{All, Any, Distinct, sum, from}
 use Rattle.rules.specs.Rules.{Rule, occurrences}
-use Rattle.rules.proofs.Lists.{all-app, all-imp, all-map, from-all}
+use Rattle.rules.proofs.Lists.{all-app, all-imp, all-map, from-append}
 use Rattle.names.specs.Names.{allowed, madeName}
 use Rattle.name_store.specs.NameStore.{NamesForm}
 use Rattle.stores.specs.Program.{Program, ProgramForm, RoleForm, roleOf, ClassesForm, ListForm, NotForm, RuleForm}
@@ -54,15 +53,15 @@ names-more {st} {xs = xs} s d = record {
 }
 
 -- before the rules begin
-module _ {kind : Kind} {rs : List (Rule ℕ)} {m : ℕ} (no-rules : rs ≡ []) (no-made : m ≡ 0) where
-  no-forms : (n : ℕ) → All (RuleForm kind (n + m)) rs
-  no-forms n = subst (All (RuleForm kind (n + m))) (sym no-rules) tt
 
-  few-atoms : {n j : ℕ} → n ≤ j → n + m ≤ j
-  few-atoms l = omega arith
+no-forms : (kind : Kind) {rs : List (Rule ℕ)} (n : ℕ) → rs ≡ [] → All (RuleForm kind n) rs
+no-forms kind n none = subst (All (RuleForm kind n)) (sym none) tt
 
-  none-untaken : (names : List (List ℕ)) → All (λ t. Among names (madeName t) → ⊥) (from 1 m)
-  none-untaken names = subst (λ j. All (λ t. Among names (madeName t) → ⊥) (from 1 j)) (sym no-made) tt
+few-atoms : {m n j : ℕ} → m ≡ 0 → n ≤ j → n + m ≤ j
+few-atoms e l = omega arith
+
+none-untaken : (names : List (List ℕ)) {m : ℕ} → m ≡ 0 → All (λ t. Among names (madeName t) → ⊥) (from 1 m)
+none-untaken names e = subst (λ j. All (λ t. Among names (madeName t) → ⊥) (from 1 j)) (sym e) tt
 
 below-after : (words : List ℕ) (v : ℕ) (xs : List (List ℕ)) → All (λ w. w ≤ v) words → All (λ w. w ≤ v) (words ++ replicate (length xs) v)
 below-after words v xs h = all-app (λ w. w ≤ v) words (replicate (length xs) v) h (all-replicate (λ w. w ≤ v) (length xs) v (omega arith))
@@ -80,15 +79,15 @@ module _ (k : ℕ) (words : List ℕ) (names : List (List ℕ)) (rs : List (Rule
   atoms-step s d =
       let none = s .stage-form in
       record {
-        atoms-fit = few-atoms (none .1) (none .2) (d .counts-fit .atoms);
+        atoms-fit = few-atoms (none .2) (d .counts-fit .atoms);
         rules-fit = s .rules-fit;
         occurrences-fit = s .occurrences-fit;
         classes-form = (s .classes-form .0, append-nil words ∙ s .classes-form .1);
-        rule-forms = no-forms (none .1) (none .2) (length (names ++ xs));
+        rule-forms = no-forms Plain (length (names ++ xs) + m) (none .1);
         names-form = names-more s d;
         stage-form = tt;
         made-kind = s .made-kind;
-        untaken = none-untaken (none .1) (none .2) (names ++ xs);
+        untaken = none-untaken (names ++ xs) (none .2);
       }
 
   min-step : Formed (soFar Preference Declaring k words names rs m) → Declares (soFar Preference Declaring k words names rs m) min xs → Formed (declared (soFar Preference Declaring k words names rs m) min xs)
@@ -96,15 +95,15 @@ module _ (k : ℕ) (words : List ℕ) (names : List (List ℕ)) (rs : List (Rule
       let none = s .stage-form in
       let low = all-imp (λ w. w ≤ k) (λ w. w ≤ suc k) (λ w l. omega arith) words (none .0) in
       record {
-        atoms-fit = few-atoms (none .1) (none .2) (d .counts-fit .atoms);
+        atoms-fit = few-atoms (none .2) (d .counts-fit .atoms);
         rules-fit = s .rules-fit;
         occurrences-fit = s .occurrences-fit;
         classes-form = classes-after k (suc k) words names (suc k) xs (s .classes-form) (omega arith) (d .classes-fit) low (role-new k (d .classes-fit));
-        rule-forms = no-forms (none .1) (none .2) (length (names ++ xs));
+        rule-forms = no-forms Preference (length (names ++ xs) + m) (none .1);
         names-form = names-more s d;
         stage-form = (below-after words (suc k) xs low, none .1, none .2);
         made-kind = s .made-kind;
-        untaken = none-untaken (none .1) (none .2) (names ++ xs);
+        untaken = none-untaken (names ++ xs) (none .2);
       }
 
   vary-step : Formed (soFar Preference Declaring k words names rs m) → Declares (soFar Preference Declaring k words names rs m) vary xs → Formed (declared (soFar Preference Declaring k words names rs m) vary xs)
@@ -114,15 +113,15 @@ module _ (k : ℕ) (words : List ℕ) (names : List (List ℕ)) (rs : List (Rule
       let few : k ≤ classLimit = d .classes-fit in
       let low = all-imp (λ w. w ≤ k) (λ w. w ≤ varying) (λ w l. omega arith) words (none .0) in
       record {
-        atoms-fit = few-atoms (none .1) (none .2) (d .counts-fit .atoms);
+        atoms-fit = few-atoms (none .2) (d .counts-fit .atoms);
         rules-fit = s .rules-fit;
         occurrences-fit = s .occurrences-fit;
         classes-form = classes-after k k words names varying xs (s .classes-form) (omega arith) few low tt;
-        rule-forms = no-forms (none .1) (none .2) (length (names ++ xs));
+        rule-forms = no-forms Preference (length (names ++ xs) + m) (none .1);
         names-form = names-more s d;
         stage-form = (below-after words varying xs low, none .1, none .2);
         made-kind = s .made-kind;
-        untaken = none-untaken (none .1) (none .2) (names ++ xs);
+        untaken = none-untaken (names ++ xs) (none .2);
       }
 
   fix-step : Formed (soFar Preference Fixing k words names rs m) → Declares (soFar Preference Fixing k words names rs m) fix xs → Formed (declared (soFar Preference Fixing k words names rs m) fix xs)
@@ -132,15 +131,15 @@ module _ (k : ℕ) (words : List ℕ) (names : List (List ℕ)) (rs : List (Rule
       let few : k ≤ classLimit = d .classes-fit in
       let low = all-imp (λ w. w ≤ varying) (λ w. w ≤ fixed) (λ w l. omega arith) words (none .0) in
       record {
-        atoms-fit = few-atoms (none .1) (none .2) (d .counts-fit .atoms);
+        atoms-fit = few-atoms (none .2) (d .counts-fit .atoms);
         rules-fit = s .rules-fit;
         occurrences-fit = s .occurrences-fit;
         classes-form = classes-after k k words names fixed xs (s .classes-form) (omega arith) few low tt;
-        rule-forms = no-forms (none .1) (none .2) (length (names ++ xs));
+        rule-forms = no-forms Preference (length (names ++ xs) + m) (none .1);
         names-form = names-more s d;
         stage-form = tt;
         made-kind = s .made-kind;
-        untaken = none-untaken (none .1) (none .2) (names ++ xs);
+        untaken = none-untaken (names ++ xs) (none .2);
       }
 
 pub declared-formed : (st : SoFar) (w : Word) (xs : List (List ℕ)) → Formed st → Declares st w xs → Formed (declared st w xs)
@@ -179,32 +178,30 @@ numbers-below names xs h = all-map (λ a. a < length names) (nameNumber names) x
 list-form : {kind : Kind} {names xs : List (List ℕ)} → Listed kind names xs → ListForm (length names) (map (nameNumber names) xs)
 list-form {kind} {names} {xs} l = (numbers-below names xs (l .all-declared), numbers-differ names xs (l .all-declared) (l .different))
 
+pub rule-form : (st : SoFar) (hs bs ns : List (List ℕ)) → Adds st hs bs ns → RuleForm (st .kind) (length (st .names)) (numbered (st .names) hs bs ns)
+rule-form st hs bs ns d = record {
+  head-form = list-form (d .head-listed);
+  body-form = list-form (d .body-listed);
+  nots-form = list-form (d .nots-listed);
+  no-nots = no-nots-form (st .kind) (nameNumber (st .names)) ns (d .no-nots);
+}
+
 pub rule-formed : (st : SoFar) (hs bs ns : List (List ℕ)) → Formed st → Adds st hs bs ns → Formed (with-rule st (numbered (st .names) hs bs ns))
 rule-formed st hs bs ns s d =
     let n = length (st .names) in
-    let new : RuleForm (st .kind) n (numbered (st .names) hs bs ns) = record {
-      head-form = list-form (d .head-listed);
-      body-form = list-form (d .body-listed);
-      nots-form = list-form (d .nots-listed);
-      no-nots = no-nots-form (st .kind) (nameNumber (st .names)) ns (d .no-nots);
-    } in
     record {
       atoms-fit = s .atoms-fit;
       rules-fit = d .counts-fit .rules;
       occurrences-fit = d .counts-fit .occurrences;
       classes-form = s .classes-form;
-      rule-forms = all-app (RuleForm (st .kind) (n + st .made)) (st .program-rules) (numbered (st .names) hs bs ns ∷ []) (s .rule-forms) (rule-more (st .kind) n (n + st .made) (omega arith) (numbered (st .names) hs bs ns) new, tt);
+      rule-forms = all-app (RuleForm (st .kind) (n + st .made)) (st .program-rules) (numbered (st .names) hs bs ns ∷ []) (s .rule-forms) (rule-more (st .kind) n (n + st .made) (omega arith) (numbered (st .names) hs bs ns) (rule-form st hs bs ns d), tt);
       names-form = s .names-form;
       stage-form = stage-free (st .stage) (st .kind) (with-rule st (numbered (st .names) hs bs ns)) (d .ruling);
       made-kind = s .made-kind;
       untaken = s .untaken;
     }
 
-from-more : (P : ℕ → Type 0) (s c d : ℕ) → All P (from s c) → All P (from (s + c) d) → All P (from s (c + d))
-from-more P s zero d h k = subst (λ i. All P (from i d)) (let e : s + 0 ≡ s = omega arith in e) k
-from-more P s (suc c) d h k = (h .0, from-more P (suc s) c d (h .1) (subst (λ i. All P (from i d)) (let e : s + suc c ≡ suc s + c = omega arith in e) k))
-
-module _ (st : SoFar) (ts : List Token) (a : List ℕ) (c : Cond) (s : Formed st) (d : Speaks st ts a c) where
+module _ (st : SoFar) (ts : List Token) (a : List ℕ) (c : Cond) (d : Speaks st ts a c) where
   abbrev n : ℕ
   n = length (st .names)
 
@@ -220,20 +217,20 @@ module _ (st : SoFar) (ts : List Token) (a : List ℕ) (c : Cond) (s : Formed st
   abbrev after : SoFar
   after = with-condition st c j b
 
-  below : All (λ x. x < n) (namesOf c ++ (b ∷ []))
+  pub below : All (λ x. x < n) (namesOf c ++ (b ∷ []))
   below =
       let both = all-parts (Among (st .names)) (namesIn ts) (a ∷ []) (d .all-declared) in
-      all-app (λ x. x < n) (namesOf c) (b ∷ []) (subst (All (λ x. x < n)) (sym (parsed-names (nameNumber (st .names)) (suc m) ts (d .parsed-as))) (numbers-below (st .names) (namesIn ts) (both .0))) (number-below a (st .names) (both .1 .0), tt)
+      all-app (λ x. x < n) (namesOf c) (b ∷ []) (subst (All (λ x. x < n)) (sym (parsed-names (nameNumber (st .names)) (suc m) ts c (d .parsed-as))) (numbers-below (st .names) (namesIn ts) (both .0))) (number-below a (st .names) (both .1 .0), tt)
     where
       all-parts : (P : List ℕ → Type 0) (xs ys : List (List ℕ)) → All P (xs ++ ys) → All P xs × All P ys
       all-parts P [] ys h = (tt, h)
       all-parts P (x ∷ xs) ys h = let r = all-parts P xs ys (h .1) in ((h .0, r .0), r .1)
 
   new-forms : All (RuleForm Preference (n + (m + j))) (conditionRules n c b)
-  new-forms = condition-forms n c b (m + j) m j below (parsed-connectives (nameNumber (st .names)) (suc m) ts (d .parsed-as)) (omega arith)
+  new-forms = condition-forms n c b (m + j) m j below (parsed-connectives (nameNumber (st .names)) (suc m) ts c (d .parsed-as)) (omega arith)
 
-  pub condition-formed : Formed after
-  condition-formed = record {
+  pub condition-formed : Formed st → Formed after
+  condition-formed s = record {
     atoms-fit = d .counts-fit .atoms;
     rules-fit = d .counts-fit .rules;
     occurrences-fit = d .counts-fit .occurrences;
@@ -245,7 +242,10 @@ module _ (st : SoFar) (ts : List Token) (a : List ℕ) (c : Cond) (s : Formed st
     names-form = s .names-form;
     stage-form = stage-free (st .stage) (st .kind) after (d .ruling);
     made-kind = λ e. absurd (let x : Plain ≡ Preference = sym e ∙ d .is-preference in let z : _≡_ {A = ℕ} 0 1 = cc in omega arith);
-    untaken = from-more (λ t. Among (st .names) (madeName t) → ⊥) 1 m j (s .untaken) (d .untaken);
+    untaken =
+        let next : 1 + m ≡ suc m = omega arith in
+        subst (All (λ t. Among (st .names) (madeName t) → ⊥)) (from-append 1 m j)
+        (all-app (λ t. Among (st .names) (madeName t) → ⊥) (from 1 m) (from (1 + m) j) (s .untaken) (subst (λ (i : ℕ). All (λ t. Among (st .names) (madeName t) → ⊥) (from i j)) (sym next) (d .untaken)));
   }
 
 -- every line
@@ -253,7 +253,7 @@ module _ (st : SoFar) (ts : List Token) (a : List ℕ) (c : Cond) (s : Formed st
 pub line-formed : (st after : SoFar) (f : LineForm) → Formed st → stepForm st f ≡ next after → Formed after
 line-formed st after (declares w xs) s e = let d = declare-said st w xs after e in subst Formed (d .1) (declared-formed st w xs s (d .0))
 line-formed st after (rules hs bs ns) s e = let d = rule-said st hs bs ns after e in subst Formed (d .1) (rule-formed st hs bs ns s (d .0))
-line-formed st after (condition ts a) s e = let d = condition-said st ts a after e in subst Formed (d .2) (condition-formed st ts a (d .0) s (d .1))
+line-formed st after (condition ts a) s e = let d = condition-said st ts a after e in subst Formed (d .2) (condition-formed st ts a (d .0) (d .1) s)
 line-formed st after blank s e = let same : st ≡ after = cc in subst Formed same s
 line-formed st after broken s e = absurd (let z : _≡_ {A = ℕ} 0 1 = cc in omega arith)
 

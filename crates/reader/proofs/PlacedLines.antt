@@ -6,25 +6,25 @@ use mathlib.Core.Logic.{_⊎_, inl, inr, _≢_}
 use mathlib.Core.Bool.{Bool, true, false, cond}
 use mathlib.Core.List.{List, [], _∷_, _++_, map}
 use lib.Dec.{T}
-use lib.ListN.{length, take, drop, length-append, length-map, length-drop, take-append-drop}
-use lib.Seq.{length-take-le}
+use lib.ListN.{length, take, drop, length-map, take-append-drop}
 use Rattle.kinds.specs.Limits.{atomLimit}
 use Rattle.kinds.specs.declared.limits.Kind.{Kind}
 use Rattle.kinds.specs.declared.limits.Kind.the-variants.{Plain, Preference}
 use Rattle.kinds.specs.declared.refusals.Refusal.the-variants.{BrokenForm}
 use Rattle.rules.specs.Lists.{All, Distinct, from}
-use Rattle.rules.specs.Rules.{Rule}
-use Rattle.rules.proofs.Lists.{all-app, all-app-l, all-app-r, all-imp, all-map, all-from, from-all, distinct-from, distinct-map, length-from}
+use Rattle.rules.specs.Rules.{Rule, rename}
+use Rattle.rules.proofs.Lists.{all-app, all-app-l, all-app-r, all-imp, all-map, all-from, distinct-from, distinct-map}
 use Rattle.rules.proofs.ListLaws.{distinct-app}
 use Rattle.rules.proofs.Rules.{rename-occurrences}
-use Rattle.names.specs.Names.{allowed, madeName}
-use Rattle.names.proofs.MadeNames.{made-allowed, made-name-inj}
+use Rattle.names.specs.Names.{madeName}
+use Rattle.names.proofs.MadeNames.{made-name-inj}
 use Rattle.name_store.specs.NameStore.{NamesForm}
 use Rattle.stores.specs.Program.{Program, ProgramForm, ClassesForm, RuleForm}
-use Rattle.conditions.specs.Numbers.{unfixed, placing}
+use Rattle.conditions.specs.Numbers.{unfixed, placedWords, placing}
 use Rattle.conditions.specs.Left.{writtenNames}
 use Rattle.conditions.proofs.Classes.{unfixed-le, placed-classes}
 use Rattle.conditions.proofs.InFile.{placing-forms}
+use Rattle.conditions.proofs.Names.{written-length, written-allowed}
 use Rattle.lines.specs.declared.stage.Stage.{Stage}
 use Rattle.lines.specs.Forms.{LineForm, declares, rules, condition, blank, broken, formOf}
 use Rattle.lines.specs.Faults.{SoFar, Step, next, fault, ruling?, stepForm}
@@ -68,34 +68,23 @@ module _ {A : Type 0} where
       let front = all-imp _ (λ x. All (λ y. x ≢ y) (take q l)) (λ x h. all-app-l (λ y. x ≢ y) (take q l) (drop q l) h) new apart in
       let back = all-imp _ (λ x. All (λ y. x ≢ y) (drop q l)) (λ x h. all-app-r (λ y. x ≢ y) (take q l) (drop q l) h) new apart in
       distinct-app (take q l) (new ++ drop q l) (p .0) (distinct-app new (drop q l) n (p .1) back)
-      (both (take q l) (turned new (take q l) front) (p .2))
+      (both (take q l) new (drop q l) (turned new (take q l) front) (p .2))
     where
-      both : (xs : List A) {ys zs : List A} → All (λ x. All (λ y. x ≢ y) ys) xs → All (λ x. All (λ y. x ≢ y) zs) xs → All (λ x. All (λ y. x ≢ y) (ys ++ zs)) xs
-      both [] a b = tt
-      both (x ∷ xs) {ys} {zs} a b = (all-app (λ y. x ≢ y) ys zs (a .0) (b .0), both xs (a .1) (b .1))
+      both : (xs ys zs : List A) → All (λ x. All (λ y. x ≢ y) ys) xs → All (λ x. All (λ y. x ≢ y) zs) xs → All (λ x. All (λ y. x ≢ y) (ys ++ zs)) xs
+      both [] ys zs a b = tt
+      both (x ∷ xs) ys zs a b = (all-app (λ y. x ≢ y) ys zs (a .0) (b .0), both xs ys zs (a .1) (b .1))
 
 -- the names
 
-module _ (q k : ℕ) (names : List (List ℕ)) (inside : q ≤ length names) where
-  pub written-length : length (writtenNames q k names) ≡ length names + k
-  unfolding writtenNames
-  written-length =
-      let made = map madeName (from 1 k) in
-      omega (arith, length-append (take q names) (made ++ drop q names), length-append made (drop q names), length-map (from 1 k) madeName, length-from 1 k, length-take-le q names inside, length-drop q names)
-
-  module _ (few : length names + k ≤ atomLimit Preference) (form : NamesForm Preference (length names) names) (untaken : All (λ t. Among names (madeName t) → ⊥) (from 1 k)) where
-    pub written-form : NamesForm Preference (length (writtenNames q k names)) (writtenNames q k names)
-    unfolding writtenNames
-    written-form =
-        let made = map madeName (from 1 k) in
-        let parts : All (λ x. T (allowed Preference x)) (take q names ++ drop q names) = subst (All (λ x. T (allowed Preference x))) (sym (take-append-drop q names)) (form .all-allowed) in
-        let new : All (λ x. T (allowed Preference x)) made = all-map (λ x. T (allowed Preference x)) madeName (from 1 k) (all-from (λ t. T (allowed Preference (madeName t))) 1 k (λ t l u. made-allowed t l (omega arith) Preference)) in
-        let small : All (λ t. t ≤ 256) (from 1 k) = all-from (λ t. t ≤ 256) 1 k (λ t l u. omega arith) in
-        record {
-          count = refl;
-          all-allowed = all-app (λ x. T (allowed Preference x)) (take q names) (made ++ drop q names) (all-app-l (λ x. T (allowed Preference x)) (take q names) (drop q names) parts) (all-app (λ x. T (allowed Preference x)) made (drop q names) new (all-app-r (λ x. T (allowed Preference x)) (take q names) (drop q names) parts));
-          different = between q names made (form .different) (distinct-map madeName (λ t. t ≤ 256) (λ s t a b e. made-name-inj s t (omega arith) (omega arith) e) (from 1 k) small (distinct-from 1 k)) (all-map (λ x. Among names x → ⊥) madeName (from 1 k) untaken);
-        }
+pub written-form : (q k : ℕ) (names : List (List ℕ)) → length names + k ≤ atomLimit Preference → NamesForm Preference (length names) names → All (λ t. Among names (madeName t) → ⊥) (from 1 k) → NamesForm Preference (length (writtenNames q k names)) (writtenNames q k names)
+unfolding writtenNames
+written-form q k names few form untaken =
+    let small : All (λ t. t ≤ 256) (from 1 k) = all-from (λ t. t ≤ 256) 1 k (λ t l u. omega arith) in
+    record {
+      count = refl;
+      all-allowed = written-allowed q k names (omega arith) (form .all-allowed);
+      different = between q names (map madeName (from 1 k)) (form .different) (distinct-map madeName (λ t. t ≤ 256) (λ s t a b e. made-name-inj s t (omega arith) (omega arith) e) (from 1 k) small (distinct-from 1 k)) (all-map (λ x. Among names x → ⊥) madeName (from 1 k) untaken);
+    }
 
 -- the program
 
@@ -103,49 +92,49 @@ pub none-placed : (st : SoFar) → st .made ≡ 0 → placed st ≡ st
 unfolding placed
 none-placed st e = ap (λ m. placedBy m st) e
 
+-- a state that declares a program of the form
+abbrev Fine : SoFar → Type 0
+Fine st = ProgramForm (programOf st) × NamesForm (st .kind) (length (st .names)) (st .names)
+
+module _ (stage : Stage) (j : ℕ) (words : List ℕ) (names : List (List ℕ)) (rs : List (Rule ℕ)) where
+  none-fine : {kind : Kind} → Formed (soFar kind stage j words names rs 0) → Fine (soFar kind stage j words names rs 0)
+  none-fine {kind} f = (
+    record {
+      atoms-fit = omega (arith, f .atoms-fit);
+      rules-fit = f .rules-fit;
+      occurrences-fit = f .occurrences-fit;
+      classes-form = f .classes-form;
+      rule-forms = subst (λ (n : ℕ). All (RuleForm kind n) rs) (let e : length names + 0 ≡ length names = omega arith in e) (f .rule-forms);
+    },
+    f .names-form,
+  )
+
+  placed-fine : (kind : Kind) (m : ℕ) → Formed (soFar kind stage j words names rs m) → Fine (placedBy m (soFar kind stage j words names rs m))
+  placed-fine kind zero f = none-fine f
+  placed-fine Plain (suc k) f = absurd (let e = f .made-kind refl in omega arith)
+  placed-fine Preference (suc k) f =
+      let q = unfixed words in
+      let n = length names in
+      let same : length words ≡ n = f .classes-form .1 in
+      let inside : q ≤ n = omega (arith, unfixed-le words) in
+      let long = written-length q (suc k) names inside in
+      let classes : ClassesForm Preference (length words) j words = subst (λ (i : ℕ). ClassesForm Preference i j words) (sym same) (f .classes-form) in
+      let size : length words + suc k ≡ length (writtenNames q (suc k) names) = omega arith in
+      let few : length (map (rename (placing q n (suc k))) rs) ≡ length rs = length-map rs (rename (placing q n (suc k))) in
+      (
+        record {
+          atoms-fit = omega (arith, f .atoms-fit);
+          rules-fit = omega (arith, f .rules-fit);
+          occurrences-fit = omega (arith, rename-occurrences (placing q n (suc k)) rs, f .occurrences-fit);
+          classes-form = subst (λ (i : ℕ). ClassesForm Preference i j (placedWords q (suc k) words)) size (placed-classes j words classes (suc k));
+          rule-forms = subst (λ (i : ℕ). All (RuleForm Preference i) (map (rename (placing q n (suc k))) rs)) (sym long) (placing-forms q n (suc k) inside rs (f .rule-forms));
+        },
+        written-form q (suc k) names (f .atoms-fit) (f .names-form) (f .untaken),
+      )
+
 pub placed-form : (st : SoFar) → Formed st → ProgramForm (programOf (placed st)) × NamesForm (placed st .kind) (length (placed st .names)) (placed st .names)
 unfolding placed
-placed-form st s = go (st .kind) (st .made) s
-  where
-    abbrev at : Kind → ℕ → SoFar
-    at kind m = soFar kind (st .stage) (st .classes) (st .words) (st .names) (st .program-rules) m
-
-    abbrev Fine : SoFar → Type 0
-    Fine z = ProgramForm (programOf z) × NamesForm (z .kind) (length (z .names)) (z .names)
-
-    none : {kind : Kind} → Formed (at kind 0) → Fine (at kind 0)
-    none {kind} f = (
-      record {
-        atoms-fit = omega (arith, f .atoms-fit);
-        rules-fit = f .rules-fit;
-        occurrences-fit = f .occurrences-fit;
-        classes-form = f .classes-form;
-        rule-forms = subst (λ n. All (RuleForm kind n) (st .program-rules)) (let e : length (st .names) + 0 ≡ length (st .names) = omega arith in e) (f .rule-forms);
-      },
-      f .names-form,
-    )
-
-    go : (kind : Kind) (m : ℕ) → Formed (at kind m) → Fine (placedBy m (at kind m))
-    go kind zero f = none f
-    go Plain (suc k) f = absurd (let e = f .made-kind refl in omega arith)
-    go Preference (suc k) f =
-        let q = unfixed (st .words) in
-        let n = length (st .names) in
-        let words : length (st .words) ≡ n = f .classes-form .1 in
-        let inside : q ≤ n = omega (arith, unfixed-le (st .words)) in
-        let long = written-length q (suc k) (st .names) inside in
-        let classes : ClassesForm Preference (length (st .words)) (st .classes) (st .words) = subst (λ i. ClassesForm Preference i (st .classes) (st .words)) (sym words) (f .classes-form) in
-        let size : length (st .words) + suc k ≡ length (writtenNames q (suc k) (st .names)) = omega arith in
-        (
-          record {
-            atoms-fit = omega (arith, f .atoms-fit);
-            rules-fit = subst (λ i. i ≤ 1024) (sym (length-map (st .program-rules) _)) (f .rules-fit);
-            occurrences-fit = subst (λ i. i ≤ 8192) (sym (rename-occurrences (placing q n (suc k)) (st .program-rules))) (f .occurrences-fit);
-            classes-form = subst (λ i. ClassesForm Preference i (st .classes) _) size (placed-classes (st .classes) (st .words) classes (suc k));
-            rule-forms = subst (λ i. All (RuleForm Preference i) _) (sym long) (placing-forms q n (suc k) inside (st .program-rules) (f .rule-forms));
-          },
-          written-form q (suc k) (st .names) inside (f .atoms-fit) (f .names-form) (f .untaken),
-        )
+placed-form st s = placed-fine (st .stage) (st .classes) (st .words) (st .names) (st .program-rules) (st .kind) (st .made) s
 
 -- what all lines together declare
 

@@ -41,7 +41,7 @@ use Rattle.reader.proofs.SameLines.{same-text, lines-ended}
 
 -- an accepted text
 
-lines-read : (text : List ℕ) (p : Program) (names : List (List ℕ)) → typed text ≡ accepted p names → readLines 1 (start text) (lines text) ≡ accepted p names
+pub lines-read : (text : List ℕ) (p : Program) (names : List (List ℕ)) → typed text ≡ accepted p names → readLines 1 (start text) (lines text) ≡ accepted p names
 unfolding typed
 lines-read text p names e = go (leb (length text) textLimit) e
   where

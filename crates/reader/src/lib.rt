@@ -32,13 +32,7 @@ fn deliver_placed(
 {
     let mut placed_words = [0u16; Plain::WORDS];
     let mut placed_bytes = [0u8; Plain::BYTES];
-    let placed = place_made(
-        gathered,
-        words,
-        bytes,
-        &mut placed_words,
-        &mut placed_bytes,
-    );
+    let placed = place_made(gathered, words, bytes, &mut placed_words, &mut placed_bytes);
     remaining_stores::remaining::deliver(
         Kind::Preference,
         placed,

@@ -1,6 +1,6 @@
 -- The marked cases, by computation.
 use mathlib.Core.Path.{refl}
-use Rattle.names.specs.Names.{nameClass, house?, classNumber?, allowed}
+use Rattle.names.specs.Names.{nameClass, commonName?, madeName?, house?, classNumber?, allowed}
 use Rattle.stores.specs.RuleStore.{encode, ruleAt, rulesFrom, decode}
 use Rattle.name_store.specs.NameStore.{sameBytes, encodeNames, decodeNames}
 use Rattle.text.specs.Text.{listLine, openText, ruleLine, textOf}
@@ -37,7 +37,7 @@ use Rattle.answers.specs.Programs.{printed, statesPrinted}
 use Rattle.rigtomato.specs.Sheet.{rulesA, fileA, typedA, oneClass, lampFirst, darkFixed, nothing, emptyRule, oneRule, unused, unusedLong, unusedTwice, plainUnused, plain, inverters, clauseFile, manyLiterals, falling, plainFalling, plainRising, Sheet}
 
 pub sheet : Sheet
-unfolding rulesA fileA typedA oneClass lampFirst darkFixed nothing emptyRule oneRule unused unusedLong unusedTwice plainUnused plain inverters clauseFile manyLiterals falling plainFalling plainRising nameClass house? classNumber? allowed encode ruleAt rulesFrom decode sameBytes encodeNames decodeNames listLine openText ruleLine textOf lines linesFrom lineLength run tokensFrom tokens openedOf splitNames splitList declaredForm ruleForm tokenForm typedForm formOf kindOf spelled strictText twice nameNumber declare addRule start readLines typed restrict remaining remainingNames used said value clauseItems clauseItemsFrom clauseRun tokenOf headerLine clauseLine stepLine clauseNames readClauses clausesTyped clausesSaid declared step1 step2 step3 step4 step5 step6 step7 step8 step9 step10 translation translatedRules place closed? visited walkOrder preferredSets preferredWalk stableWalk candidates search capped preferredNeeds stableNeeds preferredVerdict stableVerdict firstState cappedNext nextNeeds nextVerdict digits numbers compareLists compareRules tidy canonical canonicalProgram canonicalText storesText storesCanonical stateLine totalLine listing wholeListing printed statesOf statesPrinted
+unfolding rulesA fileA typedA oneClass lampFirst darkFixed nothing emptyRule oneRule unused unusedLong unusedTwice plainUnused plain inverters clauseFile manyLiterals falling plainFalling plainRising nameClass commonName? madeName? house? classNumber? allowed encode ruleAt rulesFrom decode sameBytes encodeNames decodeNames listLine openText ruleLine textOf lines linesFrom lineLength run tokensFrom tokens openedOf splitNames splitList declaredForm ruleForm tokenForm typedForm formOf kindOf spelled strictText twice nameNumber declare addRule start readLines typed restrict remaining remainingNames used said value clauseItems clauseItemsFrom clauseRun tokenOf headerLine clauseLine stepLine clauseNames readClauses clausesTyped clausesSaid declared step1 step2 step3 step4 step5 step6 step7 step8 step9 step10 translation translatedRules place closed? visited walkOrder preferredSets preferredWalk stableWalk candidates search capped preferredNeeds stableNeeds preferredVerdict stableVerdict firstState cappedNext nextNeeds nextVerdict digits numbers compareLists compareRules tidy canonical canonicalProgram canonicalText storesText storesCanonical stateLine totalLine listing wholeListing printed statesOf statesPrinted
 sheet = record {
   a-6 = refl;
   a-1 = refl;

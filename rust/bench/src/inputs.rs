@@ -2,6 +2,7 @@
 
 use crate::twin::{Refused, Stores};
 use crate::walks::{self, Answer};
+use compare::conditions;
 use compare::generate;
 use compare::random::Random;
 use reference::limits::{Kind, TEXT_LIMIT};
@@ -193,8 +194,45 @@ pub fn long_file(every: usize) -> Vec<u8> {
             not: Vec::new(),
         });
     }
-    let names = generate::names(&mut random, Kind::Preference, 256);
+    let names = generate::names_without_made(&mut random, Kind::Preference, 256);
     reference::writer::write(&file, &names)
+}
+
+/// A file of many conditions: 40 declared atoms with long names, and as many connectives as there is
+/// room for, three to a condition; the rest are conditions of one name, up to the limit of rules.
+pub fn conditions_file() -> Vec<u8> {
+    let mut random = Random::new(208);
+    let name = |i: usize| {
+        format!("object_{i:0>2}_of_the_long_loan")[..24]
+            .as_bytes()
+            .to_vec()
+    };
+    let names: Vec<Vec<u8>> = (0..40).map(name).collect();
+    let declared = |part: &[Vec<u8>]| part.join(&b' ');
+    let mut text = [
+        b"(min ",
+        &declared(&names[..10])[..],
+        b")\n(vary ",
+        &declared(&names[10..30]),
+        b")\n(fix ",
+        &declared(&names[30..]),
+        b")\n",
+    ]
+    .concat();
+    let connectives = 256 - names.len();
+    let mut rules = 0;
+    for i in 0.. {
+        let here = if i < connectives / 3 { 3 } else { 0 };
+        // Nine rules and one at most.
+        rules += 3 * here + 1;
+        if rules > 1_024 {
+            break;
+        }
+        let condition = conditions::condition(&mut random, &names, here);
+        let then = random.pick(&names);
+        text.extend([b"(when ", &condition[..], b" (then ", then, b"))\n"].concat());
+    }
+    text
 }
 
 /// The text as a person types it: lists that stand apart, a comment behind every other line, and every
@@ -243,7 +281,7 @@ pub fn many_rules(atoms: usize) -> Stores {
         }
         plain.rules.push(rule);
     }
-    let names = generate::names(&mut random, Kind::Plain, atoms);
+    let names = generate::names_without_made(&mut random, Kind::Plain, atoms);
     Stores {
         rules: rule_store(&plain),
         names: name_store(&names),
@@ -266,7 +304,28 @@ pub fn longest_texts() -> Vec<(&'static str, Vec<u8>, Refused)> {
         ("opening brackets", filled("("), (2, 1)),
         ("brackets in pairs", filled("()"), (2, 1)),
         ("one word", filled("a"), (2, 1)),
+        ("not upon not", condition("not ", "a", ""), (7, 3)),
+        ("a condition's brackets", condition("(", "a", ")"), (18, 3)),
+        (
+            "a condition's opening brackets",
+            condition("(", "a", ""),
+            (2, 3),
+        ),
+        ("a row of and", condition("a and ", "a", ""), (7, 3)),
+        ("names side by side", condition("a ", "", ""), (17, 3)),
     ]
+}
+
+/// A file of one condition, so many bytes long: parts before, one inside, and as many behind.
+fn condition(before: &str, inside: &str, behind: &str) -> Vec<u8> {
+    let frame = ["(vary a)\n(fix)\n(when ", " (then a))\n"];
+    let room = TEXT_LIMIT - frame[0].len() - frame[1].len() - inside.len();
+    let count = room / (before.len() + behind.len());
+    let (before, behind) = (before.repeat(count), behind.repeat(count));
+    let spaces = " ".repeat(room - before.len() - behind.len());
+    [frame[0], &before, inside, &behind, &spaces, frame[1]]
+        .concat()
+        .into_bytes()
 }
 
 /// The largest clause file: 256 atoms, 1,024 clauses, 8,192 literals of either sign. Between two items

@@ -489,6 +489,9 @@ fn text_rows() {
     read_row("256 atoms, all in rules", &file);
     read_row("256 atoms, half in no rule", &inputs::long_file(2));
     read_row("256 atoms, hand-typed", &inputs::typed(&file));
+    let conditions = inputs::conditions_file();
+    read_row("conditions", &conditions);
+    read_row("conditions, hand-typed", &inputs::typed(&conditions));
     read_row("a translation", &delivered);
     read_row("a translation, hand-typed", &inputs::typed(&delivered));
     clauses_row("8,192 literals", &inputs::clause_file(1, 0));

@@ -32,9 +32,28 @@ const PREFERENCE: Limits = Limits {
     occurrences: 8_192,
 };
 
+/// The number of a name `T.1` to `T.256`.
+fn made_number(name: &[u8]) -> Option<usize> {
+    let [b'T', b'.', digits @ ..] = name else {
+        return None;
+    };
+    if !matches!(digits, [b'1'..=b'9', ..]) || digits.len() > 3 {
+        return None;
+    }
+    let mut number = 0;
+    for digit in digits {
+        let digit = digit.is_ascii_digit().then(|| usize::from(digit - b'0'))?;
+        number = 10 * number + digit;
+    }
+    (number <= 256).then_some(number)
+}
+
 /// The fault of a name: 0 where it has none.
 fn name_fault(name: &[u8], plain: bool) -> u64 {
     let house = |name: &[u8]| -> u64 {
+        if name.first() == Some(&b'T') {
+            return if made_number(name).is_some() { 0 } else { 2 };
+        }
         let rest = |b: &u8| b.is_ascii_lowercase() || b.is_ascii_digit() || *b == b'_';
         match name.first() {
             Some(first) if *first != b'_' && name.iter().all(rest) => {
@@ -123,6 +142,31 @@ impl<'t> Line<'t> {
         }
     }
 
+    /// The word that stands here, which may be empty.
+    fn word(&mut self) -> Option<&'t [u8]> {
+        self.skip_spaces();
+        let end = self.left.iter().position(|byte| ends_a_word(*byte))?;
+        let (word, rest) = self.left.split_at(end);
+        self.left = rest;
+        Some(word)
+    }
+
+    /// Takes `(then a))` where the line ends behind it, and gives its name.
+    fn then(&mut self) -> Option<&'t [u8]> {
+        let mut tail = Line {
+            left: self.left,
+            fault: 0,
+        };
+        tail.open(b"then")?;
+        let name = tail.word().filter(|name| !name.is_empty())?;
+        tail.expect(b')')?;
+        tail.expect(b')')?;
+        tail.skip_spaces();
+        matches!(tail.left.first()?, b';' | b'\n').then_some(())?;
+        self.left = tail.left;
+        Some(name)
+    }
+
     /// Goes past the line's end, behind spaces and a comment; nothing where something else stands
     /// before it or where it is missing.
     fn end(&mut self) -> Option<()> {
@@ -140,6 +184,74 @@ impl<'t> Line<'t> {
     }
 }
 
+/// What waits for its parts: an opening bracket, or a connective by its place in the condition.
+#[derive(Clone, Copy, PartialEq, Eq)]
+enum Waiting {
+    Open,
+    Or(usize),
+    And(usize),
+    Not(usize),
+}
+
+impl Waiting {
+    /// How tightly it binds.
+    fn binds(self) -> u8 {
+        match self {
+            Waiting::Open => 0,
+            Waiting::Or(_) => 1,
+            Waiting::And(_) => 2,
+            Waiting::Not(_) => 3,
+        }
+    }
+}
+
+/// While the lines are read, the atoms that conditions make are numbered from here.
+const MADE: u32 = 0x4000;
+
+/// A condition as it is read: parts that are whole, what waits for its parts, and what was joined, by
+/// its place.
+#[derive(Default)]
+struct Condition {
+    parts: Vec<u32>,
+    waiting: Vec<Waiting>,
+    joined: Vec<(Option<Waiting>, u32, u32)>,
+}
+
+impl Condition {
+    fn clear(&mut self) {
+        self.parts.clear();
+        self.waiting.clear();
+        self.joined.clear();
+    }
+
+    /// Joins all that binds as tightly as this or more; `made` is the first connective's atom.
+    fn join(&mut self, binds: u8, made: u32) {
+        while let Some(&last) = self.waiting.last() {
+            if last.binds() < binds {
+                return;
+            }
+            self.waiting.pop();
+            let right = self.parts.pop().expect("a part stands behind it");
+            let (place, left) = match last {
+                Waiting::Not(place) => (place, right),
+                Waiting::And(place) | Waiting::Or(place) => {
+                    (place, self.parts.pop().expect("a part stands before it"))
+                }
+                Waiting::Open => unreachable!("it binds least"),
+            };
+            self.joined[place] = (Some(last), left, right);
+            self.parts.push(made + place as u32);
+        }
+    }
+
+    /// Takes a connective where it stands.
+    fn connective(&mut self, connective: fn(usize) -> Waiting) {
+        let place = self.joined.len();
+        self.joined.push((None, 0, 0));
+        self.waiting.push(connective(place));
+    }
+}
+
 struct Reader<'t> {
     plain: bool,
     limits: Limits,
@@ -151,6 +263,10 @@ struct Reader<'t> {
     /// The last list in which each atom was seen, as the list's number from 1.
     seen: Vec<u32>,
     lists: u32,
+    /// How many atoms conditions made, and which of their numbers are declared.
+    made: usize,
+    declared: Vec<usize>,
+    condition: Condition,
 }
 
 impl<'t> Reader<'t> {
@@ -161,6 +277,7 @@ impl<'t> Reader<'t> {
             if self.numbers.insert(name, self.atoms as u16).is_some() {
                 line.found(4);
             }
+            self.declared.extend(made_number(name));
             self.atoms += 1;
             if self.atoms > self.limits.atoms {
                 line.found(7);
@@ -207,13 +324,225 @@ impl<'t> Reader<'t> {
         }
         let counts = self.stores.rules.len();
         self.stores.rules.extend([0; 3]);
-        line.open(b"rule")?;
         self.list(line, b"head", counts)?;
         self.list(line, b"body", counts + 1)?;
         if self.list(line, b"not", counts + 2)? > 0 && !self.plain {
             line.found(8);
         }
         line.expect(b')')
+    }
+
+    /// A condition behind `(when`: one pass over its words and brackets. Its faults count in the
+    /// sequence 2, 17, 18, 3, 4, 5, 7.
+    fn condition(&mut self, line: &mut Line<'t>) -> Option<()> {
+        let mut condition = std::mem::take(&mut self.condition);
+        condition.clear();
+        self.lists += 1;
+        let made = MADE + self.made as u32;
+        let (mut part_next, mut broken, mut depth, mut deepest) = (true, false, 0, 0);
+        let (mut long, mut unknown) = (false, false);
+        let then = loop {
+            line.skip_spaces();
+            match line.left.first()? {
+                b'(' => {
+                    if let Some(then) = line.then() {
+                        break then;
+                    }
+                    line.left = &line.left[1..];
+                    broken |= !part_next;
+                    depth += 1;
+                    deepest = depth.max(deepest);
+                    condition.waiting.push(Waiting::Open);
+                }
+                b')' => {
+                    line.left = &line.left[1..];
+                    if depth == 0 {
+                        return None;
+                    }
+                    depth -= 1;
+                    broken |= part_next;
+                    if !broken {
+                        condition.join(1, made);
+                        condition.waiting.pop();
+                    }
+                    part_next = false;
+                }
+                b'\n' | b';' => return None,
+                _ => match line.word()? {
+                    b"not" => {
+                        broken |= !part_next;
+                        condition.connective(Waiting::Not);
+                    }
+                    word @ (b"and" | b"or") => {
+                        broken |= part_next;
+                        let (binds, connective): (u8, fn(usize) -> Waiting) = match word {
+                            b"and" => (2, Waiting::And),
+                            _ => (1, Waiting::Or),
+                        };
+                        if !broken {
+                            condition.join(binds, made);
+                        }
+                        condition.connective(connective);
+                        part_next = true;
+                    }
+                    name => {
+                        broken |= !part_next;
+                        part_next = false;
+                        match self.numbers.get(name) {
+                            Some(&number) => {
+                                self.seen[usize::from(number)] = self.lists;
+                                condition.parts.push(u32::from(number));
+                            }
+                            None => {
+                                match name_fault(name, false) {
+                                    2 => return None,
+                                    3 => long = true,
+                                    _ => unknown = true,
+                                }
+                                condition.parts.push(0);
+                            }
+                        }
+                    }
+                },
+            }
+        };
+        let then = match self.numbers.get(then) {
+            Some(&number) => {
+                self.seen[usize::from(number)] = self.lists;
+                number
+            }
+            None => match name_fault(then, false) {
+                2 => return None,
+                fault => {
+                    long |= fault == 3;
+                    unknown = true;
+                    0
+                }
+            },
+        };
+        if depth > 0 {
+            return None;
+        }
+        let count = condition.joined.len();
+        let numbers = self.made + 1..=self.made + count;
+        line.fault = if broken || part_next {
+            17
+        } else if deepest > 32 {
+            18
+        } else if long {
+            3
+        } else if self.declared.iter().any(|made| numbers.contains(made)) {
+            4
+        } else if unknown {
+            5
+        } else if self.atoms + self.made + count > self.limits.atoms {
+            7
+        } else {
+            condition.join(1, made);
+            self.made += count;
+            self.condition_rules(&condition, made, then)
+        };
+        self.condition = condition;
+        Some(())
+    }
+
+    /// Writes the rules of a condition whose atoms there is room for; gives refusal 7 where there are
+    /// then too many rules or occurrences.
+    fn condition_rules(&mut self, condition: &Condition, made: u32, then: u16) -> u64 {
+        let before = self.stores.rules.len();
+        let words = &mut self.stores.rules;
+        let mut count = 0;
+        let mut rule = |head: &[u16], body: &[u16]| {
+            count += 1;
+            words.extend([head.len() as u16, body.len() as u16, 0]);
+            words.extend_from_slice(head);
+            words.extend_from_slice(body);
+        };
+        for (place, &(joined, left, right)) in condition.joined.iter().enumerate() {
+            let (atom, left, right) = ((made as usize + place) as u16, left as u16, right as u16);
+            let both = [left, right];
+            let both = &both[usize::from(left == right)..];
+            match joined {
+                Some(Waiting::And(_)) => {
+                    rule(&[atom], both);
+                    rule(&[left], &[atom]);
+                    rule(&[right], &[atom]);
+                }
+                Some(Waiting::Or(_)) => {
+                    rule(both, &[atom]);
+                    rule(&[atom], &[left]);
+                    rule(&[atom], &[right]);
+                }
+                _ => {
+                    rule(&[atom, left], &[]);
+                    rule(&[], &[atom, left]);
+                }
+            }
+        }
+        rule(&[then], &[condition.parts[0] as u16]);
+        self.rules += count;
+        self.occurrences += self.stores.rules.len() - before - 3 * count;
+        let over = self.rules > self.limits.rules || self.occurrences > self.limits.occurrences;
+        if over {
+            7
+        } else {
+            0
+        }
+    }
+
+    /// Puts the atoms that conditions made before the fixed ones, and leaves out those that no list
+    /// has: the stores anew, in one pass over the declarations and one over the rules.
+    fn place_made(&mut self) {
+        let Stores { rules, names } = &self.stores;
+        let mut placed = Stores {
+            rules: Vec::with_capacity(rules.len() + self.made),
+            names: Vec::with_capacity(names.len() + 6 * self.made),
+        };
+        placed.rules.extend_from_slice(&rules[..4]);
+        let mut numbers = [0u16; 256];
+        let mut first_made = None;
+        let mut from = 0;
+        for (atom, list) in self.seen.iter().enumerate() {
+            let class = rules[4 + atom];
+            if class == 18 && first_made.is_none() {
+                first_made = Some(self.add_made(&mut placed));
+            }
+            let name = from..from + 1 + usize::from(names[from]);
+            from = name.end;
+            if *list != 0 {
+                numbers[atom] = (placed.rules.len() - 4) as u16;
+                placed.rules.push(class);
+                placed.names.extend_from_slice(&names[name]);
+            }
+        }
+        let first_made = first_made.unwrap_or_else(|| self.add_made(&mut placed));
+        let left = placed.rules.len() - 4;
+        let mut from = 4 + self.atoms;
+        for _ in 0..self.rules {
+            let places: u16 = rules[from..from + 3].iter().sum();
+            let end = from + 3 + usize::from(places);
+            placed.rules.extend_from_slice(&rules[from..from + 3]);
+            let number = |atom: &u16| match u32::from(*atom).checked_sub(MADE) {
+                Some(made) => first_made + made as u16,
+                None => numbers[usize::from(*atom)],
+            };
+            placed.rules.extend(rules[from + 3..end].iter().map(number));
+            from = end;
+        }
+        self.stores = placed;
+        self.atoms = left;
+    }
+
+    /// Adds the made atoms; gives the first one's number.
+    fn add_made(&self, placed: &mut Stores) -> u16 {
+        let first = placed.rules.len() - 4;
+        placed.rules.resize(placed.rules.len() + self.made, 17);
+        for number in 1..=self.made {
+            let name = format!("T.{number}");
+            placed.names.push(name.len() as u8);
+            placed.names.extend_from_slice(name.as_bytes());
+        }
+        first as u16
     }
 
     /// Leaves out the atoms that no list has, which the reading of the lists marked: one pass over
@@ -295,6 +624,9 @@ pub fn read(text: &[u8]) -> Result<Stores, Refused> {
         occurrences: 0,
         seen: Vec::new(),
         lists: 0,
+        made: 0,
+        declared: Vec::new(),
+        condition: Condition::default(),
     };
     let mut classes = 0;
     // What is still to come: 3 `min` or `vary`, 2 `fix`, 1 `atoms`, 0 rules.
@@ -308,7 +640,18 @@ pub fn read(text: &[u8]) -> Result<Stores, Refused> {
             continue;
         }
         let stands = match stage {
-            0 => reader.rule(&mut line),
+            0 => {
+                let start = line.left;
+                if line.open(b"rule").is_some() {
+                    reader.rule(&mut line)
+                } else if plain {
+                    None
+                } else {
+                    line.left = start;
+                    line.open(b"when")
+                        .and_then(|()| reader.condition(&mut line))
+                }
+            }
             1 => {
                 stage = 0;
                 line.open(b"atoms")
@@ -346,7 +689,9 @@ pub fn read(text: &[u8]) -> Result<Stores, Refused> {
     if stage != 0 {
         return Err((2, line_number + 1));
     }
-    if !plain {
+    if reader.made > 0 {
+        reader.place_made();
+    } else if !plain {
         reader.leave_out_unused();
     }
     reader.stores.rules[1] = reader.atoms as u16;

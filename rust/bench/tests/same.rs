@@ -3,6 +3,7 @@
 use bench::{clauses, inputs, twin, walks};
 use compare::clause_files::{self, damage, damage_text, soup};
 use compare::clause_kit;
+use compare::conditions;
 use compare::engine::{Engine, Reference, VerdictAnswer};
 use compare::generate::{either, partly_used, plain, preference, Size};
 use compare::hand_typed;
@@ -102,6 +103,61 @@ fn the_fast_reader_of_hand_typed_files() {
         };
         texts = texts.iter().flat_map(longer).collect();
     }
+}
+
+#[test]
+fn the_fast_reader_of_conditions() {
+    let mut random = Random::new(9);
+    let names = [b"a".to_vec(), b"b".to_vec()];
+    for turn in 0..20_000 {
+        let mut text = conditions::file(&mut random);
+        for _ in 0..turn % 4 {
+            conditions::damage(&mut random, &mut text);
+        }
+        if turn % 3 == 0 {
+            text = hand_typed::loosened(&mut random, &text);
+        }
+        if turn % 9 == 0 {
+            hand_typed::damage(&mut random, &mut text);
+        }
+        hold_reading(&text);
+        let line = match turn % 2 {
+            0 => conditions::soup(&mut random, 9),
+            _ => conditions::nearly(&mut random, &names),
+        };
+        let before = *random.pick(&["(vary a b)\n(fix)\n", "(vary a T.2)\n(fix b)\n"]);
+        hold_reading(&[before.as_bytes(), &line].concat());
+    }
+    // Up to the limits and past them.
+    for turn in 0..400 {
+        let atoms = random.within(1, 256);
+        let names: Names = (0..atoms).map(|i| format!("a{i}").into_bytes()).collect();
+        let mut text = [b"(vary ", &names.join(&b' ')[..], b")\n(fix)\n"].concat();
+        let full = b"(rule (head) (body) (not))\n".repeat(turn % 2 * random.within(0, 900));
+        text.extend(full);
+        let mut left = 256 - atoms + random.below(3);
+        while left > 0 {
+            let here = random.within(1, left);
+            left -= here;
+            let condition = conditions::condition(&mut random, &names, here);
+            text.extend([b"(when ", &condition[..], b" (then a0))\n"].concat());
+        }
+        hold_reading(&text);
+    }
+}
+
+/// The inputs of the rows of conditions are what they say.
+#[test]
+fn the_file_of_conditions() {
+    let text = inputs::conditions_file();
+    let stores = hold_reading(&text).expect("an accepted text");
+    assert_eq!(stores.rules[1], 256);
+    assert!(
+        (900..=1_024).contains(&stores.rules[3]),
+        "{}",
+        stores.rules[3]
+    );
+    assert_eq!(hold_reading(&inputs::typed(&text)), Some(stores));
 }
 
 /// Rules of which many repeat or begin alike, past the words that the key has.

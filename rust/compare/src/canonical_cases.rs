@@ -16,7 +16,8 @@ use reference::stores::{name_store, rule_store};
 fn write(check: &mut Checker, random: &mut Random, rules: &[u16], names: &[u8]) -> Checked {
     let mut most = vec![0; TEXT_LIMIT];
     let Ok(length) = lent::write_canonical(rules, names, &mut most) else {
-        return check.write_canonical(rules, names, random.below(300));
+        let most = *random.pick(&[1, 300, 300, 300]);
+        return check.write_canonical(rules, names, random.below(most));
     };
     for out_len in lengths(random, length) {
         check.write_canonical(rules, names, out_len)?;

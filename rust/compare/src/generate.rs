@@ -1,7 +1,8 @@
 //! Random preference files and plain programs, all of them accepted.
 
 use crate::random::Random;
-use reference::limits::Kind;
+use reference::limits::{Kind, MADE_LIMIT};
+use reference::names::made_name;
 use reference::program::{Names, Program, Role, Rule};
 
 /// How large a random program may be.
@@ -59,12 +60,32 @@ fn name(random: &mut Random, kind: Kind) -> Vec<u8> {
     }
 }
 
+/// The same, or one that has to do with conditions: a word of theirs, or a name of a made atom.
+fn any_name(random: &mut Random, kind: Kind) -> Vec<u8> {
+    const WORDS: [&str; 4] = ["when", "then", "and", "or"];
+    match random.below(24) {
+        0 => random.pick(&WORDS).as_bytes().to_vec(),
+        1 | 2 => {
+            let before = match kind {
+                Kind::Plain => *random.pick(&["", "", "N.", "S.", "D."]),
+                Kind::Preference => "",
+            };
+            let made = made_name(random.within(1, MADE_LIMIT));
+            [before.as_bytes(), &made].concat()
+        }
+        _ => name(random, kind),
+    }
+}
+
 /// A name at the edges of what is allowed, or just past them: its length, its first byte, what
 /// stands before it.
 pub fn edge_name(random: &mut Random) -> Vec<u8> {
     const FIRST: &[u8] = b"az09_/:`{-";
     const REST: &[u8] = b"abcxyz0189_";
     const BEFORE: [&str; 9] = ["", "", "", "N.", "S.", "D.", "E.", "U.", "N"];
+    if random.once_in(4) {
+        return edge_of_made_names(random);
+    }
     let length = match random.below(3) {
         0 => random.within(1, 3),
         _ => random.within(23, 26),
@@ -80,8 +101,31 @@ pub fn edge_name(random: &mut Random) -> Vec<u8> {
     name
 }
 
-/// This many different names allowed to the kind.
-pub fn names(random: &mut Random, kind: Kind, count: usize) -> Names {
+/// The same of names `T.1` to `T.256`.
+fn edge_of_made_names(random: &mut Random) -> Vec<u8> {
+    const BEFORE: [&str; 10] = [
+        "T.", "T.", "T.", "N.T.", "S.T.", "D.T.", "E.T.", "T.T.", "T", "U",
+    ];
+    const NUMBERS: [&str; 20] = [
+        "0", "1", "9", "10", "99", "100", "199", "249", "250", "255", "256", "257", "260", "300",
+        "999", "1000", "01", "001", "0256", "",
+    ];
+    let mut name = random.pick(&BEFORE).as_bytes().to_vec();
+    match random.below(4) {
+        0 => name.extend(random.within(0, 300).to_string().into_bytes()),
+        1 => {
+            for _ in 0..random.within(1, 4) {
+                name.push(*random.pick(b"0125679a_./:"));
+            }
+        }
+        _ => name.extend_from_slice(random.pick(&NUMBERS).as_bytes()),
+    }
+    name
+}
+
+type Drawn = fn(&mut Random, Kind) -> Vec<u8>;
+
+fn different(random: &mut Random, kind: Kind, count: usize, name: Drawn) -> Names {
     let mut seen = std::collections::HashSet::new();
     let mut names = Names::new();
     while names.len() < count {
@@ -91,6 +135,16 @@ pub fn names(random: &mut Random, kind: Kind, count: usize) -> Names {
         }
     }
     names
+}
+
+/// This many different names allowed to the kind.
+pub fn names(random: &mut Random, kind: Kind, count: usize) -> Names {
+    different(random, kind, count, any_name)
+}
+
+/// The same without those of conditions.
+pub fn names_without_made(random: &mut Random, kind: Kind, count: usize) -> Names {
+    different(random, kind, count, name)
 }
 
 fn list(random: &mut Random, atoms: usize, least: usize, most: usize) -> Vec<usize> {

@@ -142,7 +142,7 @@ fn place_of(random: &mut Random, text: &[u8], wanted: &[u8]) -> Option<usize> {
 /// Damages the text in one way in which typing goes wrong. At times it stays right.
 pub fn damage(random: &mut Random, text: &mut Vec<u8>) {
     const ODD: &[u8] = b"\t\r;;;() \n\x0b\x0c\0\x7f\xa0\xffax";
-    const LINES: [&str; 16] = [
+    const LINES: [&str; 18] = [
         "()\n",
         "( )\n",
         "(\n",
@@ -159,6 +159,8 @@ pub fn damage(random: &mut Random, text: &mut Vec<u8>) {
         "(rule(head)(body)(not))(rule(head)(body)(not))\n",
         "(min(a))\n",
         "(minx)\n",
+        "(when)\n",
+        "( when a(then a) )\n",
     ];
     const ENDS: [&str; 9] = [
         ";", "; end", " ", "   ", " ; end", "\t", "(", "(fix)", "\n ",

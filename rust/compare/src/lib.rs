@@ -9,6 +9,8 @@ pub mod checker;
 pub mod clause_cases;
 pub mod clause_files;
 pub mod clause_kit;
+pub mod condition_cases;
+pub mod conditions;
 pub mod engine;
 pub mod generate;
 pub mod hand_typed;

@@ -1,6 +1,7 @@
 //! The two programs as they run, compared with what document 01 says that they print.
 
 use crate::checker::Difference;
+use crate::conditions;
 use crate::generate::{either, preference, Size};
 use crate::hand_typed::{damage, loosened};
 use crate::random::Random;
@@ -77,6 +78,7 @@ fn inputs(random: &mut Random) -> Vec<u8> {
             let names = crate::generate::names(random, file.kind, file.atoms);
             writer::write(&file, &names)
         }
+        2 | 3 => conditions::file(random),
         _ => {
             let (program, names) = either(random, Size::SMALL);
             writer::write(&program, &names)
@@ -87,7 +89,10 @@ fn inputs(random: &mut Random) -> Vec<u8> {
     }
     match random.below(9) {
         0..=3 => {}
-        4 => damage(random, &mut text),
+        4 => match random.once_in(2) {
+            true => damage(random, &mut text),
+            false => conditions::damage(random, &mut text),
+        },
         5 => {
             let length = random.within(65_534, 65_538);
             text.resize(length, *random.pick(b"a\n ;"));

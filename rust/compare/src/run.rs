@@ -4,6 +4,7 @@ use crate::canonical_cases;
 use crate::cases;
 use crate::checker::{Checked, Checker, Difference, Outcome};
 use crate::clause_cases;
+use crate::condition_cases;
 use crate::engine::Engine;
 use crate::hand_typed_cases;
 use crate::random::Random;
@@ -13,7 +14,7 @@ use std::time::{Duration, Instant};
 type Family = fn(&mut Checker, &mut Random) -> Checked;
 
 /// The families with how often each has its turn in a round.
-const FAMILIES: [(&str, Family, usize); 22] = [
+const FAMILIES: [(&str, Family, usize); 25] = [
     ("valid files", cases::valid, 60),
     ("damaged texts", cases::damaged_text, 40),
     ("no files", cases::soup, 20),
@@ -43,6 +44,17 @@ const FAMILIES: [(&str, Family, usize); 22] = [
         "many canonical rules",
         canonical_cases::many_canonical_rules,
         1,
+    ),
+    (
+        "files with conditions",
+        condition_cases::condition_files,
+        40,
+    ),
+    ("lines of conditions", condition_cases::condition_lines, 40),
+    (
+        "large files with conditions",
+        condition_cases::large_condition_files,
+        2,
     ),
 ];
 
@@ -99,16 +111,20 @@ pub fn run_families(
     clause_cases::limits(&mut check)?;
     hand_typed_cases::limits(&mut check)?;
     canonical_cases::limits(&mut check)?;
+    condition_cases::limits(&mut check)?;
     let limits = check.comparisons - before;
     clause_cases::short_texts(&mut check)?;
     let clauses = check.comparisons - before - limits;
     hand_typed_cases::short_texts(&mut check)?;
     hand_typed_cases::block_edges(&mut check)?;
     let typed = check.comparisons - before - limits - clauses;
+    condition_cases::short_lines(&mut check)?;
+    let conditions = check.comparisons - before - limits - clauses - typed;
     let mut families = vec![
         ("limits", limits),
         ("short clause files", clauses),
         ("short typed files", typed),
+        ("short conditions", conditions),
     ];
     families.extend(
         FAMILIES
@@ -134,7 +150,7 @@ pub fn wanted_outcomes() -> Vec<(&'static str, Outcome)> {
                 .map(|&number| (function, Outcome::Refused(number))),
         );
     };
-    refusals("read", &[1, 2, 3, 4, 5, 6, 7, 8, 9]);
+    refusals("read", &[1, 2, 3, 4, 5, 6, 7, 8, 9, 17, 18]);
     refusals("read_clauses", &[1, 7, 9, 15, 16]);
     refusals("write", &[10, 14, 9]);
     refusals("write_canonical", &[10, 14, 9]);

@@ -30,7 +30,7 @@ fn random_place(random: &mut Random, text: &[u8], value: u8) -> Option<usize> {
 }
 
 fn odd_name(random: &mut Random) -> Vec<u8> {
-    const ODD: [&str; 36] = [
+    const ODD: [&str; 42] = [
         "A",
         "1a",
         "7",
@@ -64,6 +64,12 @@ fn odd_name(random: &mut Random) -> Vec<u8> {
         "N.N.a",
         "N.U",
         "T.1",
+        "T.0",
+        "T.01",
+        "T.256",
+        "T.257",
+        "N.T.1",
+        "N.T.257",
         "n.a",
         "zz_undeclared",
         "a\u{e9}",
@@ -117,7 +123,7 @@ fn text_in_way(random: &mut Random, text: &mut Vec<u8>, way: usize) {
     const WORDS: [&str; 11] = [
         "min", "vary", "fix", "atoms", "rule", "head", "body", "not", "mi", "atomsx", "",
     ];
-    const LINES: [&str; 14] = [
+    const LINES: [&str; 17] = [
         "(min)\n",
         "(min zz)\n",
         "(vary)\n",
@@ -132,6 +138,9 @@ fn text_in_way(random: &mut Random, text: &mut Vec<u8>, way: usize) {
         "()\n",
         "(rule (head) (body) (not)) (rule (head) (body) (not))\n",
         "(vary) (fix)\n",
+        "(when a (then a))\n",
+        "(when not a or b (then a))\n",
+        "(when (then a))\n",
     ];
     let length = text.len();
     match way {

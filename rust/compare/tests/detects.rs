@@ -2,6 +2,7 @@
 
 mod wrong_canonical;
 mod wrong_clauses;
+mod wrong_conditions;
 mod wrong_readings;
 mod wrong_typing;
 mod wrong_walks;
@@ -17,6 +18,7 @@ use reference::{translator, writer};
 use std::time::Duration;
 use wrong_canonical::{CanonicalSlip, CANONICAL_SLIPS};
 use wrong_clauses::{ClauseSlip, CLAUSE_SLIPS};
+use wrong_conditions::{ConditionSlip, CONDITION_SLIPS};
 use wrong_readings::{ReadSlip, READ_SLIPS};
 use wrong_typing::{TypingSlip, TYPING_SLIPS};
 use wrong_walks::{WalkSlip, WALK_SLIPS};
@@ -59,14 +61,17 @@ enum Slip {
     TranslatesWhatRemains,
     JudgesWhatRemains,
     ListsWhatRemains,
+    NoMadeNamesInStores,
+    AnyMadeNamesInStores,
     Read(ReadSlip),
     Clauses(ClauseSlip),
     Typing(TypingSlip),
     Canonical(CanonicalSlip),
+    Conditions(ConditionSlip),
     Walk(WalkSlip),
 }
 
-const SLIPS: [Slip; 35] = [
+const SLIPS: [Slip; 37] = [
     Slip::RefusesEverything,
     Slip::WritesOnRefusal,
     Slip::WritesPastTheEnd,
@@ -102,6 +107,8 @@ const SLIPS: [Slip; 35] = [
     Slip::TranslatesWhatRemains,
     Slip::JudgesWhatRemains,
     Slip::ListsWhatRemains,
+    Slip::NoMadeNamesInStores,
+    Slip::AnyMadeNamesInStores,
 ];
 
 /// The store with other `not` lists, by which the reduct then keeps other rules; as it is where
@@ -124,6 +131,25 @@ fn what_remains(rules: &[u16], names: &[u8]) -> Option<(Vec<u16>, Vec<u8>)> {
     let names = check_names(&file, names).ok()?;
     let (left, left_names) = without_unused(&file, &names);
     Some((rule_store(&left), name_store(&left_names)))
+}
+
+/// The name store with other names where one begins with `T.`; as it is where it is none.
+fn with_made_names(names: &[u8], other: impl Fn(&[u8]) -> Vec<u8>) -> Vec<u8> {
+    let mut read = Vec::new();
+    let mut left = names;
+    while let Some((length, rest)) = left.split_first() {
+        let Some((name, behind)) = rest.split_at_checked(usize::from(*length)) else {
+            return names.to_vec();
+        };
+        let name = match name.starts_with(b"T.") {
+            true => other(name),
+            false => name.to_vec(),
+        };
+        read.push(name.len() as u8);
+        read.extend(name);
+        left = behind;
+    }
+    read
 }
 
 /// The text that a slip in step 1 or 2 delivers for a preference file's stores.
@@ -291,6 +317,7 @@ impl Engine for Wrong {
         match self.0 {
             Slip::Read(slip) => return wrong_readings::read(slip, text, rules, names),
             Slip::Typing(slip) => return wrong_typing::read(slip, text, rules, names),
+            Slip::Conditions(slip) => return wrong_conditions::read(slip, text, rules, names),
             _ => {}
         }
         let mut answer = Reference.read(text, rules, names);
@@ -317,7 +344,18 @@ impl Engine for Wrong {
                 return Reference.write(&rules, &names, out);
             }
         }
-        let answer = Reference.write(rules, names, out);
+        let names = match self.0 {
+            Slip::NoMadeNamesInStores => with_made_names(names, |_| b"T.0".to_vec()),
+            Slip::AnyMadeNamesInStores => with_made_names(names, |name| {
+                let digits = name[2..].iter().all(u8::is_ascii_digit);
+                match name.len() > 2 && digits {
+                    true => b"T.77".to_vec(),
+                    false => name.to_vec(),
+                }
+            }),
+            _ => names.to_vec(),
+        };
+        let answer = Reference.write(rules, &names, out);
         self.text(answer, out)
     }
 
@@ -515,17 +553,28 @@ fn each_slip_of_canonical_texts_is_noticed() {
     }
 }
 
+#[test]
+fn each_slip_of_conditions_is_noticed() {
+    for slip in CONDITION_SLIPS.map(Slip::Conditions) {
+        let families = |family: &str| family.contains("conditions") || family.contains("names");
+        let noticed = run_families(&Wrong(slip), 7, UNTIL, families);
+        assert!(noticed.is_err(), "{slip:?} was not noticed");
+    }
+}
+
 /// What is noticed of a wrong walk, reading or writing is its slip.
 #[test]
 fn without_a_slip_they_are_right() {
     for nothing in [
+        Slip::Conditions(ConditionSlip::Nothing),
         Slip::Walk(WalkSlip::Nothing),
         Slip::Read(ReadSlip::Nothing),
         Slip::Clauses(ClauseSlip::Nothing),
         Slip::Typing(TypingSlip::Nothing),
         Slip::Canonical(CanonicalSlip::Nothing),
     ] {
-        let report = run(&Wrong(nothing), 7, UNTIL);
-        assert!(report.is_ok(), "{nothing:?}");
+        if let Err(difference) = run(&Wrong(nothing), 7, UNTIL) {
+            panic!("{nothing:?}: {}", difference.text);
+        }
     }
 }

@@ -1,10 +1,12 @@
 //! What documents 01 and 02 say of every file, held against the second implementation itself: the
 //! text comes back from the stores, the stores from the text, both without the atoms that no rule of
-//! a preference file has; these atoms change no state; of hand-typed texts only strict ones come back;
+//! a preference file has; these atoms change no state; of hand-typed texts only strict ones without a
+//! condition come back, and a condition's rules are read as they are written;
 //! canonical texts are equal where the files say the same; the three sums count the delivered text, its
 //! stable sets pair with the file's states, and a class cut in two brings in no state.
 
 use compare::canonical_cases::rearranged;
+use compare::conditions;
 use compare::generate::{either, mixed, partly_used, preference, Size};
 use compare::hand_typed::{damage, loosened};
 use compare::random::Random;
@@ -53,8 +55,44 @@ fn texts_and_stores() {
     }
 }
 
-/// A typed text says what its strict form says. It comes back exactly where it is strict and, in a
-/// preference file, every declared atom stands in a rule.
+/// A typed text says what its strict form says. It comes back exactly where it is strict, no line is a
+/// condition and, in a preference file, every declared atom stands in a rule.
+fn hold_typed(text: &[u8]) -> Option<bool> {
+    let (read, names) = reader::read(text).ok()?;
+    assert_eq!(
+        reader::read(&strict(text)).as_ref(),
+        Ok(&(read.clone(), names.clone()))
+    );
+    let (typed, _) = reader::read_lines(text).expect("an accepted text");
+    let direct = reader::read_directly(text).expect("an accepted text");
+    let all_stay = read.atoms == typed.atoms && direct.conditions.is_empty();
+    let written = writer::write(&read, &names);
+    assert_eq!(written == text, strict(text) == text && all_stay);
+    // Whatever it was, what is written is read as it, and canonically too.
+    assert_eq!(reader::read(&written), Ok((read.clone(), names.clone())));
+    let sorted = canonical(&read);
+    let canonical_text = writer::write(&sorted, &names);
+    assert_eq!(reader::read(&canonical_text), Ok((sorted, names)));
+    Some(written == text)
+}
+
+#[test]
+fn texts_with_conditions() {
+    let mut random = Random::new(19);
+    let mut accepted = 0;
+    for turn in 0..6_000 {
+        let mut text = conditions::file(&mut random);
+        if turn % 3 == 1 {
+            conditions::damage(&mut random, &mut text);
+        }
+        if turn % 2 == 1 {
+            text = loosened(&mut random, &text);
+        }
+        accepted += usize::from(hold_typed(&text).is_some());
+    }
+    assert!(accepted > 3_000, "{accepted} texts are accepted");
+}
+
 #[test]
 fn hand_typed_texts() {
     let mut random = Random::new(18);
@@ -72,18 +110,7 @@ fn hand_typed_texts() {
         if turn % 4 > 1 {
             damage(&mut random, &mut text);
         }
-        let Ok((read, read_names)) = reader::read(&text) else {
-            continue;
-        };
-        assert_eq!(
-            reader::read(&strict(&text)).as_ref(),
-            Ok(&(read.clone(), read_names.clone()))
-        );
-        let (typed, _) = reader::read_lines(&text).expect("an accepted text");
-        let all_stay = read.atoms == typed.atoms;
-        let comes_back = writer::write(&read, &read_names) == text;
-        assert_eq!(comes_back, strict(&text) == text && all_stay);
-        back += usize::from(comes_back);
+        back += usize::from(hold_typed(&text) == Some(true));
     }
     assert!(back > 500, "{back} texts come back");
 }

@@ -71,13 +71,14 @@ mod tests {
 
     #[test]
     fn every_form_of_rule_and_name() {
-        let text = b"(atoms a lamp_2 N.a S.a D.a E.16 U)\n\
+        let text = b"(atoms a lamp_2 N.a S.a D.a E.16 U T.1 N.T.256)\n\
             (rule (head) (body) (not))\n\
             (rule (head a) (body) (not))\n\
             (rule (head S.a U) (body D.a lamp_2) (not N.a E.16))\n\
             (rule (head) (body a) (not))\n\
             (rule (head) (body) (not U a))\n\
-            (rule (head U) (body E.16) (not))\n";
+            (rule (head U) (body E.16) (not))\n\
+            (rule (head T.1) (body) (not N.T.256))\n";
         let plain = Program::read(text).unwrap();
         let expected = "\
             :- 0=0.\n\
@@ -85,7 +86,8 @@ mod tests {
             s(\"a\") | u :- d(\"a\"), holds(\"lamp_2\"), not n(\"a\"), not e(16).\n\
             :- holds(\"a\").\n\
             :- not u, not holds(\"a\").\n\
-            u :- e(16).\n";
+            u :- e(16).\n\
+            holds(\"T.1\") :- not n(\"T.256\").\n";
         assert_eq!(
             super::text(&plain),
             format!("{FIRST_LINE}{expected}{LAST_LINE}")

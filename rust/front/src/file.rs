@@ -1,5 +1,6 @@
 //! The file that a command is about.
 
+use crate::conditions::{self, is_condition};
 use crate::ending::Fault;
 use rigtomato::TEXT_LIMIT;
 use std::ffi::OsStr;
@@ -13,7 +14,7 @@ pub struct File {
 }
 
 /// What a line says: without its byte 10, its comment, and the spaces before and behind.
-fn form(line: &[u8]) -> &[u8] {
+pub fn form(line: &[u8]) -> &[u8] {
     let line = line.strip_suffix(b"\n").unwrap_or(line);
     let comment = line.iter().position(|byte| *byte == b';');
     let line = &line[..comment.unwrap_or(line.len())];
@@ -29,9 +30,24 @@ pub fn words(line: &[u8]) -> impl Iterator<Item = &[u8]> {
     parts.filter(|part| !part.is_empty())
 }
 
-/// Is it a rule's line, in an accepted text?
-fn is_rule(line: &[u8]) -> bool {
-    words(line).next() == Some(b"rule")
+/// How many rules the line gives, in an accepted text.
+fn rules_of(line: &[u8]) -> usize {
+    match words(line).next() {
+        Some(b"rule") => 1,
+        Some(b"when") => conditions::rules(line),
+        _ => 0,
+    }
+}
+
+/// A line that gives rules, as it is typed.
+#[derive(Debug, PartialEq, Eq)]
+pub struct Typed {
+    /// From 1.
+    pub line: u64,
+    /// The form without what stands around it.
+    pub text: String,
+    /// Is it a condition, so that its rules are made of it?
+    pub is_condition: bool,
 }
 
 /// Past the limit one byte is as good as all of them: the text is refused.
@@ -81,19 +97,32 @@ impl File {
 
     /// The names on the declaring lines of an accepted text, in declared order.
     pub fn declared(&self) -> impl Iterator<Item = &str> {
-        let declaring = self.lines().take_while(|line| !is_rule(line));
+        let declaring = self.lines().take_while(|line| rules_of(line) == 0);
         let names = declaring.flat_map(|line| words(line).skip(1));
         names.map(|name| std::str::from_utf8(name).expect("names are letters, digits, `_` and `.`"))
     }
 
-    /// The rule with this number from 0, in an accepted text: its line, and the rule as it is typed
-    /// there, without what stands around it.
-    pub fn rule(&self, rule: u64) -> (u64, String) {
-        let mut rules = (1..).zip(self.lines()).filter(|(_, line)| is_rule(line));
-        let (number, line) = rules
-            .nth(rule as usize)
-            .expect("the engine names a rule of the file");
-        (number, String::from_utf8_lossy(form(line)).into())
+    /// The line that gives the rule with this number from 0, in an accepted text.
+    pub fn rule(&self, rule: u64) -> Typed {
+        let mut left = rule as usize;
+        for (number, line) in (1..).zip(self.lines()) {
+            let given = rules_of(line);
+            if left < given {
+                return Typed {
+                    line: number,
+                    text: String::from_utf8_lossy(form(line)).into(),
+                    is_condition: is_condition(line),
+                };
+            }
+            left -= given;
+        }
+        unreachable!("the engine names a rule of the file")
+    }
+
+    /// How many lines are conditions or meant to be, and their connectives together.
+    pub fn conditions(&self) -> (usize, usize) {
+        let lines = || self.lines().filter(|line| is_condition(line));
+        (lines().count(), lines().map(conditions::connectives).sum())
     }
 }
 
@@ -105,6 +134,14 @@ mod tests {
         File {
             name: "x".to_string(),
             text: text.into(),
+        }
+    }
+
+    fn rule(line: u64, text: &str) -> Typed {
+        Typed {
+            line,
+            text: text.to_string(),
+            is_condition: false,
         }
     }
 
@@ -124,6 +161,7 @@ mod tests {
             ),
             ("\n ( atoms  a )\n\n", &["a"]),
             ("(vary rule a)\n(fix head)\n", &["rule", "a", "head"]),
+            ("(vary a)\n(fix T.9)\n(when a (then a))\n", &["a", "T.9"]),
         ] {
             let text = format!("{text}{rule}");
             assert!(file(&text).declared().eq(names.iter().copied()), "{text}");
@@ -149,14 +187,8 @@ mod tests {
         assert_eq!(file.line(2), Some(b"(fix)\n".as_slice()));
         assert_eq!(file.line(5), None);
         assert_eq!(file.line(u64::MAX), None);
-        assert_eq!(
-            file.rule(0),
-            (3, "(rule (head a) (body) (not))".to_string())
-        );
-        assert_eq!(
-            file.rule(1),
-            (4, "(rule (head) (body a) (not))".to_string())
-        );
+        assert_eq!(file.rule(0), rule(3, "(rule (head a) (body) (not))"));
+        assert_eq!(file.rule(1), rule(4, "(rule (head) (body a) (not))"));
     }
 
     /// Comments and blank lines count as lines; what is shown of a rule is the rule alone.
@@ -165,14 +197,30 @@ mod tests {
         let text = "; (rule (head x) (body) (not))\n\n(vary rule)\n(fix) ; none\n   \n\
             ( rule (head rule)(body) (not ) );(rule\n  (rule (head) (body   rule) (not))  \n";
         let file = file(text);
-        assert_eq!(
-            file.rule(0),
-            (6, "( rule (head rule)(body) (not ) )".to_string())
-        );
-        assert_eq!(
-            file.rule(1),
-            (7, "(rule (head) (body   rule) (not))".to_string())
-        );
+        assert_eq!(file.rule(0), rule(6, "( rule (head rule)(body) (not ) )"));
+        assert_eq!(file.rule(1), rule(7, "(rule (head) (body   rule) (not))"));
+        assert_eq!(file.conditions(), (0, 0));
+    }
+
+    /// A condition gives as many rules as its connectives and its `then` make.
+    #[test]
+    fn rules_of_conditions() {
+        let text = "(vary when a)\n(fix b)\n(when a (then b))\n(rule (head a) (body) (not))\n\n\
+            ; (when x (then y))\n  (when not(when)and b (then a)) ; x\n(rule (head) (body) (not))\n";
+        let file = file(text);
+        let condition = |line: u64, text: &str| Typed {
+            is_condition: true,
+            ..rule(line, text)
+        };
+        assert_eq!(file.rule(0), condition(3, "(when a (then b))"));
+        assert_eq!(file.rule(1), rule(4, "(rule (head a) (body) (not))"));
+        for number in 2..8 {
+            let typed = "(when not(when)and b (then a))";
+            assert_eq!(file.rule(number), condition(7, typed));
+        }
+        assert_eq!(file.rule(8), rule(8, "(rule (head) (body) (not))"));
+        assert_eq!(file.conditions(), (2, 2));
+        assert!(file.declared().eq(["when", "a", "b"]));
     }
 
     #[test]

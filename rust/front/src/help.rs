@@ -15,9 +15,12 @@ end, and lines may be blank:
     (rule (head sensor lamp) (body) (not))  ; the sensor or the lamp is at fault
     (rule (head dark) (body lamp) (not))    ; a lamp at fault means dark
 
-A rule says: if all of the body, then some of the head. A name is 1 to 24 bytes,
-letters a to z, digits or _, the first no _. A declared atom that stands in no
-rule is left out; 'check' names it. For this file 'states' prints
+A rule says: if all of the body, then some of the head. In a rule's place may
+stand a condition, as (when dark and not lamp (then sensor)); not binds before
+and, and before or. It gives rules, with an atom T.1, T.2, .. for each not, and,
+or. A name is 1 to 24 bytes, letters a to z, digits or _, the first no _. A
+declared atom that stands in no rule is left out; 'check' names it. For this file
+'states' prints
 
     (state lamp dark)
     (total 1)

@@ -4,6 +4,7 @@ mod alive;
 mod arguments;
 mod asp;
 mod commands;
+mod conditions;
 mod ending;
 mod explain;
 mod file;

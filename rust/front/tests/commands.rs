@@ -23,6 +23,10 @@ fn states_of_the_examples() {
             "whole_catalogue",
             "(state 1999_12_lamp 1999_12)\n(total 1)\n",
         ),
+        (
+            "conditions",
+            "(state bad_lamp visit T.6 T.7 T.8 T.9 touch night)\n(total 1)\n",
+        ),
     ] {
         let path = example(&format!("{name}.pref"));
         assert_eq!(run(front().args(["states", &path]), ""), ran(0, states, ""));

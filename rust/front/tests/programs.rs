@@ -4,11 +4,11 @@
 mod common;
 
 use common::{example, front, proved, run_bytes, tautology, varying};
-use compare::fresh_seed;
 use compare::generate::{either, names, partly_used, preference, Size};
 use compare::hand_typed::{damage, loosened};
 use compare::random::Random;
 use compare::spoil;
+use compare::{conditions, fresh_seed};
 use reference::limits::{Kind, BUDGET_LIMIT, PROGRAM_LIMIT, VERDICT_ATOM_LIMIT};
 use reference::program::{Names, Program};
 use reference::refusal::{Reason, Refusal};
@@ -95,6 +95,7 @@ fn examples() {
         "touch",
         "catalogue",
         "whole_catalogue",
+        "conditions",
     ] {
         let path = example(&format!("{name}.pref"));
         let text = std::fs::read(&path).unwrap();
@@ -136,6 +137,15 @@ fn each_refusal() {
         (
             8,
             "(vary)\n(fix a)\n(rule (head) (body) (not a))\n".to_string(),
+        ),
+        (17, "(vary a)\n(fix)\n(when a and (then a))\n".to_string()),
+        (
+            18,
+            format!(
+                "(vary a)\n(fix)\n(when {}a{} (then a))\n",
+                many("(", 33),
+                many(")", 33)
+            ),
         ),
         (10, "(atoms a)\n".to_string()),
         (10, "; plain\n\n ( atoms a )\n".to_string()),
@@ -181,7 +191,8 @@ fn random_text(random: &mut Random) -> Vec<u8> {
         rules: 600,
         list: 6,
     };
-    match random.below(16) {
+    match random.below(20) {
+        16.. => conditions::file(random),
         0 => {
             let (program, _) = preference(random, LONG);
             let names = names(random, program.kind, program.atoms);
@@ -218,7 +229,10 @@ fn random_files() {
             text = loosened(&mut random, &text);
         }
         if round % 4 == 3 {
-            damage(&mut random, &mut text);
+            match random.once_in(2) {
+                true => damage(&mut random, &mut text),
+                false => conditions::damage(&mut random, &mut text),
+            }
         }
         compare_both(&text);
     }

@@ -8,6 +8,8 @@
 pub mod canonical;
 pub mod choices;
 pub mod clauses;
+pub mod conditions;
+pub mod direct;
 pub mod lent;
 pub mod limits;
 pub mod names;

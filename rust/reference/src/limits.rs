@@ -44,6 +44,8 @@ pub const TEXT_LIMIT: usize = 917_504;
 pub const PROGRAM_LIMIT: usize = 65_536;
 /// The most bytes of a house name.
 pub const HOUSE_NAME_LIMIT: usize = 24;
+/// The largest number of a name `T.`number.
+pub const MADE_LIMIT: usize = 256;
 /// The most atoms with which a verdict or the lister answers.
 pub const VERDICT_ATOM_LIMIT: usize = 60;
 /// The largest budget.

@@ -1,15 +1,16 @@
 //! Which names are allowed to which kind of file.
 
-use crate::limits::{Kind, HOUSE_NAME_LIMIT};
+use crate::limits::{Kind, HOUSE_NAME_LIMIT, MADE_LIMIT};
 use crate::refusal::Reason;
 
 /// What the bytes of an item are, as a name.
 #[derive(Clone, Copy, Debug, PartialEq, Eq)]
 enum Shape {
+    /// Or `T.` before 1 to 256.
     House,
     /// A house name but for its length, alone or after `N.`, `S.` or `D.`.
     TooLong,
-    /// `N.`, `S.` or `D.` before a house name, `E.` before 0 to 16, or `U`.
+    /// `N.`, `S.` or `D.` before one of these, `E.` before 0 to 16, or `U`.
     Generated,
     Other,
 }
@@ -27,8 +28,21 @@ fn house_bytes(name: &[u8]) -> bool {
     }
 }
 
+/// The name of the atom that the connective of this number gets, from 1.
+pub fn made_name(number: usize) -> Vec<u8> {
+    format!("T.{number}").into_bytes()
+}
+
+/// The number of a name `T.1` to `T.256`.
+pub fn made_number(name: &[u8]) -> Option<usize> {
+    let digits = name.strip_prefix(b"T.")?;
+    (1..=MADE_LIMIT).find(|number| number.to_string().as_bytes() == digits)
+}
+
 fn house_shape(name: &[u8]) -> Shape {
-    if !house_bytes(name) {
+    if made_number(name).is_some() {
+        Shape::House
+    } else if !house_bytes(name) {
         Shape::Other
     } else if name.len() > HOUSE_NAME_LIMIT {
         Shape::TooLong

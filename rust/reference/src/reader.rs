@@ -1,15 +1,31 @@
 //! From a text of either kind to its program and names, or to a refusal with its line.
 //!
-//! Lines are taken one after another. On a line every fault is looked for, and the lowest
-//! number counts; the first line with a fault ends the reading. Then a preference file's atoms that
-//! stand in no rule are left out.
+//! Lines are taken one after another. On a line every fault is looked for, and the first of the
+//! sequence counts; the first line with a fault ends the reading. Then a preference file's atoms that
+//! stand in no rule are left out. A condition's rules stand among the rules in its place.
 
+use crate::conditions::{self, Condition, DEPTH_LIMIT};
+use crate::direct::{Direct, Then};
 use crate::limits::{Kind, TEXT_LIMIT};
-use crate::names::name_fault;
+use crate::names::{made_name, made_number, name_fault};
 use crate::pieces::{pieces, Piece};
 use crate::program::{Names, Program, Role, Rule};
 use crate::refusal::{Reason, Refusal};
-use crate::used_atoms::without_unused;
+use crate::used_atoms::{restricted, without_unused};
+
+/// The faults of a line in the sequence in which they count: by number, but that a condition's own
+/// come directly after 2.
+const SEQUENCE: [Reason; 9] = [
+    Reason::Form,
+    Reason::BrokenCondition,
+    Reason::DeepBrackets,
+    Reason::Name,
+    Reason::DeclaredTwice,
+    Reason::NotDeclared,
+    Reason::TwiceInList,
+    Reason::Limit,
+    Reason::FilledNot,
+];
 
 type Items<'a> = Vec<&'a [u8]>;
 
@@ -82,8 +98,15 @@ enum Expected {
 }
 
 struct Reader {
+    /// The declared atoms, and the rules so far. In these the atoms that conditions make are numbered
+    /// from the declared ones on.
     program: Program,
     names: Names,
+    /// How many connectives conditions had so far.
+    made: usize,
+    /// The rules that are typed, and the conditions as they are.
+    typed: Vec<Rule>,
+    conditions: Vec<Then>,
     expected: Expected,
 }
 
@@ -105,6 +128,12 @@ impl Reader {
         let pieces = pieces(line);
         if pieces.is_empty() {
             return Vec::new();
+        }
+        if pieces.starts_with(&[Piece::Open, Piece::Word(b"when")]) {
+            return match conditions::line(&pieces) {
+                None => vec![Reason::Form],
+                Some(line) => self.take_condition(&line),
+            };
         }
         match (Form { left: &pieces }).line() {
             None => vec![Reason::Form],
@@ -161,12 +190,6 @@ impl Reader {
                 faults.push(Reason::TwiceInList);
             }
         }
-        let places: usize = lists.iter().map(Vec::len).sum();
-        if self.program.rules.len() + 1 > kind.rule_limit()
-            || self.program.occurrences() + places > kind.occurrence_limit()
-        {
-            faults.push(Reason::Limit);
-        }
         if kind == Kind::Preference && !lists[2].is_empty() {
             faults.push(Reason::FilledNot);
         }
@@ -178,8 +201,94 @@ impl Reader {
             body: numbers(&lists[1]),
             not: numbers(&lists[2]),
         };
+        self.typed.push(rule.clone());
         self.program.rules.push(rule);
+        // An undeclared atom is not in the rule, but its fault counts before this one.
+        if self.past_a_limit() {
+            faults.push(Reason::Limit);
+        }
         faults
+    }
+
+    /// Are there too many atoms, rules or occurrences with those of the last line? Declared atoms
+    /// count, used or not, and those that conditions made.
+    fn past_a_limit(&self) -> bool {
+        let kind = self.program.kind;
+        self.program.atoms + self.made > kind.atom_limit()
+            || self.program.rules.len() > kind.rule_limit()
+            || self.program.occurrences() > kind.occurrence_limit()
+    }
+
+    fn take_condition(&mut self, line: &conditions::Line) -> Vec<Reason> {
+        let mut faults = Vec::new();
+        let may_stand = self.program.kind == Kind::Preference && self.expected == Expected::Rule;
+        if !may_stand {
+            faults.push(Reason::Form);
+        }
+        let names = line.names();
+        self.name_faults(&names, &mut faults);
+        let condition = conditions::condition(line.between);
+        if condition.is_none() {
+            faults.push(Reason::BrokenCondition);
+        }
+        if conditions::depth(line.between) > Some(DEPTH_LIMIT) {
+            faults.push(Reason::DeepBrackets);
+        }
+        let numbers = self.made + 1..=self.made + line.connectives();
+        let mut declared = self.names.iter().filter_map(|name| made_number(name));
+        if declared.any(|number| numbers.contains(&number)) {
+            faults.push(Reason::DeclaredTwice);
+        }
+        if names.iter().any(|name| self.number(name).is_none()) {
+            faults.push(Reason::NotDeclared);
+        }
+        // With a fault of these the rules cannot be told, and a limit counts after all of them.
+        if let (true, Some(condition)) = (faults.is_empty(), condition) {
+            let numbered = condition.renamed(|name| self.number(name));
+            let then = self.number(line.then);
+            let (Some(condition), Some(then)) = (numbered, then) else {
+                unreachable!("every name is declared");
+            };
+            self.add_condition(condition, then);
+            if self.past_a_limit() {
+                faults.push(Reason::Limit);
+            }
+        }
+        faults
+    }
+
+    fn add_condition(&mut self, condition: Condition<usize>, then: usize) {
+        let first = self.program.atoms + self.made;
+        for (head, body) in condition.rules(first, then) {
+            self.program.rules.push(Rule {
+                head,
+                body,
+                not: Vec::new(),
+            });
+        }
+        self.made += condition.connectives.len();
+        self.conditions.push(Then { condition, then });
+    }
+
+    /// The program with the atoms that conditions made: varying ones, after the file's varying atoms.
+    fn with_made_atoms(&self) -> (Program, Names) {
+        let mut program = self.program.clone();
+        if self.made == 0 {
+            return (program, self.names.clone());
+        }
+        let (declared, all) = (program.atoms, program.atoms + self.made);
+        program.atoms = all;
+        program.roles.extend(vec![Role::Varying; self.made]);
+        let mut names = self.names.clone();
+        names.extend((1..=self.made).map(made_name));
+        let fixed = |atom: &usize| *atom < declared && program.is_fixed(*atom);
+        let unfixed = (0..declared).filter(|atom| !fixed(atom));
+        let order: Vec<usize> = unfixed
+            .chain(declared..all)
+            .chain((0..declared).filter(fixed))
+            .collect();
+        let names = order.iter().map(|&atom| names[atom].clone()).collect();
+        (restricted(&program, &order), names)
     }
 }
 
@@ -201,8 +310,26 @@ pub fn read(text: &[u8]) -> Result<(Program, Names), Refusal> {
     })
 }
 
-/// What the lines say as they are typed, every declared atom included.
+/// What the lines say as they are typed, every declared atom included, and those that conditions
+/// make.
 pub fn read_lines(text: &[u8]) -> Result<(Program, Names), Refusal> {
+    Ok(take_lines(text)?.with_made_atoms())
+}
+
+/// The same with conditions as they stand: no atom and no rule is made of them.
+pub fn read_directly(text: &[u8]) -> Result<Direct, Refusal> {
+    let reader = take_lines(text)?;
+    Ok(Direct {
+        file: Program {
+            rules: reader.typed,
+            ..reader.program
+        },
+        names: reader.names,
+        conditions: reader.conditions,
+    })
+}
+
+fn take_lines(text: &[u8]) -> Result<Reader, Refusal> {
     if text.len() > TEXT_LIMIT {
         return Err(Refusal::without_line(Reason::TextTooLong));
     }
@@ -210,6 +337,9 @@ pub fn read_lines(text: &[u8]) -> Result<(Program, Names), Refusal> {
     let mut reader = Reader {
         program: Program::empty(kind),
         names: Names::new(),
+        made: 0,
+        typed: Vec::new(),
+        conditions: Vec::new(),
         expected: match kind {
             Kind::Plain => Expected::Atoms,
             Kind::Preference => Expected::MinOrVary,
@@ -222,12 +352,12 @@ pub fn read_lines(text: &[u8]) -> Result<(Program, Names), Refusal> {
             Some(line) => reader.take(line),
             None => vec![Reason::Form],
         };
-        if let Some(lowest) = faults.into_iter().min() {
-            return Err(Refusal::on_line(lowest, line_number));
+        if let Some(first) = SEQUENCE.into_iter().find(|fault| faults.contains(fault)) {
+            return Err(Refusal::on_line(first, line_number));
         }
     }
     if reader.expected != Expected::Rule {
         return Err(Refusal::on_line(Reason::Form, line_number + 1));
     }
-    Ok((reader.program, reader.names))
+    Ok(reader)
 }

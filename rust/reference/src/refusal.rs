@@ -2,7 +2,7 @@
 
 /// Why somebody is turned back. The number of a reason is `reason as u64`; the order is that of
 /// the numbers, so the least of several faults of a line is the one that counts, but in a clause
-/// file.
+/// file and on a condition's line.
 #[derive(Clone, Copy, Debug, PartialEq, Eq, PartialOrd, Ord)]
 pub enum Reason {
     TextTooLong = 1,
@@ -21,6 +21,8 @@ pub enum Reason {
     NameStore = 14,
     BrokenClauses = 15,
     LiteralBeyond = 16,
+    BrokenCondition = 17,
+    DeepBrackets = 18,
 }
 
 /// A refusal with its line, counted from 1, or line 0 where there is none.

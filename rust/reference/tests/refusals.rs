@@ -39,7 +39,7 @@ fn form_of_a_line() {
         "(vary U.)",
         "(vary UU)",
         "(vary u.a)",
-        "(vary T.1)",
+        "(vary T.0)",
         "(vary \u{e9})",
         "(vary a\0)",
         "(vary a) (fix)",
@@ -66,6 +66,10 @@ fn form_of_a_line() {
         "(rule a (head) (body) (not))",
         "(rule (heads) (body) (not))",
         "(rule (head (a)) (body) (not))",
+        "(when)",
+        "(when a)",
+        "(when a (then))",
+        "(when a (then a)",
     ];
     for rule in rules {
         let preference = format!("(vary a)\n(fix)\n{rule}\n");
@@ -129,7 +133,7 @@ fn names() {
         );
     }
     for name in [
-        "N.", "N.A", "N._1", "N.N.a", "E.17", "E.00", "E.016", "E.a", "E.", "T.1", "U1", "Ua",
+        "N.", "N.A", "N._1", "N.N.a", "E.17", "E.00", "E.016", "E.a", "E.", "T.0", "U1", "Ua",
     ] {
         assert_eq!(
             refused(format!("(atoms {name})\n").as_bytes()),

@@ -62,13 +62,16 @@ pub struct Program {
 impl Program {
     /// Reads a text of either kind, with any spaces around words and brackets, comments from `;` to a
     /// line's end and blank lines. A preference file's atoms that stand in no rule are checked with
-    /// the others and then left out.
+    /// the others and then left out. Its conditions become rules, with a varying atom `T.1`, `T.2`, ..
+    /// for each `not`, `and` and `or`.
     ///
     /// ```
     /// # use rigtomato::Program;
     /// let text = "(min)\n(vary a b c)\n(fix)\n\n(rule (head c)(body a)(not)) ; c if a\n";
     /// let file = Program::read(text.as_bytes())?;
     /// assert_eq!(file.names().collect::<Vec<_>>(), ["a", "c"]);
+    /// let file = Program::read(b"(vary a b)\n(fix c)\n(when a and not b (then c))\n")?;
+    /// assert_eq!(file.names().collect::<Vec<_>>(), ["a", "b", "T.1", "T.2", "c"]);
     /// # Ok::<(), rigtomato::TextRefusal>(())
     /// ```
     pub fn read(text: &[u8]) -> Result<Program, TextRefusal> {
@@ -143,7 +146,8 @@ impl Program {
     }
 
     /// The text in its strict form, one space between items and no other spacing. A strict text that
-    /// was read comes back, but for the names that were left out.
+    /// was read comes back, but for the names that were left out and for conditions, of which the rules
+    /// are written.
     pub fn write(&self) -> Vec<u8> {
         self.written_by(lent::write)
     }

@@ -22,10 +22,12 @@ pub enum Refusal {
     NameStore = 14,
     BrokenClauses = 15,
     LiteralBeyond = 16,
+    BrokenCondition = 17,
+    DeepBrackets = 18,
 }
 
 impl Refusal {
-    const ALL: [Refusal; 16] = [
+    const ALL: [Refusal; 18] = [
         Refusal::TextTooLong,
         Refusal::Form,
         Refusal::Name,
@@ -42,6 +44,8 @@ impl Refusal {
         Refusal::NameStore,
         Refusal::BrokenClauses,
         Refusal::LiteralBeyond,
+        Refusal::BrokenCondition,
+        Refusal::DeepBrackets,
     ];
 
     /// The refusal with this number. The library gives no other.
@@ -73,6 +77,8 @@ impl Refusal {
                 "the header, a clause or a line's end is broken, or the count of clauses differs"
             }
             Refusal::LiteralBeyond => "a literal is beyond the header's atoms",
+            Refusal::BrokenCondition => "no condition stands between `(when` and its `(then ..)`",
+            Refusal::DeepBrackets => "a condition's brackets are deeper than 32",
         }
     }
 }

@@ -1,12 +1,24 @@
-//! Writes random preference files, every other one as a person types it: `random_files DIRECTORY COUNT
-//! SEED`.
+//! Writes random preference files, every other one as a person types it, some with conditions:
+//! `random_files DIRECTORY COUNT SEED`.
 
+use compare::conditions;
 use compare::generate::{mixed, partly_used, preference, Size};
 use compare::hand_typed::loosened;
 use compare::random::Random;
+use reference::reader;
 use reference::writer::write;
 use std::path::Path;
 use std::process::ExitCode;
+
+/// An accepted file with conditions, or without.
+fn with_conditions(random: &mut Random) -> Vec<u8> {
+    loop {
+        let text = conditions::file(random);
+        if reader::read(&text).is_ok() {
+            return text;
+        }
+    }
+}
 
 fn main() -> ExitCode {
     let arguments: Vec<String> = std::env::args().collect();
@@ -20,12 +32,13 @@ fn main() -> ExitCode {
     };
     let mut random = Random::new(seed);
     for i in 0..count {
-        let (program, names) = match i % 3 {
-            0 => preference(&mut random, Size::SMALL),
-            1 => mixed(&mut random, 3),
-            _ => partly_used(&mut random, Size::SMALL),
+        let written = |(program, names)| write(&program, &names);
+        let mut text = match i % 5 {
+            0 => written(preference(&mut random, Size::SMALL)),
+            1 => written(mixed(&mut random, 3)),
+            2 => written(partly_used(&mut random, Size::SMALL)),
+            _ => with_conditions(&mut random),
         };
-        let mut text = write(&program, &names);
         if i % 2 == 1 {
             text = loosened(&mut random, &text);
         }

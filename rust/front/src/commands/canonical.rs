@@ -9,10 +9,11 @@ use crate::refused;
 
 pub const MORE: &str = "\
 The file may be of either kind. Comments, blank lines and spaces that say nothing
-go, and so do a preference file's atoms that stand in no rule. The atoms inside
-each list of a rule are sorted as they are declared, then the rules by the first
-difference of their heads, bodies and not lists, where a list that ends first
-stands before; one of equal rules is kept. The declarations stay.
+go, and so do a preference file's atoms that stand in no rule; in the place of
+conditions stand their rules and atoms. The atoms inside each list of a rule are
+sorted as they are declared, then the rules by the first difference of their
+heads, bodies and not lists, where a list that ends first stands before; one of
+equal rules is kept. The declarations stay.
 
 So two files print the same text exactly when they have the same declarations in
 the same order, without what goes, and the same rules, however they are typed:

@@ -14,7 +14,9 @@ pub const MORE: &str = "\
 Of an accepted file of either kind it prints the counts beside their limits. The
 declared atoms of a preference file that stand in no rule do not belong to the
 program: they are counted and named apart, though they count toward the limit of
-256 too. Of a refused file standard error has the refusal, the line, and what is
+256 too. Conditions are counted with their connectives not, and, or: each has an
+atom, T.1, T.2, .., and these atoms and the conditions' rules are among those
+counted. Of a refused file standard error has the refusal, the line, and what is
 allowed there.
 ";
 
@@ -39,6 +41,16 @@ fn named(unused: &[&str]) -> String {
     format!("declared, but in no rule: {}{more}", first.join(" "))
 }
 
+/// The atoms that conditions with so many connectives get.
+fn made(connectives: usize) -> String {
+    match connectives {
+        0 => "without a connective".to_string(),
+        1 => "with 1 connective, the atom T.1".to_string(),
+        2 => "with 2 connectives, the atoms T.1 and T.2".to_string(),
+        more => format!("with {more} connectives, the atoms T.1 to T.{more}"),
+    }
+}
+
 /// A line of counts: what is counted, the count, its limit if it has one, and what more is said.
 type Row = (&'static str, usize, Option<usize>, String);
 
@@ -53,6 +65,10 @@ fn rows(file: &File, program: &Program) -> Vec<Row> {
     let unused = unused(file, program);
     if !unused.is_empty() {
         rows.push(("left out", unused.len(), None, named(&unused)));
+    }
+    let (conditions, connectives) = file.conditions();
+    if conditions > 0 {
+        rows.push(("conditions", conditions, None, made(connectives)));
     }
     rows.push(row("rules", program.rules(), limits.rules));
     rows.push(row(

@@ -2,7 +2,7 @@
 
 use crate::arguments::Call;
 use crate::ending::{Ending, Fault, Outcome};
-use crate::file::File;
+use crate::file::{File, Typed};
 use crate::json::Json;
 use crate::nearest::nearest;
 use crate::numbers::counted;
@@ -30,6 +30,10 @@ choice of the first atoms, that of none and that of all included. With --json:
 {\"verdict\":\"beaten\",\"set\":[..],\"units\":6} or {\"verdict\":\"spent\",\"units\":5}.
 At most 60 atoms stand in the file's rules. One that is declared and stands in
 none does not belong to the program, so it cannot be asked for.
+
+The atoms T.1, T.2, .. that a condition's not, and, or get belong to the program:
+a set has those whose part of the condition holds in it. A broken condition is
+shown with the rule that it gives and that is broken, in JSON as \"made\".
 ";
 
 pub const MORE_ON_STABLE: &str = "\
@@ -76,12 +80,33 @@ impl Asked<'_> {
         self.program.names_in(set).collect::<Vec<_>>().join(" ")
     }
 
+    /// The rule that a condition's line gives, as it is written; none of a rule's line.
+    fn made_of(&self, typed: &Typed, rule: u64) -> Option<String> {
+        if !typed.is_condition {
+            return None;
+        }
+        let lists = self.program.rule_lists().nth(rule as usize)?;
+        let names: Vec<&str> = self.program.names().collect();
+        let list = |word: &str, atoms: &[u16]| {
+            let atoms = atoms.iter().map(|atom| names[usize::from(*atom)]);
+            let items: Vec<&str> = [word].into_iter().chain(atoms).collect();
+            format!("({})", items.join(" "))
+        };
+        let (head, body) = (list("head", lists.head), list("body", lists.body));
+        Some(format!("(rule {head} {body} {})", list("not", lists.not)))
+    }
+
     pub fn words(&self, verdict: Verdict) -> String {
         match verdict {
             Verdict::Yes { units } => format!("yes, {}", counted(units, "unit")),
             Verdict::Broken { rule } => {
-                let (line, text) = self.file.rule(rule);
-                format!("no model: line {line} is broken: {text}")
+                let typed = self.file.rule(rule);
+                let (line, text) = (typed.line, &typed.text);
+                let by = match self.made_of(&typed, rule) {
+                    Some(made) => format!(", by {made}"),
+                    None => String::new(),
+                };
+                format!("no model: line {line} is broken: {text}{by}")
             }
             Verdict::Beaten { set, units } => {
                 let (set, units) = (self.names(set), counted(units, "unit"));
@@ -102,12 +127,14 @@ impl Asked<'_> {
         let (word, mut fields) = match verdict {
             Verdict::Yes { units } => ("yes", vec![("units", Json::Number(units))]),
             Verdict::Broken { rule } => {
-                let (line, text) = self.file.rule(rule);
-                let fields = vec![
+                let typed = self.file.rule(rule);
+                let made = self.made_of(&typed, rule);
+                let mut fields = vec![
                     ("rule", Json::Number(rule)),
-                    ("line", Json::Number(line)),
-                    ("text", Json::text(text)),
+                    ("line", Json::Number(typed.line)),
+                    ("text", Json::text(typed.text)),
                 ];
+                fields.extend(made.map(|made| ("made", Json::text(made))));
                 ("broken", fields)
             }
             Verdict::Beaten { set, units } => {

@@ -1,0 +1,2 @@
+-- A condition's parts at their places.
+pub mod ConditionForms

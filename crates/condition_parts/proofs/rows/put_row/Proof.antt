@@ -1,0 +1,64 @@
+use Prim.Native.Nat.{_*_}
+use native.Mathlib.Omega.{arith}
+use lib.ListN.{length-set}
+use Rattle.condition_parts.proofs.TableRows.{three-put}
+use borrow.Author.Needs.{needs}
+use Rattle.condition_parts.proofs.rows.put_row.Statement.{statement}
+use Rattle.condition_parts.proofs.rows.put_row.Tie as tie
+
+mul-at : tie.Need-mul-at
+mul-at c = search needs
+
+mul-table : tie.Need-mul-table
+mul-table c = search needs
+
+slice-write-table : tie.Need-slice-write-table
+slice-write-table c = search needs
+
+cast-table : tie.Need-cast-table
+cast-table c = search needs
+
+add-table : tie.Need-add-table
+add-table c = search needs
+
+mul-table-2 : tie.Need-mul-table-2
+mul-table-2 c = search needs
+
+slice-write-table-2 : tie.Need-slice-write-table-2
+slice-write-table-2 c = simp length-set (omega arith)
+
+cast-table-2 : tie.Need-cast-table-2
+cast-table-2 c = search needs
+
+add-table-2 : tie.Need-add-table-2
+add-table-2 c = search needs
+
+mul-table-3 : tie.Need-mul-table-3
+mul-table-3 c = search needs
+
+slice-write-table-3 : tie.Need-slice-write-table-3
+slice-write-table-3 c = simp length-set (omega arith)
+
+same-length : tie.Need-same-length
+same-length c = search needs
+
+returns : tie.Need-returns
+returns c = three-put (c .args .table .now) (3 * c .args .row) (c .args .kind) (c .args .left) (c .args .right)
+
+pub put-row-spec : {M : Type 1} → statement M
+put-row-spec =
+    tie.close
+    (tie.spec
+    mul-at
+    mul-table
+    slice-write-table
+    cast-table
+    add-table
+    mul-table-2
+    slice-write-table-2
+    cast-table-2
+    add-table-2
+    mul-table-3
+    slice-write-table-3
+    same-length
+    returns)

@@ -1,0 +1,3 @@
+-- The laws of writing a condition's rules.
+pub mod RowRules
+pub mod ConditionTables

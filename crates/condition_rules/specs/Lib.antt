@@ -1,0 +1,2 @@
+-- The rules that a table of connectives stands for.
+pub mod TableRules

@@ -1,0 +1,3 @@
+-- The scan of a condition.
+pub mod Sorts
+pub mod Scans
