@@ -16,7 +16,7 @@ use Rattle.name_store.specs.declared.index.Found.the-variants as Found
 use Rattle.name_store.specs.NameStore.{decodeNames, among}
 use Rattle.name_store.specs.NameIndex.{found}
 use Rattle.conditions.specs.Conditions.{Cond, name, NOT, AND, OR, connectives, namesOf}
-use Rattle.conditions.specs.Written.{part}
+use Rattle.conditions.specs.Written.{part, same?}
 use Rattle.conditions.specs.Rows.{Row, not-row, and-row, or-row, rows, rowOccurrences, rowAtom}
 use Rattle.conditions.specs.Numbers.{inFile, conditionRules}
 use Rattle.conditions.proofs.InFile.{condition-few, condition-occurrences}
@@ -59,8 +59,8 @@ few-occurrences (r ∷ rs) = omega (arith, few r, few-occurrences rs)
 
     few : (r : Row) → rowOccurrences r ≤ 7
     few (not-row t c) = omega arith
-    few (and-row t l q) = either _
-    few (or-row t l q) = either _
+    few (and-row t l q) = either (same? l q)
+    few (or-row t l q) = either (same? l q)
 
 module _ {g : Gathered} {words bytes starts firsts links : List ℕ} (h : Held Preference (stateOf Preference g words bytes) g words bytes) (x : HeldIndex g bytes starts firsts links)
     (s a : List ℕ) {count : ℕ} (t : Tested (stateOf Preference g words bytes) (tokens s) a count) where
@@ -132,17 +132,17 @@ module _ {g : Gathered} {words bytes starts firsts links : List ℕ} (h : Held P
                   omega (arith, size, named a names f e .below),
                 )
 
-            module _ {r : RulesPut} {words₂ : List ℕ} (p : RulesPutIs (tableRules count (g .counts .atoms + g .made) after ++ (rule (then ∷ []) (atom ∷ []) [] ∷ [])) words (g .words) words₂ r) where
-              put : RulesPutIs (conditionRules (length names) c then) words (g .words) words₂ r
+            module _ {z : RulesPut} {words₂ : List ℕ} (p : RulesPutIs (tableRules count (g .counts .atoms + g .made) after ++ (rule (then ∷ []) (atom ∷ []) [] ∷ [])) words (g .words) words₂ z) where
+              put : RulesPutIs (conditionRules (length names) c then) words (g .words) words₂ z
               put = condition-written (length names) (g .made) c (whole .known) (whole .numbered) before rows-are (ap (λ (n : ℕ). n + g .made) (sym size)) (whole .is-atom) (whole .written) (omega (arith, table-length (length names) (rows c), rows-are)) then p
 
-              put-here : RulesPutIs (conditionRules (length (st .names)) c (nameNumber (st .names) a)) words (g .words) words₂ r
-              put-here = subst (λ (b : ℕ). RulesPutIs (conditionRules (length (st .names)) c b) words (g .words) words₂ r) (sym number) (subst (λ ns. RulesPutIs (conditionRules (length ns) c then) words (g .words) words₂ r) same put)
+              put-here : RulesPutIs (conditionRules (length (st .names)) c (nameNumber (st .names) a)) words (g .words) words₂ z
+              put-here = subst (λ (b : ℕ). RulesPutIs (conditionRules (length (st .names)) c b) words (g .words) words₂ z) (sym number) (subst (λ ns. RulesPutIs (conditionRules (length ns) c then) words (g .words) words₂ z) same put)
 
               parsed-here : parse (nameNumber (st .names)) (suc (st .made)) (tokens s) ≡ parsed c
               parsed-here = ap (λ ns. parse (nameNumber ns) (suc (st .made)) (tokens s)) (sym same) ∙ ap (λ (m : ℕ). parse (nameNumber names) (suc m) (tokens s)) (sym (h .made-is)) ∙ whole .is-parsed
 
-              pub keep-fits : (count < 2 ^ 32) × (g .made < 2 ^ 32) × (g .counts .atoms < 2 ^ 32) × (g .counts .rules < 2 ^ 32) × (g .counts .occurrences < 2 ^ 32) × (r .rules < 2 ^ 32) × (r .occurrences < 2 ^ 32)
+              pub keep-fits : (count < 2 ^ 32) × (g .made < 2 ^ 32) × (g .counts .atoms < 2 ^ 32) × (g .counts .rules < 2 ^ 32) × (g .counts .occurrences < 2 ^ 32) × (z .rules < 2 ^ 32) × (z .occurrences < 2 ^ 32)
               keep-fits =
                   let small = held-small h in
                   (
@@ -155,5 +155,5 @@ module _ {g : Gathered} {words bytes starts firsts links : List ℕ} (h : Held P
                     omega (arith, put .is-occurrences, condition-occurrences (length names) c then, few-occurrences (rows c), rows-are),
                   )
 
-              pub added-line : {o : Line} → o ≡ keptCondition g count (r .rules) (r .occurrences) (r .end) → LineIs Preference st (condition (tokens s) a) words₂ bytes starts firsts links o
+              pub added-line : {o : Line} → o ≡ keptCondition g count (z .rules) (z .occurrences) (z .end) → LineIs Preference st (condition (tokens s) a) words₂ bytes starts firsts links o
               added-line k = condition-line h (tokens s) a t known parsed-here (put-here .is-rules) (put-here .is-occurrences) (put-here .written) k x

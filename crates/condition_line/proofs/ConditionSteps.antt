@@ -1,14 +1,13 @@
 -- A condition's line, test by test, and what it adds to the scratch stores.
-use Prim.Native.Nat.{ℕ, zero, suc, _+_, _*_, _≤_, _<_, zero-le}
+use Prim.Native.Nat.{ℕ, suc, _+_, _*_, _≤_, _<_}
 use native.Mathlib.Omega.{arith}
 use mathlib.Core.Path.{_≡_, refl, sym, ap, _∙_, subst}
 use mathlib.Core.List.{List, [], _∷_, _++_, append-assoc}
-use mathlib.Core.Bool.{Bool, true, false, not, _||_, or-false, cond}
-use lib.Dec.{T, eqb}
+use mathlib.Core.Bool.{Bool, true, false, not, _||_, or-false}
+use lib.Dec.{T}
 use lib.ListN.{length, take, length-append}
 use lib.Seq.{length-sets}
 use borrow.Author.Tests.{lt-leb}
-use Rattle.kinds.specs.Words.{space, open-bracket, close-bracket}
 use Rattle.kinds.specs.Limits.{atomLimit, bracketLimit, textLimit, within}
 use Rattle.kinds.specs.declared.limits.Counts.{Counts}
 use Rattle.kinds.specs.declared.limits.Kind.the-variants.{Preference}
@@ -25,8 +24,8 @@ use Rattle.stores.proofs.RuleStores.{rules-length}
 use Rattle.output.specs.Emitted.{Emitted}
 use Rattle.conditions.specs.Conditions.{Cond}
 use Rattle.conditions.specs.Numbers.{conditionRules}
-use Rattle.lines.specs.Tokens.{Token, opening, closing, word, ends?, run, tokensFrom, tokens}
-use Rattle.lines.specs.Conditions.{WordSort, negation, conjunction, disjunction, called, sortOf, bySort, namesIn, connectivesIn, deeper, Parsed, parsed, unparsed, parse}
+use Rattle.lines.specs.Tokens.{Token, tokens}
+use Rattle.lines.specs.Conditions.{namesIn, connectivesIn, deeper, Parsed, parsed, unparsed, parse}
 use Rattle.lines.specs.Forms.{LineForm, condition}
 use Rattle.lines.specs.Faults.{SoFar, next, fault, ruling?, refusedName, first, nameNumber, with-condition, allCounts, taken, countsOf, addCondition, stepForm}
 use Rattle.numbering.specs.Numbers.{undeclared}
@@ -39,6 +38,7 @@ use Rattle.gathering.proofs.RuleSteps.{store-fits}
 use Rattle.condition_scan.specs.declared.scan.Scan.{Scan}
 use Rattle.condition_scan.specs.declared.scan.Scan.the-variants as Scan
 use Rattle.condition_scan.specs.Scans.{Scanned, ScanSays, ScanIs}
+use Rattle.condition_scan.proofs.FewConnectives.{connectives-few}
 use Rattle.condition_line.specs.ConditionLine.{conditionCounts, withCondition, keptCondition, Tested}
 
 -- one name more
@@ -57,31 +57,6 @@ some-front p (x ∷ xs) a e = go (p x) e (some-front p xs a)
     go : (c : Bool) → (c || some p xs) ≡ true → (some p xs ≡ true → some p (xs ++ (a ∷ [])) ≡ true) → (c || some p (xs ++ (a ∷ []))) ≡ true
     go true e r = refl
     go false e r = r e
-
--- no more connectives than bytes
-few-from : (k : ℕ) (s : List ℕ) → connectivesIn (tokensFrom k s) ≤ length s
-unfolding tokensFrom connectivesIn
-few-from k [] = zero-le
-few-from zero (b ∷ s) = go (ends? b) (eqb b space) (eqb b open-bracket) (eqb b close-bracket) (few-from 0 s) (few-from (run s) s)
-  where
-    sorted : (w : WordSort) {n m : ℕ} → n ≤ m → bySort w (suc n) (suc n) (suc n) n ≤ suc m
-    sorted negation l = omega arith
-    sorted conjunction l = omega arith
-    sorted disjunction l = omega arith
-    sorted called l = omega arith
-
-    go : (e p o c : Bool) → connectivesIn (tokensFrom 0 s) ≤ length s → connectivesIn (tokensFrom (run s) s) ≤ length s
-        → connectivesIn (cond e [] (cond p (tokensFrom 0 s) (cond o (opening ∷ tokensFrom 0 s) (cond c (closing ∷ tokensFrom 0 s) (word (b ∷ take (run s) s) ∷ tokensFrom (run s) s))))) ≤ suc (length s)
-    go true p o c h r = zero-le
-    go false true o c h r = omega (arith, h)
-    go false false true c h r = omega (arith, h)
-    go false false false true h r = omega (arith, h)
-    go false false false false h r = sorted (sortOf (b ∷ take (run s) s)) r
-few-from (suc k) (b ∷ s) = omega (arith, few-from k s)
-
-few-connectives : (s : List ℕ) → connectivesIn (tokens s) ≤ length s
-unfolding tokens
-few-connectives s = few-from 0 s
 
 -- the tests, one after another
 module _ (st : SoFar) (ts : List Token) (a : List ℕ) (preference : st .kind ≡ Preference) (ruling : ruling? (st .stage) ≡ true) where
@@ -258,7 +233,7 @@ module _ {g : Gathered} {words bytes starts firsts links : List ℕ} (h : Held P
       parses = scanned .is-condition (nameNumber (here .names)) (suc (here .made))
 
       pub few-here : length s ≤ textLimit → count ≤ textLimit
-      few-here l = omega (arith, scanned .is-count, few-connectives s)
+      few-here l = omega (arith, scanned .is-count, connectives-few s)
 
       pub deep-line : deep ≡ true → stepForm here (condition (tokens s) a) ≡ fault DeepBrackets
       deep-line d = too-deep here (tokens s) a (h .kind-is) is-ruling (parses .1) (sym (scanned .is-deep) ∙ d)
