@@ -4,25 +4,27 @@ use native.Mathlib.Omega.{arith}
 use mathlib.Core.Path.{_≡_, refl, sym, ap, _∙_, subst}
 use mathlib.Core.List.{List, [], _∷_, _++_, append-assoc}
 use mathlib.Core.Bool.{Bool, true, false, not, _||_, or-false}
-use lib.ListN.{length, length-append}
+use lib.Dec.{T}
+use lib.ListN.{length, take, length-append}
 use lib.Seq.{length-sets}
 use borrow.Author.Tests.{lt-leb}
-use Rattle.kinds.specs.Limits.{atomLimit, bracketLimit, within}
+use Rattle.kinds.specs.Limits.{atomLimit, bracketLimit, textLimit, within}
 use Rattle.kinds.specs.declared.limits.Counts.{Counts}
 use Rattle.kinds.specs.declared.limits.Kind.the-variants.{Preference}
 use Rattle.kinds.specs.declared.refusals.Refusal.{Refusal}
 use Rattle.kinds.specs.declared.refusals.Refusal.the-variants.{BrokenForm, Name, DeclaredTwice, Undeclared, Limit, BrokenCondition, DeepBrackets}
-use Rattle.rules.specs.Lists.{some, sum, flat}
+use Rattle.rules.specs.Lists.{All, some, sum, flat, from}
 use Rattle.rules.specs.Rules.{Rule, occurrences}
 use Rattle.rules.proofs.ListLaws.{flat-append}
 use Rattle.rules.proofs.Lists.{sum-app}
-use Rattle.name_store.specs.NameStore.{among}
+use Rattle.names.specs.Names.{allowed, madeName}
+use Rattle.name_store.specs.NameStore.{decodeNames, among}
 use Rattle.stores.specs.RuleStore.{ruleWords}
 use Rattle.stores.proofs.RuleStores.{rules-length}
 use Rattle.output.specs.Emitted.{Emitted}
 use Rattle.conditions.specs.Conditions.{Cond}
 use Rattle.conditions.specs.Numbers.{conditionRules}
-use Rattle.lines.specs.Tokens.{Token}
+use Rattle.lines.specs.Tokens.{Token, tokens}
 use Rattle.lines.specs.Conditions.{namesIn, connectivesIn, deeper, Parsed, parsed, unparsed, parse}
 use Rattle.lines.specs.Forms.{LineForm, condition}
 use Rattle.lines.specs.Faults.{SoFar, next, fault, ruling?, refusedName, first, nameNumber, with-condition, allCounts, taken, countsOf, addCondition, stepForm}
@@ -31,8 +33,12 @@ use Rattle.gathering.specs.declared.gathered.Gathered.{Gathered}
 use Rattle.gathering.specs.declared.gathered.Line.{Line}
 use Rattle.gathering.specs.declared.gathered.Line.the-variants.{Next, Fault}
 use Rattle.gathering.specs.Gathered.{stateOf, storedWords, Filled, Held, HeldIndex, LineSays, LineIs, firstLine}
-use Rattle.gathering.proofs.HeldState.{atoms-is, rules-is, occurrences-is, held-is, fill-more, within-limits, limits-within}
+use Rattle.gathering.proofs.HeldState.{atoms-is, rules-is, occurrences-is, held-is, fill-more, within-limits, limits-within, known-names}
 use Rattle.gathering.proofs.RuleSteps.{store-fits}
+use Rattle.condition_scan.specs.declared.scan.Scan.{Scan}
+use Rattle.condition_scan.specs.declared.scan.Scan.the-variants as Scan
+use Rattle.condition_scan.specs.Scans.{Scanned, ScanSays, ScanIs}
+use Rattle.condition_scan.proofs.FewConnectives.{connectives-few}
 use Rattle.condition_line.specs.ConditionLine.{conditionCounts, withCondition, keptCondition, Tested}
 
 -- one name more
@@ -196,3 +202,75 @@ module _ {g : Gathered} {words bytes : List ℕ} (h : Held Preference (stateOf P
                     let held = condition-held q in
                     let is = held-is held in
                     (z ∙ ap next is, subst (λ j. Held Preference j (withCondition g count rules places end) words₂ bytes) is held, record { index = x .index; starts-room = x .starts-room; links-room = x .links-room })
+
+-- the line, from what the scan of it tells
+
+module _ {g : Gathered} {words bytes starts firsts links : List ℕ} (h : Held Preference (stateOf Preference g words bytes) g words bytes) (x : HeldIndex g bytes starts firsts links) (ruling : ruling? (g .stage) ≡ true) (s a : List ℕ) where
+  abbrev here : SoFar
+  here = stateOf Preference g words bytes
+
+  abbrev names : List (List ℕ)
+  names = decodeNames (length (take (g .counts .atoms) starts)) bytes
+
+  same : names ≡ here .names
+  same = known-names x h
+
+  is-ruling : ruling? (here .stage) ≡ true
+  is-ruling = sym (ap ruling? (h .stage-is)) ∙ ruling
+
+  pub all-allowed : All (λ y. T (allowed Preference y)) names
+  all-allowed = subst (All (λ y. T (allowed Preference y))) (sym same) (h .names-allowed)
+
+  module _ {q : Scan} (w : ScanIs names (tokens s) q) where
+    pub unparsed-line : q ≡ Scan.Unparsed → stepForm here (condition (tokens s) a) ≡ fault BrokenCondition
+    unparsed-line e = no-condition here (tokens s) a (h .kind-is) is-ruling (subst (ScanSays names (tokens s)) e (w .says) (nameNumber (here .names)) (suc (here .made)))
+
+    module _ {deep : Bool} {count : ℕ} {missing : Bool} (e : q ≡ Scan.Condition deep count missing) where
+      scanned : Scanned names (tokens s) deep count missing
+      scanned = subst (ScanSays names (tokens s)) e (w .says)
+
+      parses : (c : Cond) × (parse (nameNumber (here .names)) (suc (here .made)) (tokens s) ≡ parsed c)
+      parses = scanned .is-condition (nameNumber (here .names)) (suc (here .made))
+
+      pub few-here : length s ≤ textLimit → count ≤ textLimit
+      few-here l = omega (arith, scanned .is-count, connectives-few s)
+
+      pub deep-line : deep ≡ true → stepForm here (condition (tokens s) a) ≡ fault DeepBrackets
+      deep-line d = too-deep here (tokens s) a (h .kind-is) is-ruling (parses .1) (sym (scanned .is-deep) ∙ d)
+
+      module _ (d : deep ≡ false) {refused : Bool} (r : refused ≡ some (refusedName Preference) (namesIn (tokens s) ++ (a ∷ []))) where
+        shallow : deeper bracketLimit (tokens s) ≡ false
+        shallow = sym (scanned .is-deep) ∙ d
+
+        pub refused-line : refused ≡ true → stepForm here (condition (tokens s) a) ≡ fault Name
+        refused-line n = name-refused here (tokens s) a (h .kind-is) is-ruling (parses .1) shallow (sym r ∙ n)
+
+        module _ (n : refused ≡ false) {is-taken : Bool} (k : is-taken ≡ some (λ t. among names (madeName t)) (from (suc (g .made)) count)) where
+          taken-is : taken here (connectivesIn (tokens s)) ≡ is-taken
+          taken-is =
+              ap (λ ns. some (λ t. among ns (madeName t)) (from (suc (here .made)) (connectivesIn (tokens s)))) (sym same)
+              ∙ ap (λ (m : ℕ). some (λ t. among names (madeName t)) (from (suc m) (connectivesIn (tokens s)))) (sym (h .made-is))
+              ∙ ap (λ (j : ℕ). some (λ t. among names (madeName t)) (from (suc (g .made)) j)) (sym (scanned .is-count))
+              ∙ sym k
+
+          pub taken-line : is-taken ≡ true → stepForm here (condition (tokens s) a) ≡ fault DeclaredTwice
+          taken-line u = made-taken here (tokens s) a (h .kind-is) is-ruling (parses .1) shallow (sym r ∙ n) (taken-is ∙ u)
+
+          module _ (u : is-taken ≡ false) where
+            missing-is : undeclared (here .names) (namesIn (tokens s)) ≡ missing
+            missing-is = ap (λ ns. undeclared ns (namesIn (tokens s))) (sym same) ∙ sym (scanned .is-undeclared)
+
+            pub undeclared-line : missing ≡ true → stepForm here (condition (tokens s) a) ≡ fault Undeclared
+            undeclared-line m = not-declared here (tokens s) a (h .kind-is) is-ruling (parses .1) shallow (sym r ∙ n) (taken-is ∙ u) (some-front (λ y. not (among (here .names) y)) (namesIn (tokens s)) a (missing-is ∙ m))
+
+            pub tested : missing ≡ false → length s ≤ textLimit → Tested here (tokens s) a count
+            tested m l = record {
+              ruling = is-ruling;
+              parses = parses;
+              shallow = shallow;
+              none-refused = sym r ∙ n;
+              untaken = taken-is ∙ u;
+              all-declared = missing-is ∙ m;
+              is-count = scanned .is-count;
+              few = few-here l;
+            }

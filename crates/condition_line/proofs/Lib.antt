@@ -1,2 +1,3 @@
 -- A condition's line, step by step.
 pub mod ConditionSteps
+pub mod AddedCondition

@@ -3,3 +3,4 @@ pub mod Turns
 pub mod WordSorts
 pub mod Steps
 pub mod Passing
+pub mod FewConnectives

@@ -21,7 +21,7 @@ use Rattle.condition_scan.specs.declared.scan.Step.{Step}
 use Rattle.condition_scan.specs.declared.scan.Step.the-variants as Step
 use Rattle.condition_scan.specs.declared.scan.Seen.{Seen}
 use Rattle.condition_scan.specs.declared.scan.Scan.the-variants as Scan
-use Rattle.condition_scan.specs.Scans.{scan?, symbolOf, TokenTo, StepSays, StepIs, fits?, afterOf, Countable, ScanIs}
+use Rattle.condition_scan.specs.Scans.{scan?, symbolBy, symbolOf, TokenTo, StepSays, StepIs, fits?, afterOf, Countable, ScanIs}
 use Rattle.condition_scan.proofs.Turns.{parses, parses-not}
 
 -- one bracket more, past the limit or not
@@ -95,9 +95,6 @@ module _ {names : List (List ℕ)} {all ts : List Token} {st : Seen} where
 
 -- a word, by what it is
 module _ {names : List (List ℕ)} {all : List Token} {x : List ℕ} {ts : List Token} {st : Seen} (h : Passing names all (word x ∷ ts) st) where
-  abbrev symbol : WordSort → Bool → Symbol
-  symbol z b = bySort z Symbol.Negation Symbol.Joint Symbol.Joint (cond b Symbol.Declared Symbol.Undeclared)
-
   module _ {z : WordSort} (e : sortOf x ≡ z) where
     part-by : st .part ≡ true → bySort z (scan? true ts) false false (scan? false ts) ≡ scan? true all
     unfolding scan?
@@ -122,7 +119,7 @@ module _ {names : List (List ℕ)} {all : List Token} {x : List ℕ} {ts : List 
   unfolding pairs deeper
   joint s n d = record { scans = s; paired = h .paired; deepening = h .deepening; over = h .over; counted = counted-one n; declaring = d }
 
-  pass-word : (z : WordSort) (b : Bool) → sortOf x ≡ z → among names x ≡ b → fits? (symbol z b) (st .part) ≡ true → Passing names all ts (afterOf st (symbol z b))
+  pass-word : (z : WordSort) (b : Bool) → sortOf x ≡ z → among names x ≡ b → fits? (symbolBy z b) (st .part) ≡ true → Passing names all ts (afterOf st (symbolBy z b))
   unfolding pairs deeper
   pass-word negation b e g f =
       record {
@@ -168,7 +165,7 @@ misfit names closing ts true e = refl
 misfit names closing ts false e = absurd (let z : _≡_ {A = ℕ} 0 1 = cc in omega arith)
 misfit names (word x) ts true e = go (sortOf x) (among names x) e
   where
-    go : (z : WordSort) (b : Bool) → fits? (bySort z Symbol.Negation Symbol.Joint Symbol.Joint (cond b Symbol.Declared Symbol.Undeclared)) true ≡ false → bySort z (scan? true ts) false false (scan? false ts) ≡ false
+    go : (z : WordSort) (b : Bool) → fits? (symbolBy z b) true ≡ false → bySort z (scan? true ts) false false (scan? false ts) ≡ false
     go negation b e = absurd (let z : _≡_ {A = ℕ} 0 1 = cc in omega arith)
     go conjunction b e = refl
     go disjunction b e = refl
@@ -176,7 +173,7 @@ misfit names (word x) ts true e = go (sortOf x) (among names x) e
     go called false e = absurd (let z : _≡_ {A = ℕ} 0 1 = cc in omega arith)
 misfit names (word x) ts false e = go (sortOf x) (among names x) e
   where
-    go : (z : WordSort) (b : Bool) → fits? (bySort z Symbol.Negation Symbol.Joint Symbol.Joint (cond b Symbol.Declared Symbol.Undeclared)) false ≡ false → bySort z false (scan? true ts) (scan? true ts) false ≡ false
+    go : (z : WordSort) (b : Bool) → fits? (symbolBy z b) false ≡ false → bySort z false (scan? true ts) (scan? true ts) false ≡ false
     go negation b e = refl
     go conjunction b e = absurd (let z : _≡_ {A = ℕ} 0 1 = cc in omega arith)
     go disjunction b e = absurd (let z : _≡_ {A = ℕ} 0 1 = cc in omega arith)
@@ -187,7 +184,7 @@ closes-open names opening ts d e p = absurd (let z : _≡_ {A = ℕ} 0 1 = cc in
 closes-open names closing ts d e p = open-pairs d ts p
 closes-open names (word x) ts d e p = absurd (go (sortOf x) (among names x) e)
   where
-    go : (z : WordSort) (b : Bool) → bySort z Symbol.Negation Symbol.Joint Symbol.Joint (cond b Symbol.Declared Symbol.Undeclared) ≡ Symbol.Closing → ⊥
+    go : (z : WordSort) (b : Bool) → symbolBy z b ≡ Symbol.Closing → ⊥
     go negation b e = let z : _≡_ {A = ℕ} 0 1 = cc in omega arith
     go conjunction b e = let z : _≡_ {A = ℕ} 0 1 = cc in omega arith
     go disjunction b e = let z : _≡_ {A = ℕ} 0 1 = cc in omega arith

@@ -14,7 +14,7 @@ use Rattle.lines.specs.declared.scan.Item.the-variants as Item
 use Rattle.lines.specs.declared.scan.Bracket.{Bracket}
 use Rattle.lines.specs.declared.scan.Bracket.the-variants as Bracket
 use Rattle.lines.specs.Tokens.{opening, closing, word}
-use Rattle.lines.specs.Conditions.{WordSort, sortOf, bySort}
+use Rattle.lines.specs.Conditions.{WordSort, sortOf}
 use Rattle.lines.specs.Shapes.{itemOf, ByteBehind, BracketSays, BracketIs}
 use Rattle.lines.proofs.TokenPlaces.{item-fits, item-long, item, word-is}
 use Rattle.lines.proofs.TokenCuts.{opening-is, closing-is, nothing-left}
@@ -29,7 +29,28 @@ use Rattle.condition_scan.specs.declared.scan.Symbol.{Symbol}
 use Rattle.condition_scan.specs.declared.scan.Symbol.the-variants as Symbol
 use Rattle.condition_scan.specs.declared.scan.Step.the-variants as Step
 use Rattle.condition_scan.specs.Sorts.{wordSort}
-use Rattle.condition_scan.specs.Scans.{symbolOf, StepIs}
+use Rattle.condition_scan.specs.Scans.{symbolBy, wordSymbol, StepIs}
+
+-- a word by its sort
+module _ (names : List (List ℕ)) (x : List ℕ) {y : Sort} (k : wordSort y ≡ sortOf x) where
+  symbol-is : {z : Sort} → y ≡ z → symbolBy (wordSort z) (among names x) ≡ wordSymbol names x
+  symbol-is f = ap (λ (z : WordSort). symbolBy z (among names x)) (sym (ap wordSort f) ∙ k)
+
+  pub not-symbol : y ≡ Sort.Not → Symbol.Negation ≡ wordSymbol names x
+  not-symbol f = symbol-is f
+
+  pub and-symbol : y ≡ Sort.And → Symbol.Joint ≡ wordSymbol names x
+  and-symbol f = symbol-is f
+
+  pub or-symbol : y ≡ Sort.Or → Symbol.Joint ≡ wordSymbol names x
+  or-symbol f = symbol-is f
+
+  module _ (f : y ≡ Sort.Name) {q : Found} (l : q ≡ found x names) where
+    pub declared-symbol : {j : ℕ} → q ≡ Found.At j → Symbol.Declared ≡ wordSymbol names x
+    declared-symbol m = ap (λ (b : Bool). cond b Symbol.Declared Symbol.Undeclared) (sym (named x names l m .declared)) ∙ symbol-is f
+
+    pub undeclared-symbol : q ≡ Found.Missing → Symbol.Undeclared ≡ wordSymbol names x
+    undeclared-symbol m = ap (λ (b : Bool). cond b Symbol.Declared Symbol.Undeclared) (sym (unnamed x names l m)) ∙ symbol-is f
 
 -- a bracket
 module _ (s : List ℕ) (at : ℕ) {q : Bracket} (c : BracketIs s at q) {p : ℕ} where
@@ -64,26 +85,6 @@ module _ (names : List (List ℕ)) (s : List ℕ) (at : ℕ) {r : HashedItem} (e
     abbrev x : List ℕ
     x = item s at refl is-item
 
-    word-step : {y : Symbol} → y ≡ symbolOf names (word x) → StepIs names s at (Step.To (at + g + n) y)
+    pub word-step : {y : Symbol} → y ≡ wordSymbol names x → StepIs names s at (Step.To (at + g + n) y)
     word-step f =
         record { says = record { token = word x; onward = omega (arith, item-long s at refl is-item); inside = step-inside; is = word-is s at refl is-item; is-symbol = f } }
-
-    module _ {y : Sort} (k : wordSort y ≡ sortOf x) where
-      symbol-is : {z : Sort} → y ≡ z → bySort (wordSort z) Symbol.Negation Symbol.Joint Symbol.Joint (cond (among names x) Symbol.Declared Symbol.Undeclared) ≡ symbolOf names (word x)
-      symbol-is f = ap (λ (z : WordSort). bySort z Symbol.Negation Symbol.Joint Symbol.Joint (cond (among names x) Symbol.Declared Symbol.Undeclared)) (sym (ap wordSort f) ∙ k)
-
-      pub not-step : y ≡ Sort.Not → StepIs names s at (Step.To (at + g + n) Symbol.Negation)
-      not-step f = word-step (symbol-is f)
-
-      pub and-step : y ≡ Sort.And → StepIs names s at (Step.To (at + g + n) Symbol.Joint)
-      and-step f = word-step (symbol-is f)
-
-      pub or-step : y ≡ Sort.Or → StepIs names s at (Step.To (at + g + n) Symbol.Joint)
-      or-step f = word-step (symbol-is f)
-
-      module _ (f : y ≡ Sort.Name) {q : Found} (l : q ≡ found x names) where
-        pub declared-step : {j : ℕ} → q ≡ Found.At j → StepIs names s at (Step.To (at + g + n) Symbol.Declared)
-        declared-step m = word-step (ap (λ (b : Bool). cond b Symbol.Declared Symbol.Undeclared) (sym (named x names l m .declared)) ∙ symbol-is f)
-
-        pub undeclared-step : q ≡ Found.Missing → StepIs names s at (Step.To (at + g + n) Symbol.Undeclared)
-        undeclared-step m = word-step (ap (λ (b : Bool). cond b Symbol.Declared Symbol.Undeclared) (sym (unnamed x names l m)) ∙ symbol-is f)

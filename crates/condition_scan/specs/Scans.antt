@@ -9,7 +9,7 @@ use Rattle.kinds.specs.Limits.{bracketLimit}
 use Rattle.name_store.specs.NameStore.{among}
 use Rattle.conditions.specs.Conditions.{Cond}
 use Rattle.lines.specs.Tokens.{Token, opening, closing, word, tokens}
-use Rattle.lines.specs.Conditions.{sortOf, bySort, namesIn, connectivesIn, deeper, parsed, unparsed, parse}
+use Rattle.lines.specs.Conditions.{WordSort, sortOf, bySort, namesIn, connectivesIn, deeper, parsed, unparsed, parse}
 use Rattle.numbering.specs.Numbers.{undeclared}
 use Rattle.condition_scan.specs.declared.scan.Symbol.{Symbol}
 use Rattle.condition_scan.specs.declared.scan.Symbol.the-variants as Symbol
@@ -30,10 +30,17 @@ scan? false (opening ∷ ts) = false
 scan? false (closing ∷ ts) = scan? false ts
 scan? false (word x ∷ ts) = bySort (sortOf x) false (scan? true ts) (scan? true ts) false
 
+-- a word's symbol, by what it is and whether it is declared
+abbrev pub symbolBy : WordSort → Bool → Symbol
+symbolBy sort declared = bySort sort Symbol.Negation Symbol.Joint Symbol.Joint (cond declared Symbol.Declared Symbol.Undeclared)
+
+abbrev pub wordSymbol : List (List ℕ) → List ℕ → Symbol
+wordSymbol names x = symbolBy (sortOf x) (among names x)
+
 abbrev pub symbolOf : List (List ℕ) → Token → Symbol
 symbolOf names opening = Symbol.Opening
 symbolOf names closing = Symbol.Closing
-symbolOf names (word x) = bySort (sortOf x) Symbol.Negation Symbol.Joint Symbol.Joint (cond (among names x) Symbol.Declared Symbol.Undeclared)
+symbolOf names (word x) = wordSymbol names x
 
 -- the token at a place, up to another
 pub record TokenTo (names : List (List ℕ)) (s : List ℕ) (at to : ℕ) (symbol : Symbol) : Type 0 where

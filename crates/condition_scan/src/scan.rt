@@ -13,10 +13,10 @@ ghost use mathlib.Core.Path.{_≡_};
 ghost use Prim.Native.Nat.{_≤_};
 ghost use lib.ListN.{length};
 ghost use Rattle.name_store.specs.NameStore.{decodeNames};
-ghost use Rattle.name_store.specs.NameIndex.{Indexed};
+ghost use Rattle.name_store.specs.NameIndex.{nameHash, Indexed};
 ghost use Rattle.lines.specs.Tokens.{tokens};
 ghost use Rattle.lines.specs.Conditions.{pairs};
-ghost use Rattle.condition_scan.specs.Scans.{fits?, afterOf, Countable, StepIs, ScanIs};
+ghost use Rattle.condition_scan.specs.Scans.{wordSymbol, fits?, afterOf, Countable, StepIs, ScanIs};
 
 // A token as the scan tells it from others: `and` and `or` are joints.
 enum Symbol {
@@ -51,6 +51,30 @@ pub enum Scan {
     },
 }
 
+// A word with its hash.
+fn word_symbol(
+    word: &[u8],
+    hash: usize,
+    bytes: &[u8],
+    starts: &[u16],
+    firsts: &[u16],
+    links: &[u16],
+) -> Symbol
+    requires { ⌜ Indexed (decodeNames (length (now starts)) (now bytes)) (now bytes) (now starts) (now firsts) (now links) ⌝ }
+    requires { ⌜ hash ≡ nameHash (now word) ⌝ }
+    ensures { λ r. ⌜ r ≡ wordSymbol (decodeNames (length (now (starts .entry))) (now (bytes .entry))) (now (word .entry)) ⌝ }
+{
+    match sort_of(word) {
+        Sort::Not => Symbol::Negation,
+        Sort::And => Symbol::Joint,
+        Sort::Or => Symbol::Joint,
+        Sort::Name => match index::find_hashed(bytes, starts, firsts, links, word, hash) {
+            Found::At(_) => Symbol::Declared,
+            Found::Missing => Symbol::Undeclared,
+        },
+    }
+}
+
 fn step_at(s: &[u8], at: usize, bytes: &[u8], starts: &[u16], firsts: &[u16], links: &[u16]) -> Step
     requires { ⌜ at ≤ length (now s) ⌝ }
     requires { ⌜ Indexed (decodeNames (length (now starts)) (now bytes)) (now bytes) (now starts) (now firsts) (now links) ⌝ }
@@ -71,30 +95,8 @@ fn step_at(s: &[u8], at: usize, bytes: &[u8], starts: &[u16], firsts: &[u16], li
     };
     let start = at + gap;
     let to = start + size;
-    match sort_of(&s[start..to]) {
-        Sort::Not => Step::To {
-            to,
-            symbol: Symbol::Negation,
-        },
-        Sort::And => Step::To {
-            to,
-            symbol: Symbol::Joint,
-        },
-        Sort::Or => Step::To {
-            to,
-            symbol: Symbol::Joint,
-        },
-        Sort::Name => match index::find_hashed(bytes, starts, firsts, links, &s[start..to], hash) {
-            Found::At(_) => Step::To {
-                to,
-                symbol: Symbol::Declared,
-            },
-            Found::Missing => Step::To {
-                to,
-                symbol: Symbol::Undeclared,
-            },
-        },
-    }
+    let symbol = word_symbol(&s[start..to], hash, bytes, starts, firsts, links);
+    Step::To { to, symbol }
 }
 
 // Whether the symbol may come next.
