@@ -1,15 +1,17 @@
 -- A condition's line, test by test, and what it adds to the scratch stores.
-use Prim.Native.Nat.{ℕ, suc, _+_, _*_, _≤_, _<_}
+use Prim.Native.Nat.{ℕ, suc, _+_, _-_, _*_, _≤_, _<_}
 use native.Mathlib.Omega.{arith}
 use mathlib.Core.Path.{_≡_, refl, sym, ap, _∙_, subst}
 use mathlib.Core.List.{List, [], _∷_, _++_, append-assoc}
 use mathlib.Core.Bool.{Bool, true, false, not, _||_, or-false}
 use lib.Dec.{T}
-use lib.ListN.{length, take, length-append}
+use lib.ListN.{length, take, drop, length-append, length-take, length-drop}
 use lib.Seq.{length-sets}
 use borrow.Author.Tests.{lt-leb}
+use Rattle.kinds.specs.Words.{whenWord}
 use Rattle.kinds.specs.Limits.{atomLimit, bracketLimit, textLimit, within}
 use Rattle.kinds.specs.declared.limits.Counts.{Counts}
+use Rattle.kinds.specs.declared.limits.Kind.{Kind}
 use Rattle.kinds.specs.declared.limits.Kind.the-variants.{Preference}
 use Rattle.kinds.specs.declared.refusals.Refusal.{Refusal}
 use Rattle.kinds.specs.declared.refusals.Refusal.the-variants.{BrokenForm, Name, DeclaredTwice, Undeclared, Limit, BrokenCondition, DeepBrackets}
@@ -18,28 +20,38 @@ use Rattle.rules.specs.Rules.{Rule, occurrences}
 use Rattle.rules.proofs.ListLaws.{flat-append}
 use Rattle.rules.proofs.Lists.{sum-app}
 use Rattle.names.specs.Names.{allowed, madeName}
-use Rattle.name_store.specs.NameStore.{decodeNames, among}
+use Rattle.name_store.specs.NameStore.{decodeNames, sameBytes, among}
 use Rattle.stores.specs.RuleStore.{ruleWords}
 use Rattle.stores.proofs.RuleStores.{rules-length}
 use Rattle.output.specs.Emitted.{Emitted}
 use Rattle.conditions.specs.Conditions.{Cond}
 use Rattle.conditions.specs.Numbers.{conditionRules}
 use Rattle.lines.specs.Tokens.{Token, tokens}
-use Rattle.lines.specs.Conditions.{namesIn, connectivesIn, deeper, Parsed, parsed, unparsed, parse}
-use Rattle.lines.specs.Forms.{LineForm, condition}
+use Rattle.lines.specs.Conditions.{namesIn, connectivesIn, pairs, deeper, Parsed, parsed, unparsed, parse}
+use Rattle.lines.specs.Forms.{condition, openedOf, formOf}
+use Rattle.lines.specs.declared.scan.Place.{Place}
+use Rattle.lines.specs.declared.scan.Place.the-variants as Place
+use Rattle.lines.specs.Shapes.{opensWith, OpenedSays, OpenedIs}
 use Rattle.lines.specs.Faults.{SoFar, next, fault, ruling?, refusedName, first, nameNumber, with-condition, allCounts, taken, countsOf, addCondition, stepForm}
 use Rattle.numbering.specs.Numbers.{undeclared}
 use Rattle.gathering.specs.declared.gathered.Gathered.{Gathered}
 use Rattle.gathering.specs.declared.gathered.Line.{Line}
 use Rattle.gathering.specs.declared.gathered.Line.the-variants.{Next, Fault}
-use Rattle.gathering.specs.Gathered.{stateOf, storedWords, Filled, Held, HeldIndex, LineSays, LineIs, firstLine}
+use Rattle.gathering.specs.Gathered.{stateOf, storedWords, Filled, Held, HeldIndex, LineSays, LineIs, firstLine, opensCondition}
 use Rattle.gathering.proofs.HeldState.{atoms-is, rules-is, occurrences-is, held-is, fill-more, within-limits, limits-within, known-names}
 use Rattle.gathering.proofs.RuleSteps.{store-fits}
+use Rattle.condition_form.specs.declared.condition.ConditionPlaces.{ConditionPlaces}
+use Rattle.condition_form.specs.declared.condition.ConditionShape.{ConditionShape}
+use Rattle.condition_form.specs.declared.condition.ConditionShape.the-variants as Shape
+use Rattle.condition_form.specs.ConditionForms.{between, ConditionAt, ConditionIs}
 use Rattle.condition_scan.specs.declared.scan.Scan.{Scan}
 use Rattle.condition_scan.specs.declared.scan.Scan.the-variants as Scan
 use Rattle.condition_scan.specs.Scans.{Scanned, ScanSays, ScanIs}
 use Rattle.condition_scan.proofs.FewConnectives.{connectives-few}
 use Rattle.condition_line.specs.ConditionLine.{conditionCounts, withCondition, keptCondition, Tested}
+
+length-take-drop : (n k : ℕ) (l : List ℕ) → length (take n (drop k l)) ≤ length l
+length-take-drop n k l = omega (arith, length-take n (drop k l), length-drop k l)
 
 -- one name more
 some-last : (p : List ℕ → Bool) (xs : List (List ℕ)) (a : List ℕ) → some p xs ≡ false → {b : Bool} → p a ≡ b → some p (xs ++ (a ∷ [])) ≡ b
@@ -89,6 +101,27 @@ module _ (st : SoFar) (ts : List Token) (a : List ℕ) (preference : st .kind �
               → addCondition st ts a ≡ first (not fits) Limit (next (with-condition st c (connectivesIn ts) (nameNumber (st .names) a)))
           unfolding addCondition
           all-known u f = rw (ruling, preference, p, d, n, t, u, f)
+
+-- a line that opens as a condition
+
+module _ (l : List ℕ) {q : Place} (o : OpenedIs l 0 whenWord q) where
+  pub condition-opened : {kind : Kind} → kind ≡ Preference → {p : ℕ} → q ≡ Place.At p → true ≡ opensCondition kind l
+  unfolding sameBytes
+  condition-opened e {p} f = let k : OpenedSays l 0 whenWord (Place.At p) = subst (OpenedSays l 0 whenWord) f (o .says) in sym (ap (λ k. opensCondition k l) e ∙ ap (opensWith whenWord) (k .1))
+
+  pub condition-absent : {kind : Kind} → kind ≡ Preference → q ≡ Place.Absent → false ≡ opensCondition kind l
+  condition-absent e f = let k : opensWith whenWord (openedOf (tokens l)) ≡ false = subst (OpenedSays l 0 whenWord) f (o .says) in sym (ap (λ k. opensCondition k l) e ∙ k)
+
+-- what is kept
+
+module _ (g : Gathered) (more rules places end : ℕ) {fits : Bool} (f : fits ≡ within Preference (conditionCounts (g .counts) (g .counts .atoms + (g .made + more)) rules places)) where
+  pub over-limit : not fits ≡ true → Fault Limit ≡ keptCondition g more rules places end
+  unfolding keptCondition
+  over-limit d = rw (sym f, d)
+
+  pub within-limit : not fits ≡ false → Next (withCondition g more rules places end) ≡ keptCondition g more rules places end
+  unfolding keptCondition
+  within-limit d = rw (sym f, d)
 
 -- what it adds
 
@@ -274,3 +307,28 @@ module _ {g : Gathered} {words bytes starts firsts links : List ℕ} (h : Held P
               is-count = scanned .is-count;
               few = few-here l;
             }
+
+-- its places in the line
+
+module _ (l : List ℕ) {q : ConditionShape} (w : ConditionIs Preference l (formOf l) q) where
+  pub broken-line : (st : SoFar) → q ≡ Shape.Broken → stepForm st (formOf l) ≡ fault BrokenForm
+  broken-line st e = ap (stepForm st) (subst (ConditionIs Preference l (formOf l)) e w)
+
+  module _ {p : ConditionPlaces} (e : q ≡ Shape.At p) where
+    at : ConditionAt Preference l (formOf l) p
+    at = subst (ConditionIs Preference l (formOf l)) e w
+
+    pub places-fit : (p .from ≤ p .to) × (p .to ≤ length l) × (p .start ≤ p .end) × (p .end ≤ length l)
+    places-fit = (at .onward, at .inside, at .name-onward, at .name-inside)
+
+    abbrev spoken : List ℕ
+    spoken = between (p .from) (p .to) l
+
+    abbrev called : List ℕ
+    called = between (p .start) (p .end) l
+
+    pub condition-places : (length l ≤ textLimit → length spoken ≤ textLimit) × (pairs 0 (tokens spoken) ≡ true) × (p .refused ≡ some (refusedName Preference) (namesIn (tokens spoken) ++ (called ∷ [])))
+    condition-places = (λ m. omega (arith, length-take-drop (p .to - p .from) (p .from) l), at .paired, at .is-refused)
+
+    pub line-here : {st : SoFar} {words bytes starts firsts links : List ℕ} {r : Line} → LineIs Preference st (condition (tokens spoken) called) words bytes starts firsts links r → LineIs Preference st (formOf l) words bytes starts firsts links r
+    line-here {st} {words} {bytes} {starts} {firsts} {links} {r} = subst (λ f. LineIs Preference st f words bytes starts firsts links r) (sym (at .form))
