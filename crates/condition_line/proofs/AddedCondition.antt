@@ -123,8 +123,7 @@ module _ {g : Gathered} {words bytes starts firsts links : List ℕ} (h : Held P
 
             pub put-fits : length after ≡ 768 → (3 * count ≤ length after) × (g .counts .atoms + g .made + count ≤ 65536) × (g .words + 16 * count < 2 ^ 61) × (atom < 65536) × (then < 65536)
             put-fits l =
-                let small = held-small h in
-                (
+                let small = held-small h in (
                   omega arith,
                   omega arith,
                   omega (arith, small .words),
@@ -144,8 +143,7 @@ module _ {g : Gathered} {words bytes starts firsts links : List ℕ} (h : Held P
 
               pub keep-fits : (count < 2 ^ 32) × (g .made < 2 ^ 32) × (g .counts .atoms < 2 ^ 32) × (g .counts .rules < 2 ^ 32) × (g .counts .occurrences < 2 ^ 32) × (z .rules < 2 ^ 32) × (z .occurrences < 2 ^ 32)
               keep-fits =
-                  let small = held-small h in
-                  (
+                  let small = held-small h in (
                     omega arith,
                     omega arith,
                     omega arith,

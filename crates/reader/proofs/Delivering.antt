@@ -13,11 +13,13 @@ use Rattle.rules.specs.Renumbering.{Within}
 use Rattle.rules.proofs.Lists.{all-imp}
 use Rattle.stores.specs.Program.{ProgramForm, RuleForm}
 use Rattle.restriction.specs.Remaining.{remaining, remainingNames}
+use Rattle.lines.specs.Forms.{LineForm}
 use Rattle.lines.specs.Faults.{SoFar}
 use Rattle.lines.specs.Said.{programOf, placed}
 use Rattle.answers.specs.declared.Read.{Read}
 use Rattle.gathering.specs.declared.gathered.Gathered.{Gathered}
-use Rattle.gathering.specs.Gathered.{stateOf, Held, opensCondition}
+use Rattle.gathering.specs.declared.gathered.Line.{Line}
+use Rattle.gathering.specs.Gathered.{stateOf, Held, LineIs, opensCondition}
 use Rattle.gathering.proofs.HeldState.{held-is}
 use Rattle.delivery.specs.Delivered.{Delivered}
 use Rattle.placing.specs.Unplaced.{Unplaced}
@@ -37,6 +39,19 @@ made-preference Preference h n = refl
 pub condition-preference : (kind : Kind) (l : List ℕ) → opensCondition kind l ≡ true → kind ≡ Preference
 condition-preference Plain l e = absurd (let z : _≡_ {A = ℕ} 0 1 = cc in omega arith)
 condition-preference Preference l e = refl
+
+module _ {kind : Kind} {g : Gathered} {words bytes : List ℕ} (h : Held kind (stateOf kind g words bytes) g words bytes) (e : kind ≡ Preference) where
+  pub held-preference : Held Preference (stateOf Preference g words bytes) g words bytes
+  held-preference = subst (λ k. Held k (stateOf k g words bytes) g words bytes) e h
+
+  pub formed-preference : Formed (stateOf kind g words bytes) → Formed (stateOf Preference g words bytes)
+  formed-preference = subst (λ k. Formed (stateOf k g words bytes)) e
+
+  pub line-preference : {f : LineForm} {words′ bytes′ starts firsts links : List ℕ} {r : Line} → LineIs Preference (stateOf Preference g words bytes) f words′ bytes′ starts firsts links r → LineIs kind (stateOf kind g words bytes) f words′ bytes′ starts firsts links r
+  line-preference {f} {words′} {bytes′} {starts} {firsts} {links} {r} = subst (λ k. LineIs k (stateOf k g words bytes) f words′ bytes′ starts firsts links r) (sym e)
+
+  pub delivered-preference : {rules names rules′ names′ : List ℕ} {r : Read} → StateDelivered (placed (stateOf Preference g words bytes)) rules names rules′ names′ r → StateDelivered (placed (stateOf kind g words bytes)) rules names rules′ names′ r
+  delivered-preference {rules} {names} {rules′} {names′} {r} = subst (λ k. StateDelivered (placed (stateOf k g words bytes)) rules names rules′ names′ r) (sym e)
 
 module _ {kind : Kind} {g : Gathered} {words bytes : List ℕ} (h : Held kind (stateOf kind g words bytes) g words bytes) (f : Formed (stateOf kind g words bytes)) where
   abbrev st : SoFar

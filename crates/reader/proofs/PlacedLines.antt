@@ -120,8 +120,7 @@ module _ (stage : Stage) (j : ℕ) (words : List ℕ) (names : List (List ℕ)) 
       let long = written-length q (suc k) names inside in
       let classes : ClassesForm Preference (length words) j words = subst (λ (i : ℕ). ClassesForm Preference i j words) (sym same) (f .classes-form) in
       let size : length words + suc k ≡ length (writtenNames q (suc k) names) = omega arith in
-      let few : length (map (rename (placing q n (suc k))) rs) ≡ length rs = length-map rs (rename (placing q n (suc k))) in
-      (
+      let few : length (map (rename (placing q n (suc k))) rs) ≡ length rs = length-map rs (rename (placing q n (suc k))) in (
         record {
           atoms-fit = omega (arith, f .atoms-fit);
           rules-fit = omega (arith, f .rules-fit);

@@ -1,5 +1,6 @@
 // The lines of a text, one after another, into the scratch stores.
-use condition_line::condition_line;
+use condition_line::condition_line::opens_condition;
+use condition_line::condition_line::read_condition;
 use declaring::declared_line;
 use gathering::gathered::Gathered;
 use gathering::gathered::Line;
@@ -89,8 +90,8 @@ fn read_statement(
     ensures { λ r. ⌜ LineIs kind (stateOf kind gathered (now (words .entry)) (now (bytes .entry))) (formOf (now (line .entry))) (now (words .exit)) (now (bytes .entry)) (now (starts .entry)) (now (firsts .entry)) (now (links .entry)) r ⌝ }
     ensures { λ r. ⌜ MarksAre (now (marks .exit)) r ⌝ }
 {
-    if condition_line::opens_condition(line, kind) {
-        return condition_line::read_condition(line, gathered, words, bytes, starts, firsts, links);
+    if opens_condition(line, kind) {
+        return read_condition(line, gathered, words, bytes, starts, firsts, links);
     }
     rule_line::read_rule(
         line,
