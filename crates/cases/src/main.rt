@@ -70,6 +70,14 @@ fn other_states() {
     states(b"hand_typed.pref");
 }
 
+fn condition_states() {
+    states(b"conditions.pref");
+    states(b"broken_condition.pref");
+    states(b"deep_brackets.pref");
+    states(b"made_declared.pref");
+    states(b"made_undeclared.pref");
+}
+
 fn translations() {
     translation(b"no_state.pref");
     translation(b"too_long.pref");
@@ -77,10 +85,12 @@ fn translations() {
     translation(b"filled_not.pref");
     translation(b"plain.plain");
     translation(b"long_translation.pref");
+    translation(b"conditions.pref");
 }
 
 fn main() {
     first_states();
     other_states();
+    condition_states();
     translations();
 }

@@ -30,17 +30,6 @@ abbrev written : Said → List ℕ
 written (accepted p names) = textOf p names
 written (refused r k) = []
 
--- the marked condition: T.1 for `not`, T.2 for `and`, T.3 for `or`, and nine rules in that sequence; the fixed atom stands behind the made ones
-nine-rules :
-    written (said (bytes "(vary a b c)\n(fix d)\n(when not (a and b) or c (then d))\n"))
-    ≡ bytes "(vary a b c T.1 T.2 T.3)\n(fix d)\n"
-    ++ (bytes "(rule (head T.1 T.2) (body) (not))\n(rule (head) (body T.1 T.2) (not))\n"
-    ++ (bytes "(rule (head T.2) (body a b) (not))\n(rule (head a) (body T.2) (not))\n(rule (head b) (body T.2) (not))\n"
-    ++ (bytes "(rule (head T.1 c) (body T.3) (not))\n(rule (head T.3) (body T.1) (not))\n(rule (head T.3) (body c) (not))\n"
-    ++ bytes "(rule (head d) (body T.3) (not))\n")))
-unfolding said typed start kindOf readLines lines linesFrom lineLength tokens tokensFrom run openedOf splitNames splitList declaredForm ruleForm splitThen whenForm pairs wordsIn tokenForm typedForm formOf twice nameNumber declare addRule addCondition sortOf namesIn connectivesIn deeper withAnd withOr endingOf parseFrom parse nameClass commonName? atomNumber? madeName? madeName house? classNumber? value allowed sameBytes digits once connectiveRules inFile conditionRules placed unfixed placedWords placing writtenNames remaining remainingNames restrict used textOf listLine openText ruleLine
-nine-rules = refl
-
 -- `a and a`, `not not a`, and a condition of one name among rules; unused names are left out
 small-conditions :
     All (λ (c : List ℕ × List ℕ). written (said (c .0)) ≡ c .1)

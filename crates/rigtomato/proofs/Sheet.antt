@@ -1,17 +1,21 @@
 -- The marked cases, by computation.
 use mathlib.Core.Path.{refl}
-use Rattle.names.specs.Names.{nameClass, commonName?, madeName?, house?, classNumber?, allowed}
+use Rattle.names.specs.Names.{nameClass, commonName?, atomNumber?, madeName?, madeName, house?, classNumber?, allowed}
 use Rattle.stores.specs.RuleStore.{encode, ruleAt, rulesFrom, decode}
 use Rattle.name_store.specs.NameStore.{sameBytes, encodeNames, decodeNames}
 use Rattle.text.specs.Text.{listLine, openText, ruleLine, textOf}
 use Rattle.lines.specs.Lines.{lines, linesFrom, lineLength}
 use Rattle.lines.specs.Tokens.{run, tokensFrom, tokens}
-use Rattle.lines.specs.Forms.{openedOf, splitNames, splitList, declaredForm, ruleForm, tokenForm, typedForm, formOf}
-use Rattle.lines.specs.Faults.{twice, nameNumber, declare, addRule}
+use Rattle.conditions.specs.Written.{once, connectiveRules}
+use Rattle.conditions.specs.Numbers.{unfixed, placedWords, inFile, conditionRules, placing}
+use Rattle.conditions.specs.Left.{writtenNames}
+use Rattle.lines.specs.Conditions.{sortOf, wordsIn, namesIn, connectivesIn, pairs, deeper, withAnd, withOr, endingOf, parseFrom, parse}
+use Rattle.lines.specs.Forms.{openedOf, splitNames, splitList, declaredForm, ruleForm, splitThen, whenForm, tokenForm, typedForm, formOf}
+use Rattle.lines.specs.Faults.{twice, nameNumber, declare, addRule, addCondition}
 use Rattle.restriction.specs.Atoms.{used}
 use Rattle.restriction.specs.Remaining.{restrict, remaining, remainingNames}
 use Rattle.lines.specs.Strict.{spelled, strictText}
-use Rattle.lines.specs.Said.{kindOf, start, readLines, typed, said}
+use Rattle.lines.specs.Said.{kindOf, start, readLines, placed, typed, said}
 use Rattle.names.specs.Numerals.{value}
 use Rattle.clauses.specs.Items.{items as clauseItems, itemsFrom as clauseItemsFrom, run as clauseRun}
 use Rattle.clauses.specs.Tokens.{tokenOf}
@@ -34,10 +38,10 @@ use Rattle.answers.specs.WritingCanonical.{canonicalText, storesCanonical}
 use Rattle.answers.specs.Printed.{stateLine, totalLine}
 use Rattle.answers.specs.Listed.{listing, wholeListing, statesOf}
 use Rattle.answers.specs.Programs.{printed, statesPrinted}
-use Rattle.rigtomato.specs.Sheet.{rulesA, fileA, typedA, oneClass, lampFirst, darkFixed, nothing, emptyRule, oneRule, unused, unusedLong, unusedTwice, plainUnused, plain, inverters, clauseFile, manyLiterals, falling, plainFalling, plainRising, Sheet}
+use Rattle.rigtomato.specs.Sheet.{rulesA, fileA, typedA, nineRules, nineWritten, visits, oneClass, lampFirst, darkFixed, nothing, emptyRule, oneRule, unused, unusedLong, unusedTwice, plainUnused, plain, inverters, clauseFile, manyLiterals, falling, plainFalling, plainRising, Sheet}
 
 pub sheet : Sheet
-unfolding rulesA fileA typedA oneClass lampFirst darkFixed nothing emptyRule oneRule unused unusedLong unusedTwice plainUnused plain inverters clauseFile manyLiterals falling plainFalling plainRising nameClass commonName? madeName? house? classNumber? allowed encode ruleAt rulesFrom decode sameBytes encodeNames decodeNames listLine openText ruleLine textOf lines linesFrom lineLength run tokensFrom tokens openedOf splitNames splitList declaredForm ruleForm tokenForm typedForm formOf kindOf spelled strictText twice nameNumber declare addRule start readLines typed restrict remaining remainingNames used said value clauseItems clauseItemsFrom clauseRun tokenOf headerLine clauseLine stepLine clauseNames readClauses clausesTyped clausesSaid declared step1 step2 step3 step4 step5 step6 step7 step8 step9 step10 translation translatedRules place closed? visited walkOrder preferredSets preferredWalk stableWalk candidates search capped preferredNeeds stableNeeds preferredVerdict stableVerdict firstState cappedNext nextNeeds nextVerdict digits numbers compareLists compareRules tidy canonical canonicalProgram canonicalText storesText storesCanonical stateLine totalLine listing wholeListing printed statesOf statesPrinted
+unfolding rulesA fileA typedA nineRules nineWritten visits oneClass lampFirst darkFixed nothing emptyRule oneRule unused unusedLong unusedTwice plainUnused plain inverters clauseFile manyLiterals falling plainFalling plainRising nameClass commonName? atomNumber? madeName? madeName house? classNumber? allowed encode ruleAt rulesFrom decode sameBytes encodeNames decodeNames listLine openText ruleLine textOf lines linesFrom lineLength run tokensFrom tokens openedOf splitNames splitList declaredForm ruleForm tokenForm typedForm formOf kindOf spelled strictText twice nameNumber declare addRule addCondition sortOf wordsIn namesIn connectivesIn pairs deeper withAnd withOr endingOf parseFrom parse splitThen whenForm once connectiveRules inFile conditionRules unfixed placedWords placing writtenNames start readLines placed typed restrict remaining remainingNames used said value clauseItems clauseItemsFrom clauseRun tokenOf headerLine clauseLine stepLine clauseNames readClauses clausesTyped clausesSaid declared step1 step2 step3 step4 step5 step6 step7 step8 step9 step10 translation translatedRules place closed? visited walkOrder preferredSets preferredWalk stableWalk candidates search capped preferredNeeds stableNeeds preferredVerdict stableVerdict firstState cappedNext nextNeeds nextVerdict digits numbers compareLists compareRules tidy canonical canonicalProgram canonicalText storesText storesCanonical stateLine totalLine listing wholeListing printed statesOf statesPrinted
 sheet = record {
   a-6 = refl;
   a-1 = refl;
@@ -106,4 +110,9 @@ sheet = record {
   comment-unended = refl;
   blank-alone = refl;
   typed-sorted = refl;
+  nine-written = refl;
+  visits-listed = refl;
+  no-condition = refl;
+  made-declared = refl;
+  made-undeclared = refl;
 }

@@ -1,11 +1,11 @@
--- The marked cases of document 01's "Sheets of known states", from the bytes of the files; the order of states is that of document 02, W-206, units are those of W-207, the counts of translations those of W-214, atoms that no rule has are left out by W-203, clause files are read by W-202, and canonical texts are those of W-205.
+-- The marked cases of document 01's "Sheets of known states", from the bytes of the files; the order of states is that of document 02, W-206, units are those of W-207, the counts of translations those of W-214, atoms that no rule has are left out by W-203, clause files are read by W-202, canonical texts are those of W-205, and conditions are read by W-208.
 use Prim.Native.Nat.{ℕ}
 use mathlib.Core.Path.{_≡_}
 use mathlib.Core.List.{List, [], _∷_, _++_}
 use lib.ListN.{length}
 use Rattle.kinds.specs.Limits.{budgetLimit}
 use Rattle.kinds.specs.Words.{bytes}
-use Rattle.kinds.specs.declared.refusals.Refusal.the-variants.{BrokenForm, Name, DeclaredTwice, Undeclared, Limit, BrokenClauses, LiteralBeyond}
+use Rattle.kinds.specs.declared.refusals.Refusal.the-variants.{BrokenForm, Name, DeclaredTwice, Undeclared, Limit, BrokenClauses, LiteralBeyond, BrokenCondition}
 use Rattle.rules.specs.Lists.{sum, flat, from}
 use Rattle.rules.specs.Rules.{occurrences}
 use Rattle.stores.specs.RuleStore.{encode}
@@ -39,6 +39,22 @@ fileA = bytes "(min sensor)\n(min lamp)\n(vary dark)\n(fix)\n" ++ rulesA
 -- A as a person types it
 unfoldable pub typedA : List ℕ
 typedA = bytes "; two faults\n\n(min sensor)  ; the graver one\n  ( min lamp )\n(vary dark)\n(fix)\n\n(rule(head sensor lamp)(body)(not))\n(rule (head dark) (body   lamp) (not)) ; lamps\n"
+
+-- the marked condition, and what is written for it
+unfoldable pub nineRules : List ℕ
+nineRules = bytes "(vary a b c)\n(fix d)\n(when not (a and b) or c (then d))\n"
+
+unfoldable pub nineWritten : List ℕ
+nineWritten =
+    bytes "(vary a b c T.1 T.2 T.3)\n(fix d)\n"
+    ++ (bytes "(rule (head T.1 T.2) (body) (not))\n(rule (head) (body T.1 T.2) (not))\n"
+    ++ (bytes "(rule (head T.2) (body a b) (not))\n(rule (head a) (body T.2) (not))\n(rule (head b) (body T.2) (not))\n"
+    ++ (bytes "(rule (head T.1 c) (body T.3) (not))\n(rule (head T.3) (body T.1) (not))\n(rule (head T.3) (body c) (not))\n"
+    ++ bytes "(rule (head d) (body T.3) (not))\n")))
+
+-- a visit without light is bad
+unfoldable pub visits : List ℕ
+visits = bytes "(min bad)\n(vary visit)\n(fix lit)\n(when visit and not lit (then bad))\n(rule (head visit) (body) (not))\n"
 
 -- A with one class `sensor lamp`
 unfoldable pub oneClass : List ℕ
@@ -248,3 +264,10 @@ pub record Sheet : Type 0 where
   pub comment-unended : said (bytes "(vary)\n(fix)\n; end") ≡ refused BrokenForm 3
   pub blank-alone : said (bytes "\n  ; nothing\n") ≡ refused BrokenForm 3
   pub typed-sorted : canonical (said typedA) ≡ fileA
+  -- T.1 for `not`, T.2 for `and`, T.3 for `or`, and nine rules in that sequence; states show what conditions made
+  pub nine-written : written (said nineRules) ≡ nineWritten
+  pub visits-listed : statesPrinted visits ≡ bytes "(state visit lit)\n(state bad visit T.1 T.2)\n(total 2)\n"
+  -- no condition; a made atom that is declared, and one that is typed though no line declares it
+  pub no-condition : said (bytes "(vary a b)\n(fix)\n(when a b (then a))\n") ≡ refused BrokenCondition 3
+  pub made-declared : said (bytes "(vary a T.1)\n(fix)\n(when not a (then a))\n") ≡ refused DeclaredTwice 3
+  pub made-undeclared : said (bytes "(vary a)\n(fix)\n(when not a (then a))\n(when T.1 (then a))\n") ≡ refused Undeclared 4
