@@ -1,14 +1,14 @@
 -- A condition that passed its tests: what is read of it, and the rules that are written.
 use Prim.Native.Nat.{ℕ, suc, _+_, _-_, _*_, _^_, _≤_, _<_, zero-le}
 use native.Mathlib.Omega.{arith}
-use mathlib.Core.Path.{_≡_, refl, sym, ap, _∙_, subst}
+use mathlib.Core.Path.{_≡_, sym, ap, _∙_, subst}
 use mathlib.Core.List.{List, [], _∷_, _++_}
 use mathlib.Core.Bool.{Bool, true, false, cond}
 use lib.ListN.{length, take, length-map}
-use Rattle.kinds.specs.Limits.{atomLimit, textLimit}
+use Rattle.kinds.specs.Limits.{atomLimit}
 use Rattle.kinds.specs.declared.limits.Kind.the-variants.{Preference}
 use Rattle.kinds.specs.declared.refusals.Refusal.the-variants.{Undeclared, Limit, BrokenCondition}
-use Rattle.rules.specs.Lists.{All, sum, from}
+use Rattle.rules.specs.Lists.{All, sum}
 use Rattle.rules.specs.Rules.{rule}
 use Rattle.rules.proofs.Lists.{all-from, all-app-r}
 use Rattle.name_store.specs.declared.index.Found.{Found}
@@ -30,7 +30,7 @@ use Rattle.numbering.proofs.NameNumbers.{named, unnamed}
 use Rattle.gathering.specs.declared.gathered.Gathered.{Gathered}
 use Rattle.gathering.specs.declared.gathered.Line.{Line}
 use Rattle.gathering.specs.Gathered.{stateOf, Held, HeldIndex, LineIs}
-use Rattle.gathering.proofs.HeldState.{atoms-is, held-small, known-starts, known-names}
+use Rattle.gathering.proofs.HeldState.{atoms-is, held-small, known-names}
 use Rattle.condition_parts.specs.declared.parts.Parse.{Parse}
 use Rattle.condition_parts.specs.declared.parts.Parse.the-variants as Parse
 use Rattle.condition_parts.specs.Parts.{Readable, Whole, ParseSays, ParseIs}

@@ -1,5 +1,5 @@
 -- A condition's line, test by test, and what it adds to the scratch stores.
-use Prim.Native.Nat.{ℕ, suc, _+_, _-_, _*_, _≤_, _<_}
+use Prim.Native.Nat.{ℕ, suc, _+_, _-_, _≤_, _<_}
 use native.Mathlib.Omega.{arith}
 use mathlib.Core.Path.{_≡_, refl, sym, ap, _∙_, subst}
 use mathlib.Core.List.{List, [], _∷_, _++_, append-assoc}
@@ -13,7 +13,6 @@ use Rattle.kinds.specs.Limits.{atomLimit, bracketLimit, textLimit, within}
 use Rattle.kinds.specs.declared.limits.Counts.{Counts}
 use Rattle.kinds.specs.declared.limits.Kind.{Kind}
 use Rattle.kinds.specs.declared.limits.Kind.the-variants.{Preference}
-use Rattle.kinds.specs.declared.refusals.Refusal.{Refusal}
 use Rattle.kinds.specs.declared.refusals.Refusal.the-variants.{BrokenForm, Name, DeclaredTwice, Undeclared, Limit, BrokenCondition, DeepBrackets}
 use Rattle.rules.specs.Lists.{All, some, sum, flat, from}
 use Rattle.rules.specs.Rules.{Rule, occurrences}
@@ -27,7 +26,7 @@ use Rattle.output.specs.Emitted.{Emitted}
 use Rattle.conditions.specs.Conditions.{Cond}
 use Rattle.conditions.specs.Numbers.{conditionRules}
 use Rattle.lines.specs.Tokens.{Token, tokens}
-use Rattle.lines.specs.Conditions.{namesIn, connectivesIn, pairs, deeper, Parsed, parsed, unparsed, parse}
+use Rattle.lines.specs.Conditions.{namesIn, connectivesIn, pairs, deeper, parsed, unparsed, parse}
 use Rattle.lines.specs.Forms.{condition, openedOf, formOf}
 use Rattle.lines.specs.declared.scan.Place.{Place}
 use Rattle.lines.specs.declared.scan.Place.the-variants as Place

@@ -4,14 +4,13 @@ use native.Mathlib.Omega.{arith}
 use mathlib.Core.Path.{_≡_, refl, sym, ap, ap₂, _∙_, subst, subst₂}
 use mathlib.Core.Bool.{Bool, true, false, cond}
 use mathlib.Core.Logic.{inr}
-use mathlib.Core.List.{List, [], _∷_, _++_, map}
+use mathlib.Core.List.{List, [], map}
 use lib.Dec.{ltb}
-use lib.ListN.{length, take, drop, take-append-drop}
+use lib.ListN.{length, take-append-drop}
 use borrow.Author.Tests.{lt-ltb}
-use Rattle.kinds.specs.declared.limits.Kind.{Kind}
 use Rattle.kinds.specs.declared.limits.Kind.the-variants.{Preference}
 use Rattle.rules.specs.Lists.{All, flat, from}
-use Rattle.rules.specs.Rules.{Rule, rename}
+use Rattle.rules.specs.Rules.{rename}
 use Rattle.rules.specs.Renumbering.{Within}
 use Rattle.rules.proofs.Lists.{all-imp}
 use Rattle.rules.proofs.Renumbering.{rename-itself}
@@ -21,7 +20,7 @@ use Rattle.restriction.specs.Remaining.{remaining, remainingNames}
 use Rattle.conditions.specs.Conditions.{Statement, madeAtoms}
 use Rattle.conditions.specs.Numbers.{unfixed, placedWords, placing, fileRules, placedRules}
 use Rattle.conditions.specs.Programs.{StatementForm, Typed, writtenProgram}
-use Rattle.conditions.specs.Left.{spoken, leftStatements, renameStatement, writtenNames}
+use Rattle.conditions.specs.Left.{spoken, leftStatements, writtenNames}
 use Rattle.conditions.specs.DirectReading.{DirectReading}
 use Rattle.conditions.proofs.Classes.{unfixed-le}
 use Rattle.conditions.proofs.InFile.{placing-rules}
@@ -33,7 +32,7 @@ use Rattle.conditions.proofs.DirectReading.{direct-reading}
 use Rattle.restriction.specs.Atoms.{placeIn}
 use Rattle.lines.specs.Lines.{lines}
 use Rattle.lines.specs.Faults.{SoFar}
-use Rattle.lines.specs.Said.{accepted, start, readLines, typed, programOf, placedBy, placed}
+use Rattle.lines.specs.Said.{accepted, start, readLines, programOf, placedBy, placed}
 use Rattle.faults.specs.EarliestFault.{Accepts}
 use Rattle.faults.proofs.EarliestFault.{typed-accepted}
 use Rattle.reader.specs.FormedState.{Formed}
@@ -41,7 +40,7 @@ use Rattle.reader.proofs.FormedLines.{start-formed}
 use Rattle.reader.proofs.PlacedLines.{lines-kind}
 use Rattle.reader.proofs.RoundTrip.{lines-read, whole-kind}
 use Rattle.condition_text.specs.Statements.{declaredNames, declaredWords, statementsFrom, statements}
-use Rattle.condition_text.specs.ReadDirectly.{plannerAtoms, plannerNames, plannerWords, plannerStatements, ReadDirectly}
+use Rattle.condition_text.specs.ReadDirectly.{ReadDirectly}
 use Rattle.condition_text.proofs.Stated.{Stated, Lastly, lines-stated}
 
 -- a last state of the form, and what it states

@@ -6,11 +6,11 @@ use lib.ListN.{replicate}
 use Rattle.kinds.specs.Words.{bytes, digits}
 use Rattle.kinds.specs.declared.refusals.Refusal.{Refusal}
 use Rattle.kinds.specs.declared.refusals.Refusal.the-variants.{BrokenForm, Name, DeclaredTwice, Undeclared, BrokenCondition, DeepBrackets}
-use Rattle.rules.specs.Lists.{All, flat}
+use Rattle.rules.specs.Lists.{All}
 use Rattle.names.specs.Numerals.{value}
 use Rattle.names.specs.Names.{nameClass, commonName?, atomNumber?, madeName?, madeName, house?, classNumber?, allowed}
 use Rattle.name_store.specs.NameStore.{sameBytes}
-use Rattle.conditions.specs.Conditions.{name, NOT, AND, OR, states, when}
+use Rattle.conditions.specs.Conditions.{name, NOT, AND, OR, when}
 use Rattle.conditions.specs.Written.{once, connectiveRules}
 use Rattle.conditions.specs.Numbers.{unfixed, placedWords, inFile, conditionRules, placing}
 use Rattle.conditions.specs.Left.{writtenNames}

@@ -1,14 +1,13 @@
 -- From what is gathered to what is delivered: the atoms that conditions made in their place.
 use Prim.Native.Nat.{ℕ, _+_, _≤_, _<_}
 use native.Mathlib.Omega.{arith}
-use mathlib.Core.Path.{_≡_, refl, sym, ap, _∙_, subst}
+use mathlib.Core.Path.{_≡_, refl, sym, _∙_, subst}
 use mathlib.Core.Bool.{true}
 use mathlib.Core.List.{List}
 use lib.ListN.{length}
 use Rattle.kinds.specs.Limits.{atomLimit}
 use Rattle.kinds.specs.declared.limits.Kind.{Kind}
 use Rattle.kinds.specs.declared.limits.Kind.the-variants.{Plain, Preference}
-use Rattle.rules.specs.Lists.{All}
 use Rattle.rules.specs.Renumbering.{Within}
 use Rattle.rules.proofs.Lists.{all-imp}
 use Rattle.stores.specs.Program.{ProgramForm, RuleForm}

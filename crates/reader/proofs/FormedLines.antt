@@ -1,23 +1,20 @@
 -- What holds after each line that passes: the state so far is of the form, and so is the program that it declares.
-use Prim.Native.Nat.{ℕ, zero, suc, _+_, _≤_, _<_}
+use Prim.Native.Nat.{ℕ, suc, _+_, _≤_, _<_}
 use native.Mathlib.Omega.{arith}
-use mathlib.Core.Path.{_≡_, refl, sym, ap, ap₂, _∙_, subst, subst₂}
-use mathlib.Core.Logic.{_⊎_, inl, inr, _≢_}
-use mathlib.Core.Bool.{Bool, true, false, cond}
+use mathlib.Core.Path.{_≡_, refl, sym, _∙_, subst}
 use mathlib.Core.List.{List, [], _∷_, _++_, map, append-nil}
 use lib.Dec.{T}
-use lib.ListN.{length, replicate, take, drop, length-append, length-map}
-use Rattle.kinds.specs.Limits.{atomLimit, ruleLimit, occurrenceLimit, classLimit, varying, fixed}
+use lib.ListN.{length, replicate}
+use Rattle.kinds.specs.Limits.{classLimit, varying, fixed}
 use Rattle.kinds.specs.declared.limits.Kind.{Kind}
 use Rattle.kinds.specs.declared.limits.Kind.the-variants.{Plain, Preference}
-use Rattle.kinds.specs.declared.refusals.Refusal.the-variants.{BrokenForm}
-use Rattle.rules.specs.Lists.{All, Any, Distinct, sum, from}
+use Rattle.rules.specs.Lists.{All, from}
 use Rattle.rules.specs.Rules.{Rule, occurrences}
 use Rattle.rules.proofs.Lists.{all-app, all-imp, all-map, from-append}
 use Rattle.names.specs.Names.{allowed, madeName}
 use Rattle.name_store.specs.NameStore.{NamesForm}
-use Rattle.stores.specs.Program.{Program, ProgramForm, RoleForm, roleOf, ClassesForm, ListForm, NotForm, RuleForm}
-use Rattle.conditions.specs.Conditions.{Cond, namesOf, connectives}
+use Rattle.stores.specs.Program.{RoleForm, roleOf, ClassesForm, ListForm, NotForm, RuleForm}
+use Rattle.conditions.specs.Conditions.{Cond, namesOf}
 use Rattle.conditions.specs.Numbers.{conditionRules}
 use Rattle.conditions.proofs.InFile.{condition-forms}
 use Rattle.lines.specs.declared.stage.Stage.{Stage}
@@ -25,9 +22,9 @@ use Rattle.lines.specs.declared.stage.Stage.the-variants.{Declaring, Fixing, Ru
 use Rattle.lines.specs.Lines.{lines}
 use Rattle.lines.specs.Tokens.{Token}
 use Rattle.lines.specs.Conditions.{namesIn, connectivesIn}
-use Rattle.lines.specs.Forms.{Word, atoms, min, vary, fix, declares, rules, condition, blank, broken, formOf, LineForm}
-use Rattle.lines.specs.Faults.{SoFar, Step, next, fault, ruling?, nameNumber, declared, numbered, with-rule, with-condition, filled, stepForm}
-use Rattle.lines.specs.Said.{accepted, refused, kindOf, start, onStep, readLines, programOf, placed}
+use Rattle.lines.specs.Forms.{Word, atoms, min, vary, fix, declares, rules, condition, blank, broken, LineForm}
+use Rattle.lines.specs.Faults.{SoFar, next, ruling?, nameNumber, declared, numbered, with-rule, with-condition, filled, stepForm}
+use Rattle.lines.specs.Said.{kindOf, start}
 use Rattle.lines.proofs.Parsing.{parsed-connectives, parsed-names}
 use Rattle.faults.specs.Sentences.{Among, Comes, atoms-line, min-line, vary-line, fix-line}
 use Rattle.faults.proofs.Tests.{comes-law}

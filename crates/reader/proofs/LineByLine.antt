@@ -1,5 +1,5 @@
 -- The walk over the lines of a text.
-use Prim.Native.Nat.{ℕ, suc, _+_, _*_, _-_, _≤_, _<_, zero-le}
+use Prim.Native.Nat.{ℕ, suc, _+_, _-_, _≤_, _<_, zero-le}
 use native.Mathlib.Numerals.{add-one}
 use native.Mathlib.Omega.{arith}
 use mathlib.Core.Path.{_≡_, refl, sym, ap, _∙_, subst}
@@ -17,7 +17,6 @@ use Rattle.kinds.specs.declared.refusals.Refusal.the-variants.{BrokenForm}
 use Rattle.gathering.specs.declared.gathered.Gathered.{Gathered}
 use Rattle.gathering.specs.declared.gathered.Line.{Line}
 use Rattle.gathering.specs.declared.gathered.Line.the-variants.{Next, Fault}
-use Rattle.stores.specs.Checking.{Below}
 use Rattle.reader.specs.declared.reading.Gather.{Gather}
 use Rattle.reader.specs.declared.reading.Gather.the-variants.{Whole, Refused}
 use Rattle.lines.specs.Lines.{lineLength, linesFrom, lines}
@@ -27,7 +26,7 @@ use Rattle.lines.specs.Tokens.{Token, tokens}
 use Rattle.lines.specs.Shapes.{opensWith, OpenedSays, OpenedIs}
 use Rattle.lines.specs.Forms.{Opened, opened, unopened, openedOf, LineForm, declares, rules, condition, blank, broken, formOf}
 use Rattle.conditions.specs.Numbers.{conditionRules}
-use Rattle.lines.specs.Faults.{SoFar, next, fault, ruling?, nameNumber, numbered, stepForm}
+use Rattle.lines.specs.Faults.{SoFar, next, ruling?, nameNumber, numbered, stepForm}
 use Rattle.lines.specs.Said.{Said, accepted, refused, kindOpened, kindBy, kindOf, onStep, readLines, start, programOf, placed}
 use Rattle.gathering.specs.Gathered.{stateOf, Held, HeldIndex, HeldMarks, LineSays, LineIs, MarksSay, MarksAre}
 use Rattle.reader.specs.FormedState.{Formed}

@@ -1,7 +1,7 @@
 -- What holds of what the lines so far say.
-use Prim.Native.Nat.{ℕ, _+_, _≤_}
+use Prim.Native.Nat.{_+_, _≤_}
 use mathlib.Core.Path.{_≡_}
-use mathlib.Core.List.{List, []}
+use mathlib.Core.List.{[]}
 use lib.ListN.{length}
 use Rattle.kinds.specs.Limits.{atomLimit, ruleLimit, occurrenceLimit, varying}
 use Rattle.kinds.specs.declared.limits.Kind.{Kind}
