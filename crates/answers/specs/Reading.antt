@@ -1,4 +1,4 @@
--- The reader's answer and what it leaves in the two lent outputs; refusal 9 comes after 1 to 8.
+-- The reader's answer and what it leaves in the two lent outputs; refusal 9 comes after 1 to 8, 17 and 18.
 use Prim.Native.Nat.{ℕ}
 use mathlib.Core.Bool.{cond, _&&_}
 use mathlib.Core.List.{List, []}

@@ -1,6 +1,6 @@
 -- What is left of a file with conditions: the planner's atoms that stand in a rule or a condition (document 02, W-203 and W-208).
 use Prim.Native.Nat.{ℕ}
-use mathlib.Core.List.{List, _++_, map}
+use mathlib.Core.List.{List, map}
 use Rattle.names.specs.Names.{madeName}
 use Rattle.rules.specs.Lists.{filter, flat, from}
 use Rattle.rules.specs.Rules.{rename}

@@ -1,4 +1,4 @@
--- The limits of the two kinds of file (document 01, the table of "The two kinds of file"; document 02, W-201).
+-- The limits of the two kinds of file (document 01, the table of "The two kinds of file"; document 02, W-201 and W-208).
 use mathlib.Core.Bool.{Bool, _&&_}
 use Prim.Native.Nat.{ℕ, _^_}
 use lib.Dec.{leb}

@@ -1,4 +1,4 @@
--- The faults of one line, the lowest number first (document 01, "Who can be turned back").
+-- The faults of one line, the lowest number first (document 01, "Who can be turned back"), 17 and 18 directly after 2 (document 02, W-208).
 use Prim.Native.Nat.{ℕ, suc, _+_}
 use mathlib.Core.Bool.{Bool, true, false, cond, not, _&&_, _||_}
 use mathlib.Core.List.{List, [], _∷_, _++_, map}

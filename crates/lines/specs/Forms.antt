@@ -1,4 +1,4 @@
--- The forms of a line by its brackets and words (document 01, "The two kinds of file"; document 02, W-205). A name that is no name of any kind breaks its line's form (refusal 2).
+-- The forms of a line by its brackets and words (document 01, "The two kinds of file"; document 02, W-205 and W-208). A name that is no name of any kind breaks its line's form (refusal 2).
 use Prim.Native.Nat.{ℕ}
 use mathlib.Core.Bool.{Bool, true, false, cond}
 use mathlib.Core.List.{List, [], _∷_, _++_}

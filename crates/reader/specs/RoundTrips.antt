@@ -1,4 +1,4 @@
--- What the writer gives for stores that were read, and the reader for a text that was written (document 01, "The writer gives for an accepted text's stores the same text"; document 02, W-203 and W-205).
+-- What the writer gives for stores that were read, and the reader for a text that was written (document 01, "The writer gives for an accepted text's stores the same text"; document 02, W-203, W-205 and W-208).
 use Prim.Native.Nat.{ℕ}
 use mathlib.Core.Path.{_≡_}
 use mathlib.Core.Logic.{_↔_}

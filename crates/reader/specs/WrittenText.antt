@@ -1,4 +1,4 @@
--- The texts that are written from two stores of the form (document 01, the rule store and the name store), and the texts that are accepted (document 02, W-205).
+-- The texts that are written from two stores of the form (document 01, the rule store and the name store), and the texts without conditions that are accepted (document 02, W-205 and W-208).
 use Prim.Native.Nat.{ℕ, _≤_}
 use mathlib.Core.Path.{_≡_}
 use mathlib.Core.List.{List}
