@@ -100,9 +100,9 @@ fn names_of_made_atoms() {
     assert_eq!(refused, Err(Refusal::NameStore));
 }
 
-/// The longest lines on a thread of the ordinary size.
+/// The longest and the deepest lines on a thread with a stack of one megabyte.
 #[test]
-fn an_ordinary_thread_is_enough() {
+fn a_megabyte_of_stack_is_enough() {
     let work = || {
         let file = |condition: String| format!("(vary a)\n(fix)\n(when {condition} (then a))\n");
         let nots = file(format!("{}a", "not ".repeat(229_000)));
@@ -116,5 +116,6 @@ fn an_ordinary_thread_is_enough() {
         let deepest = format!("{}{}", "not ".repeat(223), nested(32));
         assert_eq!(read(&file(deepest)).atoms(), 256);
     };
-    std::thread::spawn(work).join().unwrap();
+    let thread = std::thread::Builder::new().stack_size(1 << 20);
+    thread.spawn(work).unwrap().join().unwrap();
 }
