@@ -1,59 +1,46 @@
 -- Brackets and words of a condition, by their places.
-use Prim.Native.Nat.{ℕ, _+_, _<_, _≤_}
-use native.Mathlib.Numerals.{add-one}
+use Prim.Native.Nat.{ℕ, _+_, _≤_}
 use native.Mathlib.Omega.{arith}
 use mathlib.Core.Path.{_≡_, refl, sym, ap, _∙_, subst}
 use mathlib.Core.Bool.{Bool, true, false}
 use mathlib.Core.List.{List, [], _∷_}
 use lib.Dec.{T}
-use lib.ListN.{length, getD, drop}
-use lib.Seq.{drop-cons, drop-drop}
-use Rattle.kinds.specs.Words.{space, open-bracket}
+use lib.ListN.{length, drop}
+use Rattle.kinds.specs.Words.{open-bracket, close-bracket}
 use Rattle.name_store.specs.NameStore.{sameBytes}
 use Rattle.name_store.proofs.NameStores.{same-law}
+use Rattle.lines.specs.declared.scan.Bracket.{Bracket}
+use Rattle.lines.specs.declared.scan.Bracket.the-variants as Bracket
 use Rattle.lines.specs.declared.scan.Item.{Item}
 use Rattle.lines.specs.declared.scan.Item.the-variants.{At, Stop}
 use Rattle.lines.specs.declared.scan.Place.{Place}
 use Rattle.lines.specs.declared.scan.Place.the-variants as Place
 use Rattle.lines.specs.Tokens.{Token, opening, closing, word, tokens, leading, items}
-use Rattle.lines.specs.Shapes.{gap, itemOf}
-use Rattle.lines.proofs.TokenPlaces.{past-gap, First, is-end, is-space, is-open, is-close, is-other, first-of, end-tokens, open-tokens, close-tokens, word-tokens, items-end, item-fits, item-long, item, word-is}
-use Rattle.lines.proofs.BracketPlaces.{nothing-out, tokens-at}
+use Rattle.lines.specs.Shapes.{itemOf, ByteBehind, bracket?, BracketSays, BracketIs}
+use Rattle.lines.proofs.TokenPlaces.{items-end, item-fits, item-long, item, word-is}
+use Rattle.lines.proofs.TokenCuts.{opening-is, closing-is}
 use Rattle.condition_parts.specs.Places.{Past, opens?, leads?, OpeningSays, OpeningIs, WordSays, WordIs}
 
--- an opening bracket behind the gap at a place
-module _ (s : List ℕ) (at : ℕ) {g : ℕ} (e : g ≡ gap (drop at s)) where
-  pub opening-out : length s ≤ at + g → OpeningIs s at Place.Absent
-  opening-out l = record { says = ap opens? (nothing-out s at e l) }
+-- an opening bracket
+module _ (s : List ℕ) (at : ℕ) {q : Bracket} (c : BracketIs s at q) where
+  pub opening-here : {p : ℕ} → q ≡ Bracket.Opening p → OpeningIs s at (Place.At (p + 1))
+  opening-here {p} f =
+      let h : ByteBehind s at open-bracket p = subst (BracketSays s at) f (c .says) in
+      record { says = (record { inside = omega (arith, h .inside); onward = omega (arith, h .place) }, opening-is h refl) }
 
-  module _ (l : at + g < length s) where
-    abbrev b : ℕ
-    b = getD s (at + g) 0
+  pub closing-here : {p : ℕ} → q ≡ Bracket.Closing p → OpeningIs s at Place.Absent
+  closing-here {p} f =
+      let h : ByteBehind s at close-bracket p = subst (BracketSays s at) f (c .says) in
+      record { says = ap opens? (closing-is h refl) }
 
-    abbrev rest : List ℕ
-    rest = drop (at + g + 1) s
-
-    front : drop (at + g) s ≡ b ∷ rest
-    front = drop-cons s (at + g) 0 l ∙ ap (λ (k : ℕ). b ∷ drop k s) (sym (add-one (at + g)))
-
-    no-space : b ≡ space → ⊥
-    no-space = past-gap (drop at s) b rest (drop-drop (gap (drop at s)) at s ∙ ap (λ (k : ℕ). drop (at + k) s) (sym e) ∙ front)
-
-    all : tokens (drop at s) ≡ tokens (b ∷ rest)
-    all = tokens-at s at e ∙ ap tokens front
-
-    pub opening-here : b ≡ open-bracket → OpeningIs s at (Place.At (at + g + 1))
-    opening-here f = record { says = (record { inside = omega arith; onward = omega arith }, all ∙ open-tokens b rest f) }
-
-    pub no-opening : (b ≡ open-bracket → ⊥) → OpeningIs s at Place.Absent
-    no-opening n = record { says = ap opens? all ∙ go (first-of b) }
-      where
-        go : First b → opens? (tokens (b ∷ rest)) ≡ false
-        go (is-end f) = ap opens? (end-tokens b rest f)
-        go (is-space f) = absurd (no-space f)
-        go (is-open f) = absurd (n f)
-        go (is-close f) = ap opens? (close-tokens b rest f)
-        go (is-other f) = ap opens? (word-tokens b rest f)
+  pub no-bracket : q ≡ Bracket.Absent → OpeningIs s at Place.Absent
+  no-bracket f = record { says = go (tokens (drop at s)) (subst (BracketSays s at) f (c .says)) }
+    where
+      go : (ts : List Token) → bracket? ts ≡ false → opens? ts ≡ false
+      go [] p = refl
+      go (opening ∷ ts) p = p
+      go (closing ∷ ts) p = refl
+      go (word x ∷ ts) p = refl
 
 -- a word
 module _ (s : List ℕ) (at : ℕ) (w : List ℕ) {r : Item} (e : r ≡ itemOf (drop at s)) where

@@ -1,5 +1,6 @@
 // Where brackets and words of a condition stand.
 use lines::scan;
+use lines::scan::Bracket;
 use lines::scan::Item;
 use lines::scan::Place;
 use name_store::index;
@@ -12,14 +13,11 @@ pub fn opening_at(s: &[u8], at: usize) -> Place
     requires { ⌜ at ≤ length (now s) ⌝ }
     ensures { λ r. ⌜ OpeningIs (now (s .entry)) at r ⌝ }
 {
-    let i = at + scan::gap_at(s, at);
-    if s.len() <= i {
-        return Place::Absent;
+    match scan::bracket_at(s, at) {
+        Bracket::Opening(place) => Place::At(place + 1),
+        Bracket::Closing(_) => Place::Absent,
+        Bracket::Absent => Place::Absent,
     }
-    if s[i] == b'(' {
-        return Place::At(i + 1);
-    }
-    Place::Absent
 }
 
 // The place behind `word` at `at`.

@@ -1,5 +1,5 @@
 -- The text of what the lines so far say is that of the lines as strict lines, if none of them is a condition.
-use Prim.Native.Nat.{ℕ, zero, suc, _+_, _≤_, _<_}
+use Prim.Native.Nat.{ℕ, suc, _+_, _≤_, _<_}
 use native.Mathlib.Omega.{arith}
 use mathlib.Core.Path.{_≡_, refl, sym, ap, ap₂, _∙_, subst₂}
 use mathlib.Core.Logic.{_≢_}
@@ -13,7 +13,8 @@ use Rattle.kinds.specs.declared.limits.Kind.the-variants.{Plain, Preference}
 use Rattle.kinds.specs.declared.refusals.Refusal.the-variants.{BrokenForm}
 use Rattle.rules.specs.Lists.{All, flat, from}
 use Rattle.rules.specs.Rules.{Rule}
-use Rattle.rules.proofs.Lists.{all-imp, all-from}
+use Rattle.rules.proofs.Lists.{all-imp, all-from, from-append}
+use Rattle.rules.proofs.ListLaws.{flat-append}
 use Rattle.stores.specs.Program.{Program}
 use Rattle.kinds.specs.Words.{atomsWord, minWord, varyWord, fixWord}
 use Rattle.text.specs.Text.{listLine, ruleLine, ruleText, declarations, textOf}
@@ -59,20 +60,18 @@ pub record Reached (st : SoFar) (text : List ℕ) : Type 0 where
 -- lists
 
 module _ {A B : Type 0} where
-  flat-app : (f : A → List B) (l m : List A) → flat f (l ++ m) ≡ flat f l ++ flat f m
-  flat-app f [] m = refl
-  flat-app f (x ∷ l) m = ap (λ r. f x ++ r) (flat-app f l m) ∙ sym (append-assoc (f x) (flat f l) (flat f m))
-
   flat-snoc : (f : A → List B) (l : List A) (x : A) → flat f (l ++ (x ∷ [])) ≡ flat f l ++ f x
-  flat-snoc f l x = flat-app f l (x ∷ []) ∙ ap (λ r. flat f l ++ r) (append-nil (f x))
+  flat-snoc f l x = flat-append f l (x ∷ []) ∙ ap (λ r. flat f l ++ r) (append-nil (f x))
 
   flat-same : (f g : A → List B) (l : List A) → All (λ a. f a ≡ g a) l → flat f l ≡ flat g l
   flat-same f g [] h = refl
   flat-same f g (x ∷ l) h = ap₂ _++_ (h .0) (flat-same f g l (h .1))
 
-from-snoc : (s c t : ℕ) → t ≡ s + c → from s (suc c) ≡ from s c ++ (t ∷ [])
-from-snoc s zero t e = ap (λ i. i ∷ []) (omega arith)
-from-snoc s (suc c) t e = ap (λ l. s ∷ l) (from-snoc (suc s) c t (omega arith))
+up-to-last : (k : ℕ) → from 1 (suc k) ≡ from 1 k ++ (suc k ∷ [])
+up-to-last k =
+    let last : suc k ≡ 1 + k = omega arith in
+    let more : k + 1 ≡ suc k = omega arith in
+    sym (ap (λ t. from 1 k ++ (t ∷ [])) last ∙ from-append 1 k 1 ∙ ap (from 1) more)
 
 -- a line that declares atoms
 
@@ -104,7 +103,7 @@ module _ {text : List ℕ} (k : ℕ) (words : List ℕ) (names : List (List ℕ)
   min-step : Reached (soFar Preference Declaring k words names rs m) text → Declares (soFar Preference Declaring k words names rs m) min xs → textAt Declaring Preference (declared (soFar Preference Declaring k words names rs m) min xs) ≡ text ++ listLine minWord xs
   min-step s d =
       let same : length words ≡ length names = s .formed .classes-form .1 in
-      ap (flat (λ j. listLine minWord (classNames (words ++ replicate (length xs) (suc k)) (names ++ xs) j))) (from-snoc 1 k (suc k) (omega arith))
+      ap (flat (λ j. listLine minWord (classNames (words ++ replicate (length xs) (suc k)) (names ++ xs) j))) (up-to-last k)
       ∙ flat-snoc (λ j. listLine minWord (classNames (words ++ replicate (length xs) (suc k)) (names ++ xs) j)) (from 1 k) (suc k)
       ∙ ap₂ _++_ (min-lines-kept k words names same (suc k) xs (omega arith) ∙ s .text-is) (line-new k words names same (suc k) xs minWord (all-imp (λ w. w ≤ k) (λ w. w < suc k) (λ w l. omega arith) words (s .formed .stage-form .0)))
 
