@@ -5,7 +5,7 @@ use native.Mathlib.Nat.{add-zero}
 use mathlib.Core.Path.{◌≡◌, refl, sym, ap, ap₂, ◌∙◌}
 use mathlib.Core.Bool.{Bool, true, false, not, cond}
 use mathlib.Core.List.{List, [], ◌∷◌, ◌++◌, append_assoc, append-nil}
-use lib.ListN.{length, get_or, drop, length_append, length_map}
+use lib.ListN.{length, get_or, drop, length-append, length-map}
 use lib.Seq.{sets, length-sets}
 use Rattle.rules.specs.Lists.{keep, filter}
 use Rattle.pairing.specs.Loops.{below, beyond}
@@ -24,11 +24,11 @@ cond_le false l u = u
 module _ (split : Split) (xs : List ℕ) where
   pub lows_length : length (lows split xs) ≡ count_below split.end xs
   unfolding lows count_below
-  lows_length = ap length (each_raised (below split.end) split.low xs) ∙ length_map (filter (below split.end) xs) (λ a. split.low + a)
+  lows_length = ap length (each_raised (below split.end) split.low xs) ∙ length-map (filter (below split.end) xs) (λ a. split.low + a)
 
   pub highs_length : length (highs split xs) + count_below split.end xs ≡ length xs
   unfolding highs count_below
-  highs_length = omega (arith, ap length (each_raised (beyond split.end) split.high xs), length_map (filter (beyond split.end) xs) (λ a. split.high + a), length_parts (below split.end) xs)
+  highs_length = omega (arith, ap length (each_raised (beyond split.end) split.high xs), length-map (filter (beyond split.end) xs) (λ a. split.high + a), length_parts (below split.end) xs)
 
 pub few_below : (end : ℕ) (xs : List ℕ) → count_below end xs ≤ length xs
 unfolding count_below
@@ -79,10 +79,10 @@ module _ {split : Split} {xs before : List ℕ} {at behind i : ℕ} {now : List 
   highs_next e = (list_next (raised (beyond split.end) split.high) xs l).is ∙ ap (λ (t : Bool). keep (not t) higher [] ++ highs split (drop (i + 1) xs)) e
 
   low_room : below split.end a ≡ true → low + 1 ≤ behind
-  low_room e = omega (arith, h.low_is, h.fits.apart, ap length h.low_all, length_append h.low_written (lows split (drop i xs)), ap length (lows_next e))
+  low_room e = omega (arith, h.low_is, h.fits.apart, ap length h.low_all, length-append h.low_written (lows split (drop i xs)), ap length (lows_next e))
 
   high_room : below split.end a ≡ false → high + 1 < 2 ^ 63
-  high_room e = omega (arith, h.high_is, h.fits.range.below, ap length h.high_all, length_append h.high_written (highs split (drop i xs)), ap length (highs_next e))
+  high_room e = omega (arith, h.high_is, h.fits.range.below, ap length h.high_all, length-append h.high_written (highs split (drop i xs)), ap length (highs_next e))
 
   -- the place is a number that the code can hold
   pub place_range : cond (below split.end a) low high + 1 < 2 ^ 63
@@ -107,7 +107,7 @@ module _ {split : Split} {xs before : List ℕ} {at behind i : ℕ} {now : List 
         high_written = h.high_written;
         low_all = append_assoc h.low_written (lower ∷ []) _ ∙ ap (λ (r : List ℕ). h.low_written ++ r) (sym (lows_next e)) ∙ h.low_all;
         high_all = ap (λ (r : List ℕ). h.high_written ++ r) (sym (highs_next e)) ∙ h.high_all;
-        low_is = omega (arith, f, h.low_is, length_append h.low_written (lower ∷ []));
+        low_is = omega (arith, f, h.low_is, length-append h.low_written (lower ∷ []));
         high_is = g ∙ h.high_is;
         so =
             n ∙ ap (λ (t : Bool). sets now (cond t low high) ((cond t split.low split.high + a) ∷ [])) e
@@ -123,7 +123,7 @@ module _ {split : Split} {xs before : List ℕ} {at behind i : ℕ} {now : List 
         low_all = ap (λ (r : List ℕ). h.low_written ++ r) (sym (lows_next e)) ∙ h.low_all;
         high_all = append_assoc h.high_written (higher ∷ []) _ ∙ ap (λ (r : List ℕ). h.high_written ++ r) (sym (highs_next e)) ∙ h.high_all;
         low_is = f ∙ h.low_is;
-        high_is = omega (arith, g, h.high_is, length_append h.high_written (higher ∷ []));
+        high_is = omega (arith, g, h.high_is, length-append h.high_written (higher ∷ []));
         so =
             n ∙ ap (λ (t : Bool). sets now (cond t low high) ((cond t split.low split.high + a) ∷ [])) e
             ∙ ap (λ (d : List ℕ). sets d high (higher ∷ [])) h.so
@@ -148,10 +148,10 @@ module _ {split : Split} {xs before : List ℕ} {at behind i : ℕ} {now : List 
       h.so ∙ ap₂ (λ (u v : List ℕ). sets (sets before at u) behind v) low-whole high-whole
 
   pub low_small : low < 2 ^ 63
-  low_small = omega (arith, h.low_is, h.fits.apart, h.fits.range.below, ap length h.low_all, length_append h.low_written (lows split (drop i xs)))
+  low_small = omega (arith, h.low_is, h.fits.apart, h.fits.range.below, ap length h.low_all, length-append h.low_written (lows split (drop i xs)))
 
   pub high_small : high < 2 ^ 63
-  high_small = omega (arith, h.high_is, h.fits.range.below, ap length h.high_all, length_append h.high_written (highs split (drop i xs)))
+  high_small = omega (arith, h.high_is, h.fits.range.below, ap length h.high_all, length-append h.high_written (highs split (drop i xs)))
 
   pub split_length : length now ≡ length before
   split_length = ap length h.so ∙ length-sets (sets before at h.low_written) behind h.high_written ∙ length-sets before at h.low_written

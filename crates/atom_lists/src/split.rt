@@ -9,7 +9,7 @@ ghost use Rattle.atom_lists.specs.Split.{count_below, split_into, SplitFits};
 use output::words::push;
 
 // The atoms below `end` are raised by `low`, the others by `high`.
-#[derive(Drop)]
+#[derive(Clone, Copy)]
 pub struct Split {
     pub end: u16,
     pub low: usize,

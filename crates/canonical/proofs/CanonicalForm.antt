@@ -4,7 +4,7 @@ use mathlib.Core.Path.{◌≡◌, refl, ap}
 use mathlib.Core.Logic.{◌≢◌}
 use mathlib.Core.List.{List, [], ◌∷◌, map}
 use native.Mathlib.Omega.{arith}
-use lib.ListN.{length, length_map}
+use lib.ListN.{length, length-map}
 use Rattle.kinds.specs.declared.limits.Kind.{Kind}
 use Rattle.kinds.specs.declared.limits.Kind.TheVariants.{Plain, Preference}
 use Rattle.rules.specs.Lists.{Distinct, sum}
@@ -74,7 +74,7 @@ tidy_occurrences (r ∷ rs) = omega (arith, ordered_fewer numbers r.head, ordere
 pub tidy_program_form : (p : Program) → ProgramForm p → ProgramForm (tidy_program p)
 tidy_program_form p f = record {
   atoms_fit = f.atoms_fit;
-  rules_fit_lem = omega (arith, f.rules_fit_lem, length_map p.rules tidy);
+  rules_fit_lem = omega (arith, f.rules_fit_lem, length-map p.rules tidy);
   occurrences_fit = omega (arith, f.occurrences_fit, tidy_occurrences p.rules);
   classes_form = f.classes_form;
   rule_forms = all_map (RuleForm p.kind p.atoms) tidy p.rules (all_imp (RuleForm p.kind p.atoms) (λ r. RuleForm p.kind p.atoms (tidy r)) (tidy_form p.kind p.atoms) p.rules f.rule_forms);

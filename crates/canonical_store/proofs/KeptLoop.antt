@@ -5,7 +5,7 @@ use mathlib.Core.Bool.{Bool, true, false}
 use mathlib.Core.List.{List, [], ◌∷◌, ◌++◌, map}
 use native.Mathlib.Omega.{arith}
 use native.Mathlib.Numerals.{add-one}
-use lib.ListN.{length, get_or, take, drop, drop_of_length-le, length_append, length-drop}
+use lib.ListN.{length, get_or, take, drop, drop_of_length-le, length-append, length-drop}
 use lib.Seq.{drop-cons, drop-drop, take-add, length-take-le}
 use Rattle.rules.specs.Lists.{keep, flat}
 use Rattle.rules.specs.Rules.{Rule}
@@ -102,7 +102,7 @@ rule_ahead {ws} {r} {p} h =
 -- two runs that are the whole
 module _ {whole run rest : List ℕ} (a : Ahead whole run rest) {d d₁ : List ℕ} {at at₁ : ℕ} (p : Emitted d at run d₁ at₁) where
   pub rest_range : InRange at whole → InRange at₁ rest
-  rest_range r = record { below = omega (arith, r.below, p.place, ap length a.is ∙ length_append run rest) }
+  rest_range r = record { below = omega (arith, r.below, p.place, ap length a.is ∙ length-append run rest) }
 
   pub both_runs : {d₂ : List ℕ} {at₂ : ℕ} → Emitted d₁ at₁ rest d₂ at₂ → Emitted d at whole d₂ at₂
   both_runs q = renamed (then p q) (sym a.is)

@@ -3,7 +3,7 @@ use Prim.Native.Nat.{ℕ, ◌+◌, ◌-◌, ◌≤◌}
 use mathlib.Core.Path.{◌≡◌, refl, sym, ap, ap₂, ◌∙◌, subst}
 use mathlib.Core.List.{List, [], ◌∷◌, ◌++◌, append-nil, append_assoc, map}
 use native.Mathlib.Omega.{arith}
-use lib.ListN.{length, get_or, take, drop, length_append, length-drop, length_map, drop_of_length-le, replicate, length-replicate}
+use lib.ListN.{length, get_or, take, drop, length-append, length-drop, length-map, drop_of_length-le, replicate, length-replicate}
 use lib.Seq.{take_at, length-take-le, sets-eq}
 use borrow.Rule.Slice.PartMut.{mid_of, put_mid}
 use Rattle.kinds.specs.Sizes.{store_words}
@@ -40,7 +40,7 @@ listed_front kind n (r ∷ rs) rest h l =
     let form : RuleForm kind n (rule_at (rule_words r ++ t)) = subst (RuleForm kind n) (sym (rule_front r t)) h.0 in
     subst (ListedRules (length (r ∷ rs))) (sym (append_assoc (rule_words r) (flat rule_words rs) rest)) (
       record {
-        inside = omega (arith, length_append (r.head ++ (r.body ++ r.nots)) t, length_append r.head (r.body ++ r.nots), length_append r.body r.nots);
+        inside = omega (arith, length-append (r.head ++ (r.body ++ r.nots)) t, length-append r.head (r.body ++ r.nots), length-append r.body r.nots);
         few = omega arith;
         heads = form.head_form.1;
         bodies = form.body_form.1;
@@ -84,7 +84,7 @@ module _ {ws : List ℕ} {p : Program} (s : StoreOf ws p) where
 
   size : length ws ≡ 4 + (class_count ws + length (flat rule_words p.rules))
   unfolding encode
-  size = sym (ap length s.words) ∙ (let e = length_append p.words (flat rule_words p.rules) in let k = words_length in omega arith)
+  size = sym (ap length s.words) ∙ (let e = length-append p.words (flat rule_words p.rules) in let k = words_length in omega arith)
 
   pub header : Header ws
   header = record { inside = let e = size in omega arith; short = let l = short in omega arith }
@@ -117,7 +117,7 @@ module _ {ws : List ℕ} {p : Program} (s : StoreOf ws p) where
         let after : new ++ drop (length ws - start) (drop start ws) ≡ flat rule_words (map tidy rs) = ap (λ (l : List ℕ). new ++ l) none ∙ append-nil new ∙ made in
         record {
           form = tidy_program_form p s.form;
-          words = sym (ap₂ (λ (x y : List ℕ). x ++ y) before after ∙ ap (λ (n : ℕ). kind_word p.kind ∷ p.atoms ∷ p.classes ∷ n ∷ (p.words ++ flat rule_words (map tidy rs))) (sym (length_map rs tidy)));
+          words = sym (ap₂ (λ (x y : List ℕ). x ++ y) before after ∙ ap (λ (n : ℕ). kind_word p.kind ∷ p.atoms ∷ p.classes ∷ n ∷ (p.words ++ flat rule_words (map tidy rs))) (sym (length-map rs tidy)));
         }
 
 -- once the lists are sorted
@@ -132,7 +132,7 @@ module _ {ws : List ℕ} {p : Program} (s : StoreOf ws p) {start count : ℕ} (e
   same_start = e ∙ ap (λ (n : ℕ). 4 + n) (class_count_lem s ∙ sym (class_count_lem t))
 
   as_many : count ≡ length (map tidy p.rules)
-  as_many = f ∙ sym (length_map p.rules tidy)
+  as_many = f ∙ sym (length-map p.rules tidy)
 
   -- what `sort_rules` requires
   pub stored : StoredRules (get_or ws 1 0) count (drop start words) × (length words ≤ 65536) × (count ≤ 65535)

@@ -3,7 +3,7 @@ use Prim.Native.Nat.{ℕ, ◌+◌, ◌-◌}
 use mathlib.Core.Path.{◌≡◌, ap, ap₂, ◌∙◌}
 use mathlib.Core.List.{List, [], ◌∷◌, ◌++◌}
 use native.Mathlib.Omega.{arith}
-use lib.ListN.{length, get_or, take, drop, length_append, length-drop}
+use lib.ListN.{length, get_or, take, drop, length-append, length-drop}
 use lib.Seq.{sets, length-take-le}
 use borrow.Author.Tests.{ne_eqb}
 use Rattle.rules.specs.Lists.{flat}
@@ -31,7 +31,7 @@ module _ (ws order : List ℕ) (h : Header ws) where
 
   kept_length : length (kept_words ws order) ≡ 4 + (class_count ws + length rules)
   unfolding kept_words
-  kept_length = let e = length_append (take (class_count ws) (drop 4 ws)) rules in let f = classes_length in omega arith
+  kept_length = let e = length-append (take (class_count ws) (drop 4 ws)) rules in let f = classes_length in omega arith
 
   module _ {start : ℕ} (s : start ≡ 4 + class_count ws) (r : InRange 0 (kept_words ws order)) where
     pub rules_range : InRange start rules

@@ -1,3 +1,4 @@
+#![tactic(auto)]
 // The rule store of the canonical program (document 02, W-205).
 pub mod sorted_store;
 pub mod written_rules;

@@ -13,7 +13,7 @@ use output::words::emit;
 use rule_sort::comparing::{compare_entries, parts_of};
 
 // Where the words of the rules end, and how many rules these are.
-#[derive(Drop)]
+#[derive(Clone, Copy)]
 pub struct Written {
     pub next: usize,
     pub rules: usize,

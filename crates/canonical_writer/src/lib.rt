@@ -1,3 +1,4 @@
+#![tactic(auto)]
 // Two stores to their canonical text (document 02, W-205).
 ghost use Rattle.std.specs.Prelude.{◌≡◌, ◌≤◌, length};
 ghost use Rattle.kinds.specs.Sizes.{store_words};

@@ -1,3 +1,4 @@
+#![tactic(auto)]
 // Runs the two programs' functions on each file of data/: every refusal that a file can meet is seen printed.
 use kinds::limits::Kind;
 

@@ -1,1 +1,2 @@
+#![tactic(auto)]
 // Definitions and laws of partial choices; no code.

@@ -4,13 +4,13 @@ use native.Mathlib.Nat.{add-zero}
 use native.Mathlib.Omega.{arith}
 use mathlib.Core.Path.{◌≡◌, refl, sym, ap, ◌∙◌}
 use mathlib.Core.List.{List, [], ◌∷◌}
-use mathlib.Core.Bool.{Bool, true, false, not, ◌||◌, or_true}
+use mathlib.Core.Bool.{Bool, true, false, not, ◌||◌, or-true}
 use lib.Dec.{eqb}
 use lib.ListN.{length, get_or, take, drop}
 use lib.Seq.{length-take-le, get_or-take, get_or-drop}
 use borrow.Author.Tests.{eq-eqb, ne_eqb}
 use Rattle.rules.specs.Lists.{every}
-use Rattle.rules.proofs.Booleans.{and_false}
+use Rattle.rules.proofs.Booleans.{and-false}
 use Rattle.names.specs.Numerals.{is_digit, is_numeral, value_from, value}
 use Rattle.names.proofs.Numerals.{digit_range}
 use Rattle.clauses.specs.Items.{is_separator, run}
@@ -107,7 +107,7 @@ module _ {line : List ℕ} {at to v : ℕ} (d : DigitsTo line at to v) where
     number_plain e = number_found (numeral_is ∙ simp (ne_eqb _ _ e))
 
     number_zero : to - at ≡ 1 → Value v to ≡ number_at at (drop at line)
-    number_zero e = number_found (numeral_is ∙ simp (eq-eqb _ _ e, or_true))
+    number_zero e = number_found (numeral_is ∙ simp (eq-eqb _ _ e, or-true))
 
 -- by the first byte
 module _ (line : List ℕ) (at : ℕ) where
@@ -138,7 +138,7 @@ module _ (line : List ℕ) (at : ℕ) where
           simp k
         where
           not_led : (b c : ℕ) (x : List ℕ) → b ≡ 48 → is_numeral (b ∷ c ∷ x) ≡ false
-          not_led b c x e = rw e (and_false (every is_digit (c ∷ x)))
+          not_led b c x e = rw e (and-false (every is_digit (c ∷ x)))
 
     -- another digit first
     pub number_ended : is_digit (get_or line at 0) ≡ true → (get_or line at 0 ≡ 48 → ⊥) → {i v : ℕ} → Digits line at i v → run (drop i line) ≡ 0 → Value v i ≡ number_at at (drop at line)

@@ -4,7 +4,7 @@ use native.Mathlib.Omega.{arith}
 use native.Mathlib.Decide.{dec_lt}
 use mathlib.Core.Path.{◌≡◌, refl, sym, ap, ap₂, ◌∙◌}
 use mathlib.Core.List.{List, [], ◌∷◌}
-use mathlib.Core.Bool.{true, or_true}
+use mathlib.Core.Bool.{true, or-true}
 use lib.ListN.{length, drop}
 use borrow.Author.Tests.{lt-ltb}
 use Rattle.kinds.specs.Words.{bytes}
@@ -73,7 +73,7 @@ capped_clauses : (v w : ℕ) → header_with v (capped w) ≡ header_with v w
 capped_clauses v w = go (dec_lt 1024 w)
   where
     go : Dec (1024 < w) → header_with v (capped w) ≡ header_with v w
-    go (yes l) = simp (lt-ltb 1024 w l, lt-ltb 1024 (capped w) ((capped_over w 1024 (omega arith)).1 l), or_true)
+    go (yes l) = simp (lt-ltb 1024 w l, lt-ltb 1024 (capped w) ((capped_over w 1024 (omega arith)).1 l), or-true)
     go (no l) = ap (header_with v) (capped_small w (omega arith))
 
 -- the number n stands first, and says v

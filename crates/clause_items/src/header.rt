@@ -11,7 +11,7 @@ use crate::numbers::{Number, is_separator, number_at, skip};
 use kinds::limits::Preference;
 use lines::scan::begins_at;
 
-#[derive(Drop)]
+#[derive(Clone, Copy)]
 pub enum Header {
     Taken { atoms: usize, clauses: usize },
     PastLimit,

@@ -8,7 +8,7 @@ ghost use Rattle.clause_items.specs.Found.{front, token_item, item_at};
 use crate::numbers::{Number, number_at, skip};
 
 // What stands next: nothing, something wrong, the 0 of a clause, or a literal with its atom's number, from 1; then where it ends.
-#[derive(Drop)]
+#[derive(Clone, Copy)]
 pub enum Item {
     Stop,
     Broken,

@@ -8,13 +8,13 @@ ghost use Rattle.clause_items.specs.Found.{largest, capped, gap, number_at};
 use names::forms::is_digit;
 
 // A number and where it ends, or an item that is none.
-#[derive(Drop)]
+#[derive(Clone, Copy)]
 pub enum Number {
     Value { value: usize, to: usize },
     Broken,
 }
 
-#[derive(Drop)]
+#[derive(Clone, Copy)]
 pub struct Largest;
 
 impl Largest {

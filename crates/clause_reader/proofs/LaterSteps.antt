@@ -11,7 +11,7 @@ use Rattle.kinds.specs.Limits.{atom_limit}
 use Rattle.kinds.specs.declared.limits.Kind.TheVariants.{Preference}
 use Rattle.kinds.specs.declared.refusals.Refusal.TheVariants.{BrokenClauses, LiteralBeyond, Limit}
 use Rattle.rules.specs.Lists.{some}
-use Rattle.rules.proofs.Booleans.{or_assoc, or_true}
+use Rattle.rules.proofs.Booleans.{or_assoc, or-true}
 use Rattle.clauses.specs.Items.{items, items_from}
 use Rattle.clauses.specs.Literals.{Literal, atom_of, signed}
 use Rattle.clauses.specs.Tokens.{Token, literal, ends, is_wrong, is_beyond, line_tokens}
@@ -48,7 +48,7 @@ module _ (n m k : ℕ) (u b : Bool) where
   -- more clauses have begun than the header has
   later_surplus : (ts : List Token) → m < k → later_refusal n m k u b ts ≡ BrokenClauses
   unfolding later_refusal
-  later_surplus ts l = rw (lt-ltb m (begun_after k u ts) (omega (arith, after_more k u ts)), or_true (some is_wrong ts))
+  later_surplus ts l = rw (lt-ltb m (begun_after k u ts) (omega (arith, after_more k u ts)), or-true (some is_wrong ts))
 
   later_end : {ts : List Token} → ts ≡ [] → k ≤ m → later_refusal n m k u b ts ≡ cond b LiteralBeyond Limit
   unfolding later_refusal

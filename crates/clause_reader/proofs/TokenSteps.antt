@@ -5,7 +5,7 @@ use mathlib.Core.Path.{◌≡◌, refl, sym, ap, ap₂, ◌∙◌}
 use mathlib.Core.Bool.{Bool, true, false, cond, not, ◌&&◌, ◌||◌}
 use mathlib.Core.List.{List, [], ◌∷◌, ◌++◌}
 use lib.Dec.{ltb}
-use lib.ListN.{length, length_append}
+use lib.ListN.{length, length-append}
 use borrow.Author.Tests.{lt-ltb, le-ltb}
 use Rattle.kinds.specs.Limits.{occurrence_limit}
 use Rattle.kinds.specs.declared.limits.Kind.TheVariants.{Preference}
@@ -13,7 +13,7 @@ use Rattle.kinds.specs.declared.refusals.Refusal.{Refusal}
 use Rattle.kinds.specs.declared.refusals.Refusal.TheVariants.{BrokenClauses, LiteralBeyond, Limit}
 use Rattle.rules.specs.Lists.{some, is_empty}
 use Rattle.rules.specs.Rules.{rule}
-use Rattle.rules.proofs.Booleans.{and_false}
+use Rattle.rules.proofs.Booleans.{and-false}
 use Rattle.restriction.specs.Atoms.{is_member}
 use Rattle.gathering.proofs.HeldState.{sum_last}
 use Rattle.clauses.specs.Literals.{Literal, positive, negative}
@@ -33,7 +33,7 @@ once_filled (x ∷ xs) a = go (is_member (x ∷ xs) a)
 
 pub literal_unended : (g : Gathered) (l : Literal) → is_closed (with_literal g l) ≡ false
 literal_unended g (positive a) = ap (λ b. b && is_empty g.bodies) (once_filled g.heads a)
-literal_unended g (negative a) = ap (λ b. is_empty g.heads && b) (once_filled g.bodies a) ∙ and_false (is_empty g.heads)
+literal_unended g (negative a) = ap (λ b. is_empty g.heads && b) (once_filled g.bodies a) ∙ and-false (is_empty g.heads)
 
 same_rules : (g : Gathered) (l : Literal) → length (with_literal g l).rules ≡ length g.rules
 same_rules g (positive a) = refl
@@ -44,7 +44,7 @@ pub begun_literal : (g : Gathered) (l : Literal) → begun (with_literal g l) �
 begun_literal g l = ap (λ b. cond b (length (with_literal g l).rules) (suc (length (with_literal g l).rules))) (literal_unended g l) ∙ ap suc (same_rules g l)
 
 pub begun_end : (g : Gathered) → begun (with_end g) ≡ suc (length g.rules)
-begun_end g = omega (arith, length_append g.rules (rule g.heads g.bodies [] ∷ []))
+begun_end g = omega (arith, length-append g.rules (rule g.heads g.bodies [] ∷ []))
 
 begun_cond : (b : Bool) (n : ℕ) → cond (not b) (cond b n (suc n)) (suc (cond b n (suc n))) ≡ suc n
 begun_cond true n = refl
@@ -78,7 +78,7 @@ once_longer xs a = go (is_member xs a)
   where
     go : (b : Bool) → length xs ≤ length (cond b xs (xs ++ (a ∷ [])))
     go true = omega arith
-    go false = omega (arith, length_append xs (a ∷ []))
+    go false = omega (arith, length-append xs (a ∷ []))
 
 occurrences_token : (g : Gathered) (t : Token) → occurrences_in g ≤ occurrences_in (with_token g t)
 occurrences_token g (literal (positive a)) = omega (arith, once_longer g.heads a)

@@ -14,21 +14,21 @@ use kinds::limits::Kind;
 use kinds::refusals::Refusal;
 
 // What the lines so far have given.
-#[derive(Drop)]
+#[derive(Clone, Copy)]
 pub enum Reading {
     Unheaded,
     Headed(ClauseCounts),
 }
 
 // What a line gives.
-#[derive(Drop)]
+#[derive(Clone, Copy)]
 pub enum Line {
     Next(Reading),
     Fault(Refusal),
 }
 
 // What an item gives, and where the next one is looked for.
-#[derive(Drop)]
+#[derive(Clone, Copy)]
 pub enum Progress {
     Next { counts: ClauseCounts, at: usize },
     Fault(Refusal),

@@ -9,7 +9,7 @@ use kinds::limits::Kind;
 use kinds::refusals::Refusal;
 
 // The clauses that have begun, whether the last one is unended, and whether a literal is beyond the header's atoms.
-#[derive(Drop)]
+#[derive(Clone, Copy)]
 pub struct Pending {
     pub begun: usize,
     pub unended: bool,
@@ -17,7 +17,7 @@ pub struct Pending {
 }
 
 // What an item leaves, and where the next one is looked for.
-#[derive(Drop)]
+#[derive(Clone, Copy)]
 pub enum Later {
     Next { pending: Pending, at: usize },
     Broken,

@@ -1,3 +1,4 @@
+#![tactic(auto)]
 // Clause files to the stores of a preference file (document 02, W-202).
 pub mod clause_line;
 pub mod later;

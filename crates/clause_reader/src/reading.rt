@@ -15,7 +15,7 @@ use kinds::refusals::Refusal;
 use lines::scan;
 
 // What the lines of a text give: the counts beside the filled scratch, or the earliest faulty line with its refusal.
-#[derive(Drop)]
+#[derive(Clone, Copy)]
 pub enum Gather {
     Whole(ClauseCounts),
     Refused { refusal: Refusal, line: usize },

@@ -5,7 +5,7 @@ use native.Mathlib.Numerals.{add-one}
 use native.Mathlib.Omega.{arith}
 use mathlib.Core.Path.{◌≡◌, ap, ◌∙◌, subst}
 use mathlib.Core.List.{List, [], ◌∷◌}
-use lib.ListN.{length, length_map}
+use lib.ListN.{length, length-map}
 use Rattle.kinds.specs.Limits.{atom_limit}
 use Rattle.kinds.specs.Sizes.{longest_name, longest_entry}
 use Rattle.kinds.specs.Words.{decimal}
@@ -44,7 +44,7 @@ module _ (a at : ℕ) (r : InRange at (name_bytes (clause_name a))) {before firs
 
 pub names_count : (n : ℕ) → length (clause_names n) ≡ n
 unfolding clause_names
-names_count n = length_map (from 0 n) clause_name ∙ length_from 0 n
+names_count n = length-map (from 0 n) clause_name ∙ length_from 0 n
 
 pub names_short : (n : ℕ) → length (encode_names (clause_names n)) ≤ longest_entry * n
 unfolding clause_names

@@ -3,7 +3,7 @@ use Prim.Native.Nat.{ℕ, ◌+◌, ◌≤◌, ◌<◌}
 use native.Mathlib.Omega.{arith}
 use mathlib.Core.Path.{◌≡◌, refl, sym, ap, ap₂, ◌∙◌, subst}
 use mathlib.Core.List.{List, [], ◌∷◌, ◌++◌, append_assoc, append-nil}
-use lib.ListN.{length, take, drop, replicate, length_append, length-replicate, take-append-drop}
+use lib.ListN.{length, take, drop, replicate, length-append, length-replicate, take-append-drop}
 use lib.Seq.{length-take-le, drop-drop, sets, sets-eq}
 use Rattle.kinds.specs.Limits.{atom_limit, rule_limit}
 use Rattle.kinds.specs.Sizes.{store_words}
@@ -110,7 +110,7 @@ module _ {g : Gathered} {c : ClauseCounts} {words bodies : List ℕ} (h : HeldCl
     new = rule g.heads g.bodies []
 
     new_length : length (rule_words new) ≡ 3 + c.heads + c.bodies
-    new_length = omega (arith, length_append g.heads (g.bodies ++ []), length_append g.bodies [], h.heads_are, h.bodies_are)
+    new_length = omega (arith, length-append g.heads (g.bodies ++ []), length-append g.bodies [], h.heads_are, h.bodies_are)
 
     module _ {last : List ℕ} {end : ℕ} (q : Emitted after (next + c.heads) (take c.bodies bodies) last end) where
       rule_end : end ≡ c.words + length (rule_words new)
@@ -142,7 +142,7 @@ module _ {g : Gathered} {c : ClauseCounts} {words bodies : List ℕ} (h : HeldCl
                   subst (λ d. Filled d 4 end (replicate c.atoms 1 ++ flat rule_words (with_end g).rules)) (sym rule_written)
                   (subst (λ k. Filled (sets words c.words (rule_words new)) 4 k (replicate c.atoms 1 ++ flat rule_words (with_end g).rules)) (sym rule_end)
                   (subst (Filled (sets words c.words (rule_words new)) 4 (c.words + length (rule_words new))) all filled));
-              rules_are = omega (arith, h.rules_are, length_append g.rules (new ∷ []));
+              rules_are = omega (arith, h.rules_are, length-append g.rules (new ∷ []));
               heads_stored = refl;
               heads_are = refl;
               bodies_stored = refl;

@@ -3,7 +3,7 @@ use Prim.Native.Nat.{ℕ, ◌+◌, ◌*◌}
 use native.Mathlib.Omega.{arith}
 use mathlib.Core.Path.{◌≡◌, sym, ap, ap₂, ◌∙◌}
 use mathlib.Core.List.{List, ◌++◌, append_assoc}
-use lib.ListN.{drop, replicate, length_append, length-replicate}
+use lib.ListN.{drop, replicate, length-append, length-replicate}
 use lib.Seq.{drop-drop, drop_at}
 use Rattle.rules.specs.Lists.{flat}
 use Rattle.stores.specs.RuleStore.{rule_words, rules_from}
@@ -33,7 +33,7 @@ module _ {g : Gathered} {c : ClauseCounts} {words bodies : List ℕ} (h : HeldCl
       omega (
         arith,
         h.stored.ends,
-        length_append (replicate c.atoms 1) (flat rule_words g.rules),
+        length-append (replicate c.atoms 1) (flat rule_words g.rules),
         length-replicate {A = ℕ} c.atoms 1,
         rules_length g.rules,
         h.rules_are,

@@ -7,7 +7,7 @@ use mathlib.Core.Path.{◌≡◌, refl, sym, ap, ap₂, ◌∙◌}
 use mathlib.Core.Bool.{true, false, cond, ◌||◌}
 use mathlib.Core.List.{List, [], ◌∷◌, ◌++◌}
 use lib.Dec.{eqb}
-use lib.ListN.{length, get_or, set, length_append, length-set}
+use lib.ListN.{length, get_or, set, length-append, length-set}
 use lib.Seq.{get_or-set_other}
 use borrow.Author.Tests.{eq-eqb, ne_eqb}
 use Rattle.kinds.specs.Limits.{atom_limit}
@@ -35,7 +35,7 @@ once_new xs a e = ap (λ b. cond b xs (xs ++ (a ∷ []))) e
 
 pub marked_end : {g : Gathered} {marks : List ℕ} → Marked g marks → Marked (with_end g) marks
 marked_end {g} {marks} m =
-    let more : length (with_end g).rules ≡ suc (length g.rules) = length_append g.rules _ ∙ add-one (length g.rules) in
+    let more : length (with_end g).rules ≡ suc (length g.rules) = length-append g.rules _ ∙ add-one (length g.rules) in
     let old : (p : ℕ) → eqb (get_or marks p 0) (suc (length (with_end g).rules)) ≡ false = λ p. ne_eqb (get_or marks p 0) (suc (length (with_end g).rules)) (λ e. omega (arith, m.below.mark p, more)) in
     record { below = below_more m.below (omega (arith, more)); heads = λ a l. old a; bodies = λ a l. old (atom_limit Preference + a); room = m.room }
 

@@ -5,7 +5,7 @@ use native.Mathlib.Omega.{arith}
 use mathlib.Core.Path.{◌≡◌, refl, sym, ap, ap₂, ◌∙◌, subst}
 use mathlib.Core.Bool.{Bool, true, false}
 use mathlib.Core.List.{List, [], ◌∷◌, ◌++◌}
-use lib.ListN.{length, get_or, take, drop, set, length_append, length-drop, length-set, take-append-drop}
+use lib.ListN.{length, get_or, take, drop, set, length-append, length-drop, length-set, take-append-drop}
 use lib.Seq.{take_at, take-set-le, take-suc-set, drop-set-add}
 use Rattle.kinds.specs.Limits.{atom_limit, occurrence_limit}
 use Rattle.kinds.specs.declared.limits.Kind.TheVariants.{Preference}
@@ -22,7 +22,7 @@ use Rattle.clause_rules.proofs.LiteralMarks.{with_head, with_body, head_there, b
 -- a word written behind what is filled
 fill_past : {d : List ℕ} {skipped used : ℕ} {list : List ℕ} → Filled d skipped used list → (p x : ℕ) → used ≤ p → Filled (set d p x) skipped used list
 fill_past {d} {skipped} {used} {list} f p x l =
-    let long : length (f.front ++ list) ≡ used = length_append f.front list ∙ omega (arith, f.before, f.ends) in
+    let long : length (f.front ++ list) ≡ used = length-append f.front list ∙ omega (arith, f.before, f.ends) in
     record {
       front = f.front;
       rest = drop used (set d p x);
@@ -80,7 +80,7 @@ module _ {g : Gathered} {c : ClauseCounts} {words bodies : List ℕ} (h : HeldCl
 
     hold_head : (a : ℕ) → HeldClauses (with_head g a) (head_counts c) (set words (c.words + 3 + c.heads) a) bodies
     hold_head a =
-        let longer = length_append g.heads (a ∷ []) in
+        let longer = length-append g.heads (a ∷ []) in
         record {
           stored = fill_past h.stored (c.words + 3 + c.heads) a (omega arith);
           rules_are = h.rules_are;
@@ -99,7 +99,7 @@ module _ {g : Gathered} {c : ClauseCounts} {words bodies : List ℕ} (h : HeldCl
 
     hold_body : (a : ℕ) → HeldClauses (with_body g a) (body_counts c) words (set bodies c.bodies a)
     hold_body a =
-        let longer = length_append g.bodies (a ∷ []) in
+        let longer = length-append g.bodies (a ∷ []) in
         record {
           stored = h.stored;
           rules_are = h.rules_are;
@@ -134,7 +134,7 @@ module _ {g : Gathered} {c : ClauseCounts} {words bodies : List ℕ} (h : HeldCl
       head_is = head_new m a below_limit (λ e. new (e ∙ sym stamp_is))
 
       pub head_full : c.occurrences ≡ occurrence_limit Preference → TakenIs g c (positive a) words bodies marks Full
-      head_full e = record { says = omega (arith, h.occurrences_are, length_append g.heads (a ∷ []), ap (λ s. length s.heads) head_is) }
+      head_full e = record { says = omega (arith, h.occurrences_are, length-append g.heads (a ∷ []), ap (λ s. length s.heads) head_is) }
 
       pub head_taken : (c.occurrences ≡ occurrence_limit Preference → ⊥)
           → TakenIs g c (positive a) (set words (c.words + 3 + c.heads) a) bodies (set marks a stamp) (Next (head_counts c))
@@ -145,7 +145,7 @@ module _ {g : Gathered} {c : ClauseCounts} {words bodies : List ℕ} (h : HeldCl
       body_is = body_new m a below_limit (λ e. new (e ∙ sym stamp_is))
 
       pub body_full : c.occurrences ≡ occurrence_limit Preference → TakenIs g c (negative a) words bodies marks Full
-      body_full e = record { says = omega (arith, h.occurrences_are, length_append g.bodies (a ∷ []), ap (λ s. length s.bodies) body_is) }
+      body_full e = record { says = omega (arith, h.occurrences_are, length-append g.bodies (a ∷ []), ap (λ s. length s.bodies) body_is) }
 
       pub body_taken : (c.occurrences ≡ occurrence_limit Preference → ⊥)
           → TakenIs g c (negative a) words (set bodies c.bodies a) (set marks (atom_limit Preference + a) stamp) (Next (body_counts c))

@@ -10,7 +10,7 @@ use kinds::limits::{Kind, Preference};
 use output::words::{emit, emit_copies};
 
 // What the lines so far have given: counts, beside the scratch that it is gathered in.
-#[derive(Drop)]
+#[derive(Clone, Copy)]
 pub struct ClauseCounts {
     // The header's numbers.
     pub atoms: usize,
@@ -26,7 +26,7 @@ pub struct ClauseCounts {
 }
 
 // A literal more, or one occurrence too many.
-#[derive(Drop)]
+#[derive(Clone, Copy)]
 pub enum Taken {
     Next(ClauseCounts),
     Full,

@@ -7,7 +7,7 @@ use mathlib.Core.Logic.Iff
 use mathlib.Core.Logic.{inl, inr}
 use mathlib.Core.Bool.{true, ◌||◌}
 use lib.Dec.{T, leb, eqb}
-use lib.ListN.{length, length_map}
+use lib.ListN.{length, length-map}
 use borrow.Author.Tests.{le-leb}
 use Rattle.kinds.specs.Limits.{atom_limit}
 use Rattle.kinds.specs.Words.{decimal}
@@ -39,7 +39,7 @@ name_allowed a =
 pub names_form : (n : ℕ) → n ≤ atom_limit Preference → NamesForm Preference n (clause_names n)
 unfolding clause_names
 names_form n l = record {
-  count = length_map (from 0 n) clause_name ∙ length_from 0 n;
+  count = length-map (from 0 n) clause_name ∙ length_from 0 n;
   all_allowed = all_map (λ x. T (allowed Preference x)) clause_name (from 0 n) (all_each (λ a. T (allowed Preference (clause_name a))) name_allowed (from 0 n));
   different = distinct_map clause_name (λ a. a < n) same (from 0 n) (all_from (λ a. a < n) 0 n (λ a low up. omega arith)) (distinct_from 0 n);
 }

@@ -8,7 +8,7 @@ use mathlib.Core.Bool.{Bool, true, false, cond, not, ◌||◌, or_comm}
 use lib.Dec.{T, eqb}
 use Rattle.rules.specs.Lists.{Any, every, some, from}
 use Rattle.rules.specs.Rules.{Rule, rule, Model, is_holding, is_model}
-use Rattle.rules.proofs.Booleans.{T_of, T-not-in, T-not-out, or_true, or_false}
+use Rattle.rules.proofs.Booleans.{T_of, T-not-in, T-not-out, or-true, or-false}
 use Rattle.rules.proofs.Lists.{all_imp, every_all, some_any, some_app, some_each}
 use Rattle.rules.proofs.ListLaws.{all_each}
 use Rattle.rules.proofs.MappedLists.{every_map, some_map}
@@ -78,7 +78,7 @@ some_once p xs a = go (is_member xs a) refl
 
     go : (b : Bool) → is_member xs a ≡ b → some p (cond b xs (xs ++ (a ∷ []))) ≡ (some p xs || p a)
     go true e = already (some p xs) (p a) (there (T_of (sym e) tt))
-    go false e = some_app p xs (a ∷ []) ∙ ap (λ (b : Bool). some p xs || b) (or_false (p a))
+    go false e = some_app p xs (a ∷ []) ∙ ap (λ (b : Bool). some p xs || b) (or-false (p a))
 
 module _ (p q : ℕ → Bool) where
   abbrev by_sign : Literal → Bool
@@ -86,12 +86,12 @@ module _ (p q : ℕ → Bool) where
   by_sign (negative a) = q a
 
   sides_from : (xs ys : List ℕ) (c : List Literal) → (some p (heads_from xs c) || some q (bodies_from ys c)) ≡ ((some p xs || some q ys) || some by_sign c)
-  sides_from xs ys [] = sym (or_false (some p xs || some q ys))
+  sides_from xs ys [] = sym (or-false (some p xs || some q ys))
   sides_from xs ys (positive a ∷ c) = sides_from (once xs a) ys c ∙ ap (λ (b : Bool). (b || some q ys) || some by_sign c) (some_once p xs a) ∙ moved (some p xs) (p a) (some q ys) (some by_sign c)
     where
       moved : (x a y r : Bool) → (((x || a) || y) || r) ≡ ((x || y) || (a || r))
       moved true a y r = refl
-      moved false true y r = sym (or_true y)
+      moved false true y r = sym (or-true y)
       moved false false y r = refl
   sides_from xs ys (negative a ∷ c) = sides_from xs (once ys a) c ∙ ap (λ (b : Bool). (some p xs || b) || some by_sign c) (some_once q ys a) ∙ moved (some p xs) (some q ys) (q a) (some by_sign c)
     where

@@ -6,7 +6,7 @@ use mathlib.Core.Logic.{◌↔◌}
 use mathlib.Core.List.{List, [], ◌∷◌}
 use mathlib.Core.Bool.{not}
 use lib.Dec.{T, eqb→eq, leb→le, le→leb}
-use lib.ListN.{length, length_append}
+use lib.ListN.{length, length-append}
 use Rattle.kinds.specs.Words.{byte, line_end_lem}
 use Rattle.rules.specs.Lists.{Any, some, is_empty}
 use Rattle.rules.proofs.Booleans.{eq_to_eqb}
@@ -23,14 +23,14 @@ use Rattle.clauses.specs.Sentences.{Ended, Comment, Filled, BeyondAtoms}
 
 ended_one : (b : ℕ) → Ended (b ∷ []) → b ≡ line_end_lem
 ended_one b ([], e) = cc
-ended_one b (c ∷ s, e) = absurd (omega (arith, ap length e, length_append s (line_end_lem ∷ [])))
+ended_one b (c ∷ s, e) = absurd (omega (arith, ap length e, length-append s (line_end_lem ∷ [])))
 
 ended_more : (b c : ℕ) (s : List ℕ) → Ended (b ∷ c ∷ s) → Ended (c ∷ s)
 ended_more b c s ([], e) = absurd (omega (arith, ap length e))
 ended_more b c s (d ∷ t, e) = (t, cc)
 
 pub ended_iff : (l : List ℕ) → T (is_ended l) ↔ Ended l
-ended_iff [] = (λ t. absurd t, λ h. omega (arith, ap length h.1, length_append h.0 (line_end_lem ∷ [])))
+ended_iff [] = (λ t. absurd t, λ h. omega (arith, ap length h.1, length-append h.0 (line_end_lem ∷ [])))
 ended_iff (b ∷ []) = (λ t. ([], ap (λ (c : ℕ). c ∷ []) (eqb→eq b line_end_lem t)), λ h. eq_to_eqb b line_end_lem (ended_one b h))
 ended_iff (b ∷ c ∷ s) = let r = ended_iff (c ∷ s) in (λ t. let h = r.0 t in (b ∷ h.0, ap (λ (m : List ℕ). b ∷ m) h.1), λ h. r.1 (ended_more b c s h))
 

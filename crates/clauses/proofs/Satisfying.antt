@@ -6,7 +6,7 @@ use mathlib.Core.Logic.Iff
 use mathlib.Core.Logic.{◌↔◌}
 use mathlib.Core.List.{List, [], ◌∷◌, map}
 use lib.Dec.{T}
-use lib.ListN.{length, get_or, drop, replicate, length_map, get_or-replicate}
+use lib.ListN.{length, get_or, drop, replicate, length-map, get_or-replicate}
 use Rattle.kinds.specs.declared.limits.Kind.TheVariants.{Preference}
 use Rattle.rules.specs.Lists.{All, flat, filter}
 use Rattle.rules.specs.Sets.{has, ProperSubset}
@@ -66,7 +66,7 @@ module _ (n : ℕ) (cs : List (List Literal)) (xs : List ℕ) (covers : Covers n
       same a h = let q = at_place xs a h in cut_at xs x (place_in xs a) q.0 ∙ ap (has x) q.1
 
   size : length ws ≡ length xs
-  size = length_map xs (λ a. get_or (replicate n 1) a 0)
+  size = length-map xs (λ a. get_or (replicate n 1) a 0)
 
   one : (a : ℕ) → a < length ws → get_or ws a 0 ≡ 1
   one a l = ap (λ (l : List ℕ). get_or l a 0) (one_class_lem n xs covers.inside) ∙ get_or-replicate (length xs) a 1 0 (omega (arith, size))
@@ -99,7 +99,7 @@ module _ (n : ℕ) (cs : List (List Literal)) (form : ProgramForm (clause_progra
     atoms_are = refl;
     kind_is = refl;
     one_class_lem = (refl, one_class_lem n (standing n cs) covers.inside);
-    a_rule_each = length_map (map clause_rule cs) (rename (place_in (standing n cs))) ∙ length_map cs clause_rule;
+    a_rule_each = length-map (map clause_rule cs) (rename (place_in (standing n cs))) ∙ length-map cs clause_rule;
     form = (subst ProgramForm left_is (remaining_form all form), subst (λ (p : Program). NamesForm p.kind p.atoms (remaining_names all (clause_names n))) left_is (remaining_names_lem all (clause_names n) form names));
     all_used = subst AllUsed left_is (all_used all refl);
     satisfying = satisfying n cs (standing n cs) covers;

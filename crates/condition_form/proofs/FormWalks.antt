@@ -12,7 +12,7 @@ use Rattle.kinds.specs.Words.{open_bracket, close_bracket}
 use Rattle.kinds.specs.declared.limits.Kind.{Kind}
 use Rattle.names.specs.Names.{name_class, allowed}
 use Rattle.rules.specs.Lists.{some, is_empty}
-use Rattle.rules.proofs.Booleans.{or_assoc, or_true, or_false}
+use Rattle.rules.proofs.Booleans.{or_assoc, or-true, or-false}
 use Rattle.lines.specs.declared.forms.NameFit.{NameFit}
 use Rattle.lines.specs.declared.forms.NameFit.TheVariants as Fit
 use Rattle.lines.specs.Tokens.{Token, opening, closing, word, run, tokens_from, tokens}
@@ -176,7 +176,7 @@ module _ {kind : Kind} {l : List ℕ} {from at last depth : ℕ} {refused : Bool
               at_last = ap (from_last (tokens (drop last l))) (sym all) ∙ h.at_last;
               one = ends ∙ t;
               are_names_lem = sym h.naming ∙ ap (λ ts. are_names (words_in ts)) all;
-              is_refused = sym (or_false refused) ∙ ap (λ ts. refused || some (refused_name kind) (words_in ts)) (sym all) ∙ h.refusing;
+              is_refused = sym (or-false refused) ∙ ap (λ ts. refused || some (refused_name kind) (words_in ts)) (sym all) ∙ h.refusing;
             };
           }
         where
@@ -233,7 +233,7 @@ module _ {kind : Kind} {l : List ℕ} {from at last depth : ℕ} {refused : Bool
 
     pub walk_taken : Walking kind l from to last depth refused
     unfolding allowed
-    walk_taken = let t = fit_says kind (x taken) (sym taken.fits) refl in walk_name taken t.0 (sym (ap (λ (y : Bool). refused || y) t.1 ∙ or_false refused))
+    walk_taken = let t = fit_says kind (x taken) (sym taken.fits) refl in walk_name taken t.0 (sym (ap (λ (y : Bool). refused || y) t.1 ∙ or-false refused))
 
   module _ {to : ℕ} (e : r ≡ Standing.Refused to) where
     turned : WordUpTo kind l at to Fit.Refused
@@ -247,7 +247,7 @@ module _ {kind : Kind} {l : List ℕ} {from at last depth : ℕ} {refused : Bool
 
     pub walk_refused : Walking kind l from to last depth true
     unfolding allowed
-    walk_refused = let t = fit_says kind (x turned) (sym turned.fits) refl in walk_name turned t.0 (sym (ap (λ (y : Bool). refused || y) t.1 ∙ or_true refused))
+    walk_refused = let t = fit_says kind (x turned) (sym turned.fits) refl in walk_name turned t.0 (sym (ap (λ (y : Bool). refused || y) t.1 ∙ or-true refused))
 
   pub walk_stops : r ≡ Standing.Neither → WalkIs kind l from Walk.Broken
   unfolding one_form

@@ -12,7 +12,7 @@ use lines::scan::{Bracket, Item, Place};
 use lines::{forms, scan};
 
 // What stands at a place: a bracket there, a name up to a place, or neither.
-#[derive(Drop)]
+#[derive(Clone, Copy)]
 enum Standing {
     Opening(usize),
     Closing(usize),
@@ -22,21 +22,21 @@ enum Standing {
 }
 
 // One form up to the line's end, whose last opening bracket is at `last`, or none.
-#[derive(Drop)]
+#[derive(Clone, Copy)]
 enum Walk {
     Form { last: usize, refused: bool },
     Broken,
 }
 
 // The bytes of a in `(then a))`.
-#[derive(Drop)]
+#[derive(Clone, Copy)]
 enum Then {
     At { start: usize, end: usize },
     Absent,
 }
 
 // COND's bytes are from..to, those of a start..end; whether one of the names is refused.
-#[derive(Drop)]
+#[derive(Clone, Copy)]
 pub struct ConditionPlaces {
     pub from: usize,
     pub to: usize,
@@ -45,7 +45,7 @@ pub struct ConditionPlaces {
     pub refused: bool,
 }
 
-#[derive(Drop)]
+#[derive(Clone, Copy)]
 pub enum ConditionShape {
     At(ConditionPlaces),
     Broken,

@@ -4,7 +4,7 @@ use native.Mathlib.Omega.{arith}
 use mathlib.Core.Path.{◌≡◌, sym, ap, ◌∙◌, subst}
 use mathlib.Core.List.{List, [], ◌∷◌, ◌++◌}
 use mathlib.Core.Bool.{Bool, true, false, cond}
-use lib.ListN.{length, take, length_map}
+use lib.ListN.{length, take, length-map}
 use Rattle.kinds.specs.Limits.{atom_limit}
 use Rattle.kinds.specs.declared.limits.Kind.TheVariants.{Preference}
 use Rattle.kinds.specs.declared.refusals.Refusal.TheVariants.{Undeclared, Limit, BrokenCondition}
@@ -149,7 +149,7 @@ module _ {g : Gathered} {words bytes starts firsts links : List ℕ} (h : Held P
                     omega arith,
                     omega (arith, small.rules),
                     omega (arith, small.occurrences),
-                    omega (arith, put.is_rules, condition_few (length names) c then, rows_are, sym (ap length (rows_atoms c)), length_map (rows c) row_atom),
+                    omega (arith, put.is_rules, condition_few (length names) c then, rows_are, sym (ap length (rows_atoms c)), length-map (rows c) row_atom),
                     omega (arith, put.is_occurrences, condition_occurrences (length names) c then, few_occurrences (rows c), rows_are),
                   )
 

@@ -3,9 +3,9 @@ use Prim.Native.Nat.{ℕ, suc, ◌+◌, ◌-◌, ◌≤◌, ◌<◌}
 use native.Mathlib.Omega.{arith}
 use mathlib.Core.Path.{◌≡◌, refl, sym, ap, ◌∙◌, subst}
 use mathlib.Core.List.{List, [], ◌∷◌, ◌++◌, append_assoc}
-use mathlib.Core.Bool.{Bool, true, false, not, ◌||◌, or_false}
+use mathlib.Core.Bool.{Bool, true, false, not, ◌||◌, or-false}
 use lib.Dec.{T}
-use lib.ListN.{length, take, drop, length_append, length-take, length-drop}
+use lib.ListN.{length, take, drop, length-append, length-take, length-drop}
 use lib.Seq.{length-sets}
 use borrow.Author.Tests.{lt-leb}
 use Rattle.kinds.specs.Words.{when_word}
@@ -54,7 +54,7 @@ length_take_drop n k l = omega (arith, length-take n (drop k l), length-drop k l
 
 -- one name more
 some_last : (p : List ℕ → Bool) (xs : List (List ℕ)) (a : List ℕ) → some p xs ≡ false → {b : Bool} → p a ≡ b → some p (xs ++ (a ∷ [])) ≡ b
-some_last p [] a e f = or_false (p a) ∙ f
+some_last p [] a e f = or-false (p a) ∙ f
 some_last p (x ∷ xs) a e {b} f = go (p x) e (λ q. some_last p xs a q f)
   where
     go : (c : Bool) → (c || some p xs) ≡ false → (some p xs ≡ false → some p (xs ++ (a ∷ [])) ≡ b) → (c || some p (xs ++ (a ∷ []))) ≡ b
@@ -159,7 +159,7 @@ module _ {g : Gathered} {words bytes : List ℕ} (h : Held Preference (state_of 
           all = condition_counts g.counts (g.counts.atoms + (g.made + count)) rules places
 
           rules_more : g.counts.rules + rules ≡ length (st.program_rules ++ new)
-          rules_more = omega (arith, rules_is h, length_append st.program_rules new)
+          rules_more = omega (arith, rules_is h, length-append st.program_rules new)
 
           places_more : g.counts.occurrences + places ≡ sum occurrences (st.program_rules ++ new)
           places_more = omega (arith, occurrences_is h, sum_app occurrences st.program_rules new)
@@ -187,7 +187,7 @@ module _ {g : Gathered} {words bytes : List ℕ} (h : Held Preference (state_of 
                   arith,
                   h.words_room,
                   h.stored.ends,
-                  length_append st.words (flat rule_words st.program_rules),
+                  length-append st.words (flat rule_words st.program_rules),
                   rules_length st.program_rules,
                   rules_length new,
                   h.class_words_lem,

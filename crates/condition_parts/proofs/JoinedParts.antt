@@ -4,7 +4,7 @@ use native.Mathlib.Omega.{arith}
 use mathlib.Core.Path.{◌≡◌, refl, sym, ap, ap₂, ◌∙◌, subst}
 use mathlib.Core.Bool.{Bool, true, false, not, ◌||◌}
 use mathlib.Core.List.{List, [], ◌∷◌, ◌++◌, append_assoc}
-use lib.ListN.{length, drop, length_append}
+use lib.ListN.{length, drop, length-append}
 use lib.Seq.{sets, length-sets}
 use Rattle.kinds.specs.Words.{not_word, and_word, or_word}
 use Rattle.rules.specs.Lists.{All, some, flat, from}
@@ -259,7 +259,7 @@ module _ {names : List (List ℕ)} {s : List ℕ} {made-before : ℕ} where
       rows_are = rows_joined h.condition k.condition t j
 
       size : length (rows whole) ≡ length (rows h.condition) + suc (length (rows k.condition))
-      size = ap length rows_are ∙ length_append (rows h.condition) (new_row ∷ rows k.condition)
+      size = ap length rows_are ∙ length-append (rows h.condition) (new_row ∷ rows k.condition)
 
       words_are : kind_of j ∷ left ∷ right ∷ [] ≡ row_words (length names) new_row
       words_are =

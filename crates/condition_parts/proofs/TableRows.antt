@@ -4,7 +4,7 @@ use native.Mathlib.Numerals.{add-one}
 use native.Mathlib.Omega.{arith}
 use mathlib.Core.Path.{◌≡◌, refl, sym, ap, ap₂, ◌∙◌}
 use mathlib.Core.List.{List, [], ◌∷◌, ◌++◌}
-use lib.ListN.{length, set, length_append}
+use lib.ListN.{length, set, length-append}
 use lib.Seq.{sets}
 use Rattle.rules.specs.Lists.{flat}
 use Rattle.rules.proofs.ListLaws.{flat_append}
@@ -26,7 +26,7 @@ row_length n (or-row t l r) = refl
 
 pub table_length : (n : ℕ) (rs : List Row) → length (flat (row_words n) rs) ≡ 3 * length rs
 table_length n [] = refl
-table_length n (r ∷ rs) = let h = table_length n rs in omega (arith, length_append (row_words n r) (flat (row_words n) rs), row_length n r)
+table_length n (r ∷ rs) = let h = table_length n rs in omega (arith, length-append (row_words n r) (flat (row_words n) rs), row_length n r)
 
 module _ (n : ℕ) (r : Row) (before : List ℕ) {after : List ℕ} (row : ℕ) (rs : List Row) (e : after ≡ sets before (3 * (row + 1)) (flat (row_words n) rs)) where
   -- the rows behind it stand written

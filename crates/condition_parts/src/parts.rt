@@ -19,7 +19,7 @@ use name_store::index;
 use name_store::index::Found;
 
 // The place behind a part, its atom, and the row of the connective that comes next. Otherwise there is no condition.
-#[derive(Drop)]
+#[derive(Clone, Copy)]
 pub enum Part {
     At {
         place: usize,
@@ -30,7 +30,7 @@ pub enum Part {
 }
 
 // The atom of a whole condition, and how many connectives it has.
-#[derive(Drop)]
+#[derive(Clone, Copy)]
 pub enum Parse {
     Condition { atom: usize, connectives: usize },
     Faulty,

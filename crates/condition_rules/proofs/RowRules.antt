@@ -6,7 +6,7 @@ use mathlib.Core.Path.{◌≡◌, refl, sym, ap, ap₂, ◌∙◌, subst}
 use mathlib.Core.Bool.{Bool, true, false, not, cond}
 use mathlib.Core.List.{List, [], ◌∷◌, ◌++◌, append_assoc, append-nil}
 use lib.Dec.{eqb}
-use lib.ListN.{length, get_or, drop, length_append}
+use lib.ListN.{length, get_or, drop, length-append}
 use lib.Seq.{drop-drop, get_or-drop}
 use borrow.Author.Tests.{eq-eqb, ne_eqb}
 use Rattle.rules.specs.Lists.{keep, flat, sum}
@@ -49,10 +49,10 @@ three_rules a b c e f g = then_rule_lem (a ∷ b ∷ []) c (then_rule_lem (a ∷
 -- where a rule with both parts ends
 
 pub both_end : {d d₁ : List ℕ} {at p : ℕ} (h l r : ℕ) → Emitted d at (rule_words (rule (h ∷ []) (once_in l r) [])) d₁ p → p ≤ at + 6
-both_end h l r e = omega (arith, e.place, once_short l r, length_append (once_in l r) [])
+both_end h l r e = omega (arith, e.place, once_short l r, length-append (once_in l r) [])
 
 pub either_end : {d d₁ : List ℕ} {at p : ℕ} (l r b : ℕ) → Emitted d at (rule_words (rule (once_in l r) (b ∷ []) [])) d₁ p → p ≤ at + 6
-either_end l r b e = omega (arith, e.place, once_short l r, length_append (once_in l r) (b ∷ []))
+either_end l r b e = omega (arith, e.place, once_short l r, length-append (once_in l r) (b ∷ []))
 
 -- the rules of a row
 
@@ -153,7 +153,7 @@ module _ {table : List ℕ} {count first : ℕ} {before : List ℕ} {at : ℕ} {
               ∙ ap (λ (k : ℕ). h.done ++ table_rules k (first + i) (drop (3 * i) table)) left
               ∙ h.all;
           written = renamed (then h.written p.written) (sym (flat_append rule_words h.done row_rules_lem));
-          is_rules = omega (arith, h.is_rules, p.is_rules, length_append h.done row_rules_lem);
+          is_rules = omega (arith, h.is_rules, p.is_rules, length-append h.done row_rules_lem);
           short = omega (arith, h.short, rows_fit.1);
           few_rules = omega (arith, h.few_rules, rows_fit.0);
         }
@@ -167,7 +167,7 @@ rules_short (suc k) first table =
     omega (
       arith,
       ap length (flat_append rule_words (kind_rules (get_or table 0 0) first (get_or table 1 0) (get_or table 2 0)) (table_rules k (first + 1) (drop 3 table))),
-      length_append (flat rule_words (kind_rules (get_or table 0 0) first (get_or table 1 0) (get_or table 2 0))) (flat rule_words (table_rules k (first + 1) (drop 3 table))),
+      length-append (flat rule_words (kind_rules (get_or table 0 0) first (get_or table 1 0) (get_or table 2 0))) (flat rule_words (table_rules k (first + 1) (drop 3 table))),
       kind_short (get_or table 0 0) first (get_or table 1 0) (get_or table 2 0),
       rules_short k (first + 1) (drop 3 table),
     )
@@ -185,7 +185,7 @@ module _ (count first : ℕ) (table : List ℕ) {before now : List ℕ} {at : �
     last = rule (head ∷ []) (body ∷ []) []
 
     rules_are : r.rules + 1 ≡ length (table_rules count first table ++ (last ∷ []))
-    rules_are = omega (arith, h.is_rules, length_append (table_rules count first table) (last ∷ []))
+    rules_are = omega (arith, h.is_rules, length-append (table_rules count first table) (last ∷ []))
 
     words_are : Emitted before at (flat rule_words (table_rules count first table ++ (last ∷ []))) after end
     words_are = then_rule_lem (table_rules count first table) last h.written w

@@ -1,3 +1,4 @@
+#![tactic(auto)]
 // The rules that are written for a condition (document 02, W-208), from the table of its connectives.
 ghost use Rattle.std.specs.Prelude.{[], ◌∷◌, ◌++◌, ◌+◌, ◌*◌, ◌^◌, ◌≤◌, ◌<◌, length};
 ghost use Rattle.rules.specs.Lists.{flat};
@@ -14,14 +15,14 @@ const NOT: u16 = 0;
 const AND: u16 = 1;
 
 // The place behind the rules, and how many they are.
-#[derive(Drop)]
+#[derive(Clone, Copy)]
 pub struct RowsPut {
     pub end: usize,
     pub rules: usize,
 }
 
 // The same with their atom occurrences.
-#[derive(Drop)]
+#[derive(Clone, Copy)]
 pub struct RulesPut {
     pub end: usize,
     pub rules: usize,

@@ -10,7 +10,7 @@ use lib.Dec.{ltb}
 use lib.ListN.{length, drop}
 use borrow.Author.Tests.{ltb-true, ltb-false, lt-ltb, le-ltb, not-true, not-false}
 use Rattle.kinds.specs.Limits.{bracket_limit}
-use Rattle.rules.proofs.Booleans.{or_true, or_false}
+use Rattle.rules.proofs.Booleans.{or-true, or-false}
 use Rattle.name_store.specs.NameStore.{among}
 use Rattle.lines.specs.Tokens.{Token, opening, closing, word, tokens}
 use Rattle.lines.specs.Conditions.{WordSort, negation, conjunction, disjunction, called, sort_of, by_sort, names_in, connectives_in, pairs, deeper}
@@ -65,7 +65,7 @@ module _ {names : List (List ℕ)} {all ts : List Token} {st : Seen} where
       go : (b : Bool) → ltb bracket_limit (st.depth + 1) ≡ b → (cond b true st.deep || deeper (bracket_limit - (st.depth + 1)) ts) ≡ deeper bracket_limit all
       go true e =
           let full : bracket_limit - st.depth ≡ 0 = omega (arith, ltb-true bracket_limit (st.depth + 1) e) in
-          sym (or_true st.deep) ∙ ap (λ (r : ℕ). st.deep || deeper r (opening ∷ ts)) (sym full) ∙ h.deepening
+          sym (or-true st.deep) ∙ ap (λ (r : ℕ). st.deep || deeper r (opening ∷ ts)) (sym full) ∙ h.deepening
       go false e =
           let room : bracket_limit - st.depth ≡ suc (bracket_limit - (st.depth + 1)) = omega (arith, ltb-false bracket_limit (st.depth + 1) e) in
           ap (λ (r : ℕ). st.deep || deeper r (opening ∷ ts)) (sym room) ∙ h.deepening
@@ -148,7 +148,7 @@ module _ {names : List (List ℕ)} {all : List Token} {x : List ℕ} {ts : List 
         deepening = h.deepening;
         over = h.over;
         counted = count_by e;
-        declaring = sym (or_true st.undeclared) ∙ ap (λ (b : Bool). st.undeclared || (not b || undeclared names (names_in ts))) (sym g) ∙ names_by e;
+        declaring = sym (or-true st.undeclared) ∙ ap (λ (b : Bool). st.undeclared || (not b || undeclared names (names_in ts))) (sym g) ∙ names_by e;
       }
 
 pass : {names : List (List ℕ)} {all : List Token} (t : Token) {ts : List Token} {st : Seen} → Passing names all (t ∷ ts) st → is_fitting (symbol_of names t) st.part ≡ true → Passing names all ts (after_of st (symbol_of names t))
@@ -281,8 +281,8 @@ module _ {names : List (List ℕ)} {s : List ℕ} {at : ℕ} {st : Seen} (h : Sc
         record {
           says = record {
             is_condition = λ numbers t. parses numbers t (tokens s) h.all_paired all;
-            is_deep = sym (or_false st.deep) ∙ ended.deepening;
+            is_deep = sym (or-false st.deep) ∙ ended.deepening;
             is_count = sym (add-zero st.connectives) ∙ ended.counted;
-            is_undeclared = sym (or_false st.undeclared) ∙ ended.declaring;
+            is_undeclared = sym (or-false st.undeclared) ∙ ended.declaring;
           };
         }

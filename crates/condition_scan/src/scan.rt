@@ -14,7 +14,7 @@ use name_store::index::Found;
 use numbering::hashed_items::{HashedItem, hashed_item_at};
 
 // A token as the scan tells it from others: `and` and `or` are joints.
-#[derive(Drop)]
+#[derive(Clone, Copy)]
 enum Symbol {
     Opening,
     Closing,
@@ -24,14 +24,14 @@ enum Symbol {
     Undeclared,
 }
 
-#[derive(Drop)]
+#[derive(Clone, Copy)]
 enum Step {
     To { to: usize, symbol: Symbol },
     End,
 }
 
 // Whether a part must come next; the open brackets, and whether they were ever too many; the connectives; whether a name was undeclared.
-#[derive(Drop)]
+#[derive(Clone, Copy)]
 struct Seen {
     part: bool,
     depth: usize,
@@ -40,7 +40,7 @@ struct Seen {
     undeclared: bool,
 }
 
-#[derive(Drop)]
+#[derive(Clone, Copy)]
 pub enum Scan {
     Unparsed,
     Condition {

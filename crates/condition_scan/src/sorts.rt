@@ -5,7 +5,7 @@ ghost use Rattle.condition_scan.specs.Sorts.{word_sort};
 
 use name_store::index::same_bytes;
 
-#[derive(Drop)]
+#[derive(Clone, Copy)]
 pub enum Sort {
     Not,
     And,

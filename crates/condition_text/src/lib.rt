@@ -1,1 +1,2 @@
+#![tactic(auto)]
 // Theorems only: what a text with conditions states, read from its bytes (document 02, W-208).

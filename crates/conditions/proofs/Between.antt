@@ -3,10 +3,10 @@ use Prim.Native.Nat.{ℕ, ◌+◌, ◌-◌, ◌≤◌, ◌<◌}
 use native.Mathlib.Omega.{arith}
 use native.Mathlib.Decide.{dec_lt}
 use mathlib.Core.Path.{◌≡◌, sym, ap, ap₂, subst, ◌∙◌}
-use mathlib.Core.List.{List, ◌++◌, map, map_map, map-append, append_assoc}
+use mathlib.Core.List.{List, ◌++◌, map, map-map, map-append, append_assoc}
 use mathlib.Core.Bool.{Bool}
 use lib.Dec.{T}
-use lib.ListN.{length, get_or, take, drop, length_append, length_map}
+use lib.ListN.{length, get_or, take, drop, length-append, length-map}
 use lib.Seq.{length-take-le, take_at, drop_at}
 use Rattle.rules.specs.Lists.{All, filter, from}
 use Rattle.rules.proofs.Booleans.{T_of}
@@ -81,12 +81,12 @@ module _ (t u : ℕ → Bool) (q k n : ℕ) (fits : q ≤ n)
   between_length = omega (
     arith,
     ap length (high_part n fits (omega arith)),
-    length_append (first ++ from q k) (map (λ (a : ℕ). k + a) (filter t (from q (n - q)))),
-    length_append first (from q k),
+    length-append (first ++ from q k) (map (λ (a : ℕ). k + a) (filter t (from q (n - q)))),
+    length-append first (from q k),
     length_from q k,
-    length_map (filter t (from q (n - q))) (λ (a : ℕ). k + a),
+    length-map (filter t (from q (n - q))) (λ (a : ℕ). k + a),
     ap length (filter_two t q n fits),
-    length_append first (filter t (from q (n - q))),
+    length-append first (filter t (from q (n - q))),
   )
 
   -- what a list with k others between has for those that pass
@@ -97,23 +97,23 @@ module _ (t u : ℕ → Bool) (q k n : ℕ) (fits : q ≤ n)
       let old : ℕ → A = λ a. get_or l a d in
       let second = filter t (from q (n - q)) in
       let long : q ≤ length l = omega arith in
-      let planners : (r : List ℕ) → map get (map at r) ≡ map old r = λ r. map_map get at r ∙ map_eq (λ a. get (at a)) old (inserted_planner q k d l others long many) r in
+      let planners : (r : List ℕ) → map get (map at r) ≡ map old r = λ r. map-map get at r ∙ map_eq (λ a. get (at a)) old (inserted_planner q k d l others long many) r in
       let made_ones : map get (from q k) ≡ others = subst (λ (s : ℕ). map get (from s k) ≡ others) (length-take-le q l long)
-      (following d (others ++ drop q l) (take q l) k (omega (arith, length_append others (drop q l))) ∙ take_at others (drop q l) k many) in
+      (following d (others ++ drop q l) (take q l) k (omega (arith, length-append others (drop q l))) ∙ take_at others (drop q l) k many) in
       let parts : map old xs ≡ map old first ++ map old second = ap (map old) (filter_two t q n fits) ∙ map-append old first second in
       ap (map get) between_list
       ∙ (map-append get (map at first) (from q k ++ map at second)
       ∙ (ap₂ (λ (x y : List A). x ++ y) (planners first) (map-append get (from q k) (map at second) ∙ ap₂ (λ (x y : List A). x ++ y) made_ones (planners second))
       ∙ sym (ap₂ (λ (x y : List A). x ++ (others ++ y))
-      (ap (take (length first)) parts ∙ take_at (map old first) (map old second) (length first) (length_map first old))
-      (ap (drop (length first)) parts ∙ drop_at (map old first) (map old second) (length first) (length_map first old)))))
+      (ap (take (length first)) parts ∙ take_at (map old first) (map old second) (length first) (length-map first old))
+      (ap (drop (length first)) parts ∙ drop_at (map old first) (map old second) (length first) (length-map first old)))))
 
   -- places
 
   pub among_place : (j : ℕ) → j < k → place_in ys (q + j) ≡ length first + j
   among_place j l =
       filter_place u (n + k) (q + j) (omega arith) (among (q + j) (omega arith) (omega arith))
-      ∙ (ap length (among_part j (omega arith)) ∙ (length_append first (from q j) ∙ ap (λ (c : ℕ). length first + c) (length_from q j)))
+      ∙ (ap length (among_part j (omega arith)) ∙ (length-append first (from q j) ∙ ap (λ (c : ℕ). length first + c) (length_from q j)))
 
   pub planner_place : (a : ℕ) → a < n → T (t a) → place_in ys (at a) ≡ place (length first) k (planner (place_in xs a))
   planner_place a l h = step (dec_lt a q)
@@ -135,13 +135,13 @@ module _ (t u : ℕ → Bool) (q k n : ℕ) (fits : q ≤ n)
             arith,
             count,
             ap length (high_part a (omega arith) (omega arith)),
-            length_append (first ++ from q k) (map (λ (b : ℕ). k + b) more),
-            length_append first (from q k),
+            length-append (first ++ from q k) (map (λ (b : ℕ). k + b) more),
+            length-append first (from q k),
             length_from q k,
-            length_map more (λ (b : ℕ). k + b),
+            length-map more (λ (b : ℕ). k + b),
             ap length (filter_two t q a (omega arith)),
-            length_append first more,
+            length-append first more,
           ) in
           ap (place_in ys) (place_high q k a (omega arith))
           ∙ (filter_place u (n + k) (a + k) (omega arith) (T_of (sym (high a (omega arith) l) ∙ ap u e) h)
-          ∙ (c ∙ sym (place_high (length first) k (place_in xs a) (omega (arith, count, ap length (filter_two t q a (omega arith)), length_append first more)))))
+          ∙ (c ∙ sym (place_high (length first) k (place_in xs a) (omega (arith, count, ap length (filter_two t q a (omega arith)), length-append first more)))))

@@ -3,7 +3,7 @@ use Prim.Native.Nat.{ℕ, ◌+◌, ◌^◌, ◌<◌}
 use native.Mathlib.Omega.{arith}
 use mathlib.Core.Path.{◌≡◌, refl, sym, ap, subst, ◌∙◌}
 use mathlib.Core.List.{List}
-use lib.ListN.{length, length_map}
+use lib.ListN.{length, length-map}
 use Rattle.rules.specs.Lists.{from}
 use Rattle.rules.specs.Sets.{has}
 use Rattle.rules.specs.Rules.{rename}
@@ -29,10 +29,10 @@ module _ (q k n : ℕ) where
   cut_has : (t a : ℕ) → a < n → has t (place q k (planner a)) ≡ has (cut_to (planner_places q k n) t) a
   cut_has t a l =
       let e : 0 + a ≡ a = omega arith in
-      sym (cut_at (planner_places q k n) t a (omega (arith, length_map (from 0 n) (λ a. place q k (planner a)), length_from 0 n)) ∙ ap (has t) (map_from_at (λ a. place q k (planner a)) 0 0 n a l ∙ ap (λ (b : ℕ). place q k (planner b)) e))
+      sym (cut_at (planner_places q k n) t a (omega (arith, length-map (from 0 n) (λ a. place q k (planner a)), length_from 0 n)) ∙ ap (has t) (map_from_at (λ a. place q k (planner a)) 0 0 n a l ∙ ap (λ (b : ℕ). place q k (planner b)) e))
 
   places_length : length (planner_places q k n) ≡ n
-  places_length = length_map (from 0 n) (λ a. place q k (planner a)) ∙ length_from 0 n
+  places_length = length-map (from 0 n) (λ a. place q k (planner a)) ∙ length_from 0 n
 
   cuts_to : (t s : ℕ) → cut_to (planner_places q k n) t ≡ s → CutsTo q k n t s
   cuts_to t s e a l = cut_has t a l ∙ ap (λ (x : ℕ). has x a) e
@@ -51,7 +51,7 @@ written_reading classes ws ls taken = record {
   only_one = λ t u lt lu pt pu e. numbers_only_one ws ls taken t u (cut_to_planner ws ls u)
       (subst (λ (c : ℕ). t < 2 ^ c) (sym size) lt) (subst (λ (c : ℕ). u < 2 ^ c) (sym size) lu) pt pu (cuts_to (unfixed ws) k n t (cut_to_planner ws ls u) e) (λ a l. cut_has (unfixed ws) k n u a l);
   atoms = refl;
-  rules = omega (arith, length_map (written ls) (rename (place (unfixed ws) k)), rules_of_statements ls);
+  rules = omega (arith, length-map (written ls) (rename (place (unfixed ws) k)), rules_of_statements ls);
 }
   where
     n : ℕ

@@ -3,11 +3,11 @@ use Prim.Native.Nat.{ℕ, suc, ◌+◌, ◌-◌, ◌*◌, ◌≤◌, ◌<◌}
 use native.Mathlib.Omega.{arith}
 use native.Mathlib.Decide.{dec_lt}
 use mathlib.Core.Path.{◌≡◌, refl, sym, ap, subst, ◌∙◌}
-use mathlib.Core.List.{List, [], ◌∷◌, ◌++◌, map, map_map}
+use mathlib.Core.List.{List, [], ◌∷◌, ◌++◌, map, map-map}
 use mathlib.Core.Bool.{Bool, cond}
 use mathlib.Core.Logic.{◌⊎◌, inl, inr}
 use lib.Dec.{ltb}
-use lib.ListN.{length, length_append, length_map}
+use lib.ListN.{length, length-append, length-map}
 use borrow.Author.Tests.{lt-ltb, le-ltb}
 use Rattle.kinds.specs.declared.limits.Kind.TheVariants.{Preference}
 use Rattle.rules.specs.Lists.{All, Distinct, flat, from, sum}
@@ -113,7 +113,7 @@ module _ (n : ℕ) (c : Cond) (a : ℕ) where
   -- two or three rules a connective, and the last one
   pub condition_length : length (condition_rules n c a) ≡ sum (λ r. length (row_rules r)) (rows c) + 1
   unfolding condition_rules
-  condition_length = length_map (connective_rules c ++ (then_rule c a ∷ [])) (rename (in_file n)) ∙ length_append (connective_rules c) (then_rule c a ∷ []) ∙ ap (λ (i : ℕ). i + 1) (rows_count c)
+  condition_length = length-map (connective_rules c ++ (then_rule c a ∷ [])) (rename (in_file n)) ∙ length-append (connective_rules c) (then_rule c a ∷ []) ∙ ap (λ (i : ℕ). i + 1) (rows_count c)
 
   pub condition_few : length (condition_rules n c a) ≤ 3 * length (connectives c) + 1
   condition_few = omega (arith, condition_length, rows_count c, rules_of_connectives c)
@@ -131,7 +131,7 @@ module _ (n : ℕ) where
   statement_rules_lem (states r) = λ i. rule (back r.head i) (back r.body i) (back r.nots i) ∷ []
     where
       back : (l : List ℕ) → l ≡ map (in_file n) (map planner l)
-      back l = sym (map_map (in_file n) planner l ∙ map_itself (λ (a : ℕ). in_file n (planner a)) l (all_each _ (λ a. refl) l))
+      back l = sym (map-map (in_file n) planner l ∙ map_itself (λ (a : ℕ). in_file n (planner a)) l (all_each _ (λ a. refl) l))
   statement_rules_lem (when c a) = refl
 
   pub file_rules_lem : (ls : List Statement) → flat (file_rules n) ls ≡ map (rename (in_file n)) (written ls)

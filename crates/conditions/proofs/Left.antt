@@ -5,7 +5,7 @@ use mathlib.Core.Path.{◌≡◌, refl, sym, ap, ap₂, subst, ◌∙◌}
 use mathlib.Core.List.{List, [], map, map-append}
 use mathlib.Core.Bool.{Bool}
 use lib.Dec.{T}
-use lib.ListN.{length, get_or, take, drop, replicate, length-drop, length_map, length-replicate}
+use lib.ListN.{length, get_or, take, drop, replicate, length-drop, length-map, length-replicate}
 use lib.Seq.{length-take-le, get_or-take, get_or-drop}
 use Rattle.kinds.specs.Limits.{varying}
 use Rattle.kinds.specs.declared.limits.Kind.TheVariants.{Preference}
@@ -54,7 +54,7 @@ module _ (ws : List ℕ) (ls : List Statement) (taken : Taken ws ls) where
   ls' = left_statements xs ls
 
   words_left : length ws' ≡ length xs
-  words_left = length_map xs (λ a. get_or ws a 0)
+  words_left = length-map xs (λ a. get_or ws a 0)
 
   -- the statements
 
@@ -108,7 +108,7 @@ module _ (classes : ℕ) (ws : List ℕ) (ls : List Statement) (typed : Typed cl
   unfixed_left = sym (
       ap unfixed (ap (map old) (filter_two t q n fits) ∙ map-append old firsts others)
       ∙ (unfixed_app (map old firsts) (map old others) (all_map Unfixed old firsts (all_imp _ _ low firsts (filter_within t 0 q))) (all_map Fixed old others (all_imp _ _ high others (filter_within t q (n - q))))
-      ∙ length_map firsts old)
+      ∙ length-map firsts old)
       )
     where
       n : ℕ

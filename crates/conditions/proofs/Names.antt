@@ -4,7 +4,7 @@ use native.Mathlib.Omega.{arith}
 use mathlib.Core.Path.{◌≡◌, sym, ap, subst, ◌∙◌}
 use mathlib.Core.List.{List, [], ◌++◌, map}
 use lib.Dec.{T}
-use lib.ListN.{length, get_or, take, drop, length_map, take-append-drop}
+use lib.ListN.{length, get_or, take, drop, length-map, take-append-drop}
 use Rattle.kinds.specs.Limits.{atom_limit}
 use Rattle.kinds.specs.declared.limits.Kind.TheVariants.{Preference}
 use Rattle.rules.specs.Lists.{All, from}
@@ -17,7 +17,7 @@ use Rattle.conditions.specs.Left.{written_names}
 use Rattle.conditions.proofs.Placed.{inserted_length, inserted_made, inserted_planner}
 
 pub names_size : (k : ℕ) → length (map made_name (from 1 k)) ≡ k
-names_size k = length_map (from 1 k) made_name ∙ length_from 1 k
+names_size k = length-map (from 1 k) made_name ∙ length_from 1 k
 
 module _ (q k : ℕ) (names : List (List ℕ)) (fits : q ≤ length names) where
   pub made_name_lem : (t : ℕ) → 1 ≤ t → t ≤ k → get_or (written_names q k names) (place q k (made t)) [] ≡ made_name t

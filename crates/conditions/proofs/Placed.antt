@@ -7,7 +7,7 @@ use mathlib.Core.List.{List, ◌++◌, map}
 use mathlib.Core.Bool.{Bool, cond}
 use mathlib.Core.Logic.{◌⊎◌, inl, inr, ◌↔◌}
 use lib.Dec.{ltb}
-use lib.ListN.{length, get_or, take, drop, replicate, length_append, length-drop, length-replicate, get_or-replicate, get_or-append}
+use lib.ListN.{length, get_or, take, drop, replicate, length-append, length-drop, length-replicate, get_or-replicate, get_or-append}
 use lib.Seq.{length-take-le, get_or-append-add, get_or-take, get_or-drop}
 use borrow.Author.Tests.{lt-ltb, le-ltb}
 use Rattle.rules.specs.Sets.{In, Out}
@@ -81,7 +81,7 @@ module _ (q k : ℕ) where
 
   module _ {A : Type 0} (d : A) (l others : List A) (fits : q ≤ length l) (size : length others ≡ k) where
     pub inserted_length : length (inserted q others l) ≡ length l + k
-    inserted_length = omega (arith, length_append (take q l) (others ++ drop q l), length_append others (drop q l), length-take-le q l fits, size, length-drop q l)
+    inserted_length = omega (arith, length-append (take q l) (others ++ drop q l), length-append others (drop q l), length-take-le q l fits, size, length-drop q l)
 
     past : (i : ℕ) → get_or (inserted q others l) (q + i) d ≡ get_or (others ++ drop q l) i d
     past i = subst (λ (j : ℕ). get_or (take q l ++ (others ++ drop q l)) (j + i) d ≡ get_or (others ++ drop q l) i d) (length-take-le q l fits) (get_or-append-add (take q l) (others ++ drop q l) i d)

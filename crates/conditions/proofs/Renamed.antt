@@ -1,7 +1,7 @@
 -- Statements with other atoms: what is written for them is what was written, with the other atoms.
 use Prim.Native.Nat.{ℕ}
 use mathlib.Core.Path.{◌≡◌, refl, sym, ap, ap₂, ◌∙◌}
-use mathlib.Core.List.{List, [], ◌∷◌, ◌++◌, map, map_map, map-append}
+use mathlib.Core.List.{List, [], ◌∷◌, ◌++◌, map, map-map, map-append}
 use mathlib.Core.Bool.{Bool, not}
 use lib.Dec.{eqb, eqb→eq}
 use Rattle.rules.specs.Lists.{All, keep, flat}
@@ -114,7 +114,7 @@ module _ (f : ℕ → ℕ) where
         (ap₂ (or_rules (made t)) (part_renamed l) (part_renamed r) ∙ or_renamed t (part l) (part r) (part_known l hl) (part_known r hr)) (rules_renamed r hr)
 
     twice : (xs : List ℕ) → map planner (map f xs) ≡ map rename_atom (map planner xs)
-    twice xs = map_map planner f xs ∙ sym (map_map rename_atom planner xs)
+    twice xs = map-map planner f xs ∙ sym (map-map rename_atom planner xs)
 
     statement_renamed : (l : Statement) → All P (statement_names l) → statement_rules (rename_statement f l) ≡ moved (statement_rules l)
     statement_renamed (states r) h = λ i. rule (twice r.head i) (twice r.body i) (twice r.nots i) ∷ []

@@ -1,1 +1,2 @@
+#![tactic(auto)]
 // Conditions in a preference file (document 02, W-208): what they mean, the rules written for them, their theorems. No code.

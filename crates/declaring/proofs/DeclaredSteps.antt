@@ -5,7 +5,7 @@ use mathlib.Core.Path.{◌≡◌, refl, sym, ap, ap₂, ◌∙◌, subst}
 use mathlib.Core.Bool.{Bool, true, false, not, ◌&&◌, ◌||◌}
 use mathlib.Core.List.{List, [], ◌∷◌, ◌++◌, append-nil}
 use lib.Dec.{T, leb}
-use lib.ListN.{length, drop, length_append, length-replicate}
+use lib.ListN.{length, drop, length-append, length-replicate}
 use lib.Seq.{sets, length-sets}
 use borrow.Author.Tests.{lt-leb, leb-true, not-false}
 use Rattle.kinds.specs.Sizes.{longest_name}
@@ -159,9 +159,9 @@ module _ {kind : Kind} {st : SoFar} {g : Gathered} {words bytes starts firsts li
                 arith,
                 some_in.full,
                 some_in.more,
-                length_append st.names some_in.passed,
-                length_append st.names xs,
-                ap length (sym some_in.all) ∙ length_append some_in.passed (items (drop at l)),
+                length-append st.names some_in.passed,
+                length-append st.names xs,
+                ap length (sym some_in.all) ∙ length-append some_in.passed (items (drop at l)),
                 atoms_small st.kind,
               ) in
               rw (lt-leb (length (st.names ++ xs)) (atom_limit st.kind) many)
@@ -189,7 +189,7 @@ module _ {kind : Kind} {st : SoFar} {g : Gathered} {words bytes starts firsts li
           no_rules = h.no_rules before_rules
 
           many : n ≡ g.counts.atoms + length xs
-          many = omega (arith, a.stored.count, atoms_is h, length_append st.names xs)
+          many = omega (arith, a.stored.count, atoms_is h, length-append st.names xs)
 
           class_count_lem : word_count kind g.counts.atoms + length class_list ≡ word_count kind n
           class_count_lem =
@@ -241,7 +241,7 @@ module _ {kind : Kind} {st : SoFar} {g : Gathered} {words bytes starts firsts li
                 classes_is = ap (classes_after w) h.classes_is;
                 counts_are = new_counts;
                 made_is = h.made_is;
-                class_words_lem = length_append st.words class_list ∙ ap (λ x. x + length class_list) h.class_words_lem ∙ class_count_lem;
+                class_words_lem = length-append st.words class_list ∙ ap (λ x. x + length class_list) h.class_words_lem ∙ class_count_lem;
                 stored =
                     subst (λ x. Filled words₂ 4 end x) stored_after
                     (subst (λ x. Filled words₂ 4 (g.words + length x) (stored_words st ++ class_list)) (sym class_list_is)

@@ -8,7 +8,7 @@ use lib.Dec.{leb}
 use lib.ListN.{length}
 use lib.Seq.{sets}
 use borrow.Author.Tests.{lt-leb, le-leb}
-use Rattle.rules.proofs.Booleans.{and_false}
+use Rattle.rules.proofs.Booleans.{and-false}
 use Rattle.kinds.specs.declared.refusals.Refusal.TheVariants.{Output}
 use Rattle.name_store.specs.NameStore.{encode_names}
 use Rattle.stores.specs.Program.{Program}
@@ -31,7 +31,7 @@ module _ (p : Program) (ns : List (List ℕ)) {w b : ℕ} (words_long : length (
   pub names_short : length names < b → Delivered p ns rules names rules names (Refused Output 0)
   names_short l =
       let a : leb (length (encode_names ns)) (length names) ≡ false = lt-leb (length (encode_names ns)) (length names) (omega (arith, bytes_long)) in
-      record { answer = rw (a, and_false (leb (length (encode p)) (length rules))); rules_after_holds = refl; names_after_holds = refl }
+      record { answer = rw (a, and-false (leb (length (encode p)) (length rules))); rules_after_holds = refl; names_after_holds = refl }
 
   pub both_written : w ≤ length rules → b ≤ length names
       → {rules' : List ℕ} {x : ℕ} → Emitted rules 0 (encode p) rules' x

@@ -1,2 +1,3 @@
+#![tactic(auto)]
 // The scratch stores into the two lent outputs.
 pub mod delivery;

@@ -1,7 +1,7 @@
 -- Below an open choice only the rules close one whose last atom has just been decided, as the value that breaks them: those of one group.
 use Prim.Native.Nat.{ℕ, suc, ◌+◌, ◌^◌, ◌≤◌, ◌<◌}
 use mathlib.Core.Path.{◌≡◌, refl, sym, ap, ap₂, ◌∙◌, subst}
-use mathlib.Core.Bool.{Bool, true, false, not, cond, ◌&&◌, ◌||◌, and_true}
+use mathlib.Core.Bool.{Bool, true, false, not, cond, ◌&&◌, ◌||◌, and-true}
 use mathlib.Core.List.{List, [], ◌∷◌, map}
 use native.Mathlib.Decide.{ℕ_discrete}
 use native.Mathlib.Omega.{arith}
@@ -98,7 +98,7 @@ module _ (n : ℕ) (few : n ≤ walk_atoms) (r : Rule ℕ) (below : RuleBelow n 
       wanted =
           let m : mirror n d ≡ k = omega arith in
           let now : has (place n y) k ≡ v = ap (has (place n y)) (sym m) ∙ place_atoms n y d (omega arith) ∙ decided_top d x h v in
-          ap (λ (w : ℕ). has w k) (sym (eqb→eq (bit_and (place n y) care) want met)) ∙ has_and (place n y) care k ∙ ap₂ ◌&&◌ now (is_true_lem (has care k) last) ∙ and_true v
+          ap (λ (w : ℕ). has w k) (sym (eqb→eq (bit_and (place n y) care) want met)) ∙ has_and (place n y) care k ∙ ap₂ ◌&&◌ now (is_true_lem (has care k) last) ∙ and-true v
 
       of_group_lem : group_of care want ≡ group_at k v
       of_group_lem = group_is care want k (omega arith) last low ∙ ap (group_at k) wanted

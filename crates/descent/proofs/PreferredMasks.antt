@@ -44,9 +44,9 @@ all_kept l = filter_every (λ (k : Choice). true) l (any l)
     any [] = tt
     any (k ∷ l) = (tt, any l)
 
-pub and_true : (b : Bool) → (b && true) ≡ b
-and_true true = refl
-and_true false = refl
+pub and-true : (b : Bool) → (b && true) ≡ b
+and-true true = refl
+and-true false = refl
 
 module _ (ws : List ℕ) (rs : List (Rule ℕ)) (few : length ws ≤ walk_atoms) (below : RulesBelow (length ws) rs) (plain : All (λ r. r.nots ≡ []) rs)
     (care want starts : List ℕ) (groups : GroupsOf (map (care_at (length ws)) rs) (map (want_at (length ws)) rs) care want starts) where
@@ -87,7 +87,7 @@ module _ (ws : List ℕ) (rs : List (Rule ℕ)) (few : length ws ≤ walk_atoms)
     unfolding better
     tied = record {
       closes = group_closes n few rs below plain care want starts groups;
-      visits = λ d k x v e h t. fixed_values ws m d k v e ∙ sym (and_true (not (eqb (get_or ws d 0) fixed) || is_same v (has m d)));
+      visits = λ d k x v e h t. fixed_values ws m d k v e ∙ sym (and-true (not (eqb (get_or ws d 0) fixed) || is_same v (has m d)));
       dropped = λ left d x e h f. absurd (T_of f tt);
       partial = λ k u l. ap (λ (b : Bool). cond (b && beating k.taken) (Found (place n k.taken) u) (Nothing u)) (ne_eqb k.decided n (λ e. omega arith));
       closed = λ x u h c. ap (λ (b : Bool). cond b (Found (place n x) u) (Nothing u)) (no_beat x h c);

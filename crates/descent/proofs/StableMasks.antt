@@ -34,7 +34,7 @@ use Rattle.descent.proofs.Searched.{first_app, descends_all}
 use Rattle.descent.proofs.GroupedRules.{group_closes}
 use Rattle.descent.proofs.AllowedValues.{has_all, subset_values}
 use Rattle.descent.proofs.JudgedChoices.{judge_by, OfAtoms, all_of_atoms, found_searched, found_same}
-use Rattle.descent.proofs.PreferredMasks.{all_kept, and_true}
+use Rattle.descent.proofs.PreferredMasks.{all_kept, and-true}
 
 no_classes : (m s k : ℕ) → spares_m m s (replicate k 0) ≡ false
 unfolding spares_m agree_m
@@ -99,13 +99,13 @@ module _ (n : ℕ) (few : n ≤ walk_atoms) (rs : List (Rule ℕ)) (m : ℕ) (m-
   better_open x h f o =
       part_spared n q (place n x) (place_lt n m) (place_lt n x) (part x h f)
       ∙ ap not (same_place x h)
-      ∙ sym (ap (λ (b : Bool). not (eqb x m) && b) (is_true_lem (smaller x) (closed_in n x rules below (λ t. T_of o t))) ∙ and_true (not (eqb x m)))
+      ∙ sym (ap (λ (b : Bool). not (eqb x m) && b) (is_true_lem (smaller x) (closed_in n x rules below (λ t. T_of o t))) ∙ and-true (not (eqb x m)))
 
   tied : Tied (stable_course rs m) n (λ k. true) (judge_by n test) asked
   unfolding better
   tied = record {
     closes = group_closes n few rules below plain care want starts groups;
-    visits = λ d k x v e h t. subset_values n m d k v e ∙ sym (and_true (not v || has m d));
+    visits = λ d k x v e h t. subset_values n m d k v e ∙ sym (and-true (not v || has m d));
     dropped = λ left d x e h f. absurd (T_of f tt);
     partial = λ k u l. ap (λ (b : Bool). cond (b && (not (eqb k.taken m) && smaller k.taken)) (Found (place n k.taken) u) (Nothing u)) (ne_eqb k.decided n (λ e. omega arith));
     closed = λ x u h c. ap (λ (b : Bool). cond b (Found (place n x) u) (Nothing u)) (no_model x h c);

@@ -11,7 +11,7 @@ ghost use Rattle.descent.specs.Search.{may_be, better, planned, Searchable};
 use groups::plan::Plan;
 use kinds::limits::Preference;
 
-#[derive(Drop)]
+#[derive(Clone, Copy)]
 pub struct Told;
 
 impl Told {

@@ -7,7 +7,7 @@ use mathlib.Core.Logic.{◌⊎◌, inl, inr, ◌↔◌}
 use mathlib.Core.Bool.{not, ◌&&◌}
 use mathlib.Core.List.{List, [], ◌∷◌, ◌++◌}
 use lib.Dec.{T, leb, leb→le, le→leb}
-use lib.ListN.{length, length_append, length_map}
+use lib.ListN.{length, length-append, length-map}
 use Rattle.kinds.specs.Limits.{atom_limit, rule_limit, occurrence_limit, class_limit, within}
 use Rattle.kinds.specs.declared.limits.Counts.{Counts}
 use Rattle.kinds.specs.declared.limits.Kind.{Kind}
@@ -61,7 +61,7 @@ limit_law st f = (there, back)
 module _ (st : SoFar) where
   declared_counts : (w : Word) (xs : List (List ℕ)) → st.made ≡ 0 → counts_of (declared st w xs) ≡ counts_with st (declares w xs)
   declared_counts w xs none =
-      let e : length (st.names ++ xs) ≡ length st.names + st.made + length xs = omega (arith, length_append st.names xs) in
+      let e : length (st.names ++ xs) ≡ length st.names + st.made + length xs = omega (arith, length-append st.names xs) in
       ap (λ n. record { atoms = n; rules = length st.program_rules; occurrences = sum occurrences st.program_rules }) e
 
   pub classes_counted : (w : Word) (xs : List (List ℕ)) → classes_after w st.classes ≡ classes_with st (declares w xs)
@@ -80,7 +80,7 @@ module _ (st : SoFar) where
 
   -- with the line added
   pub declared_within : (w : Word) (xs : List (List ℕ)) → (PassesLimit st (declares w xs) → ⊥) → PassesLimit (declared st w xs) blank → ⊥
-  declared_within w xs n (atoms_pass h) = n (atoms_pass (omega (arith, length_append st.names xs)))
+  declared_within w xs n (atoms_pass h) = n (atoms_pass (omega (arith, length-append st.names xs)))
   declared_within w xs n (rules_pass h) = n (rules_pass (omega arith))
   declared_within w xs n (occurrences_pass h) = n (occurrences_pass (omega arith))
   declared_within w xs n (classes_pass h) = n (classes_pass (omega (arith, classes_counted w xs)))
@@ -90,10 +90,10 @@ module _ (st : SoFar) where
     line_rule = numbered st.names hs bs ns
 
     one_more : length (st.program_rules ++ (line_rule ∷ [])) ≡ suc (length st.program_rules)
-    one_more = omega (arith, length_append st.program_rules (line_rule ∷ []))
+    one_more = omega (arith, length-append st.program_rules (line_rule ∷ []))
 
     places : sum occurrences (st.program_rules ++ (line_rule ∷ [])) ≡ occurrences_with st (rules hs bs ns)
-    places = omega (arith, sum_app occurrences st.program_rules (line_rule ∷ []), length_map hs (name_number st.names), length_map bs (name_number st.names), length_map ns (name_number st.names))
+    places = omega (arith, sum_app occurrences st.program_rules (line_rule ∷ []), length-map hs (name_number st.names), length-map bs (name_number st.names), length-map ns (name_number st.names))
 
     -- a rule declares no atom, so their count is not tested again with those that conditions made
     pub rule_limit_lem : (PassesLimit st blank → ⊥) → T (not (within st.kind (counts_of (with_rule_lem st line_rule)))) ↔ PassesLimit st (rules hs bs ns)
@@ -127,7 +127,7 @@ module _ (st : SoFar) where
     line_adds = ap (λ p. parsed_or p (λ d. condition_rules (length st.names) d (name_number st.names a)) []) is
 
     rules_added : length (st.program_rules ++ line_rules) ≡ rules_with st (condition ts a)
-    rules_added = length_append st.program_rules line_rules ∙ ap (λ l. length st.program_rules + length l) (sym line_adds)
+    rules_added = length-append st.program_rules line_rules ∙ ap (λ l. length st.program_rules + length l) (sym line_adds)
 
     occurrences_added : sum occurrences (st.program_rules ++ line_rules) ≡ occurrences_with st (condition ts a)
     occurrences_added = sum_app occurrences st.program_rules line_rules ∙ ap (λ l. sum occurrences st.program_rules + sum occurrences l) (sym line_adds)

@@ -6,7 +6,7 @@ use mathlib.Core.Logic.{◌⊎◌, inl, inr, ◌↔◌, ◌≢◌}
 use mathlib.Core.Bool.{Bool, true, false, cond}
 use mathlib.Core.List.{List, [], ◌∷◌, ◌++◌}
 use lib.Dec.{T, eqb, eqb→eq}
-use lib.ListN.{length, take, drop, length_append, take-append-drop}
+use lib.ListN.{length, take, drop, length-append, take-append-drop}
 use lib.Seq.{append_snoc, drop-nil, take-append_seam, drop-append_seam}
 use borrow.Author.Tests.{ne_eqb}
 use Rattle.kinds.specs.Words.{line_end_lem, atoms_word}
@@ -89,7 +89,7 @@ before_end (b ∷ s) t h =
 ended_length : (l rest : List ℕ) → EndedLine l → (l ≢ []) × (line_length (l ++ rest) ≡ length l)
 unfolding line_length
 ended_length l rest (s, h, e) =
-    let n : length l ≡ suc (length s) = omega (arith, ap length e, length_append s (line_end_lem ∷ [])) in
+    let n : length l ≡ suc (length s) = omega (arith, ap length e, length-append s (line_end_lem ∷ [])) in
     let is : l ++ rest ≡ s ++ (line_end_lem ∷ rest) = ap (λ m. m ++ rest) e ∙ append_snoc s line_end_lem rest in
     let one : line_length (line_end_lem ∷ rest) ≡ 1 = refl in
     (λ q. (let z : length l ≡ 0 = ap length q in omega arith), ap line_length is ∙ omega (arith, before_end s (line_end_lem ∷ rest) h))

@@ -1,3 +1,4 @@
+#![tactic(auto)]
 // The answers as fields of numbers, for C.
 ghost use Rattle.std.specs.Prelude.{◌≡◌};
 ghost use Rattle.fields.specs.Fields.{read_fields, written_fields, verdict_fields, next_fields, place_fields, filled_fields, grown_fields};
@@ -9,7 +10,7 @@ use walks::answers::{NextState, Place, Verdict};
 
 // refusal 0: accepted
 #[repr(C)]
-#[derive(Drop)]
+#[derive(Clone, Copy)]
 pub struct ReadFields {
     pub refusal: u64,
     pub line: u64,
@@ -19,7 +20,7 @@ pub struct ReadFields {
 
 // refusal 0: written
 #[repr(C)]
-#[derive(Drop)]
+#[derive(Clone, Copy)]
 pub struct WrittenFields {
     pub refusal: u64,
     pub bytes: u64,
@@ -27,7 +28,7 @@ pub struct WrittenFields {
 
 // kind 0: yes, or a state; 1: broken, or none; 2: beaten; 3: spent; 4: refused
 #[repr(C)]
-#[derive(Drop)]
+#[derive(Clone, Copy)]
 pub struct VerdictFields {
     pub kind: u64,
     pub value: u64,
@@ -36,7 +37,7 @@ pub struct VerdictFields {
 
 // refusal 0: the value
 #[repr(C)]
-#[derive(Drop)]
+#[derive(Clone, Copy)]
 pub struct ValueFields {
     pub refusal: u64,
     pub value: u64,
@@ -44,7 +45,7 @@ pub struct ValueFields {
 
 // refusal 0: the words of the store and of its index
 #[repr(C)]
-#[derive(Drop)]
+#[derive(Clone, Copy)]
 pub struct GrownFields {
     pub refusal: u64,
     pub words: u64,

@@ -10,7 +10,7 @@ use lib.Dec.{eqb, leb, ltb}
 use lib.ListN.{length, get_or, drop, length-drop, drop_of_length-le, get_or-eq_default}
 use lib.Seq.{drop-drop, get_or-drop}
 use borrow.Author.Tests.{leb-true, ltb-true, lt-ltb, le-leb, eq-eqb, ne_eqb}
-use Rattle.rules.proofs.Booleans.{T_of, both_true, or_false}
+use Rattle.rules.proofs.Booleans.{T_of, both_true, or-false}
 use Rattle.output.proofs.Emitting.{byte_next}
 use Rattle.restriction.specs.Atoms.{is_member}
 use Rattle.rule_index.specs.Flip.{is_rising}
@@ -88,7 +88,7 @@ leads_member : (m r : ℕ) (xs : List ℕ) → is_rising m r xs ≡ true → is_
 leads_member m r [] e = refl
 leads_member m r (x ∷ xs) e =
     let p = rising_parts m r x xs e in
-    ap (λ (t : Bool). eqb m x || t) (none_below (suc x) r xs p.2 m (omega (arith, p.0))) ∙ or_false (eqb m x)
+    ap (λ (t : Bool). eqb m x || t) (none_below (suc x) r xs p.2 m (omega (arith, p.0))) ∙ or-false (eqb m x)
 
 behind_rises : (m r : ℕ) (xs : List ℕ) → is_rising m r xs ≡ true → is_rising (suc m) r (behind m xs) ≡ true
 unfolding is_rising

@@ -1,7 +1,7 @@
 -- Whether a set breaks a rule: of its atoms just those of the body are in.
 use Prim.Native.Nat.{ℕ, zero, suc, ◌+◌, ◌-◌, ◌/◌, ◌%◌, ◌^◌, ◌≤◌, ◌<◌}
 use mathlib.Core.Path.{◌≡◌, refl, sym, ap, ap₂, ◌∙◌, subst}
-use mathlib.Core.Bool.{Bool, true, false, not, cond, ◌&&◌, ◌||◌, and_assoc, and_true, and_false}
+use mathlib.Core.Bool.{Bool, true, false, not, cond, ◌&&◌, ◌||◌, and_assoc, and-true, and-false}
 use mathlib.Core.List.{List, [], ◌∷◌, ◌++◌}
 use mathlib.Core.Logic.{◌⊎◌, inl, inr}
 use native.Mathlib.Nat.{mod-lt, zero-lt-suc}
@@ -102,7 +102,7 @@ module _ (set body stop : ℕ) where
   before_body_lem j h = rw (lt-leb body j h) refl
 
   behind_body_lem : (j : ℕ) → stop ≤ j → in_body body stop j ≡ false
-  behind_body_lem j h = rw (le-ltb j stop h) (and_false (leb body j))
+  behind_body_lem j h = rw (le-ltb j stop h) (and-false (leb body j))
 
 -- no head atom in, the whole body in, no `not` atom in
 broken_parts : (h b n : Bool) → (not h && (b && not n)) ≡ not (not (b && not n) || h)
@@ -171,7 +171,7 @@ begins ws set s =
 
 module _ {words : List ℕ} {set body stop end odd i : ℕ} {whole : Bool} (h : Passing words set body stop end odd i whole) where
   pub ended : end ≤ i → eqb (odd % 2) 0 ≡ whole
-  ended l = sym (and_true (eqb (odd % 2) 0)) ∙ ap (λ (r : List ℕ). eqb (odd % 2) 0 && as_wanted set body stop i r) (sym (part_none words i end l)) ∙ h.rest
+  ended l = sym (and-true (eqb (odd % 2) 0)) ∙ ap (λ (r : List ℕ). eqb (odd % 2) 0 && as_wanted set body stop i r) (sym (part_none words i end l)) ∙ h.rest
 
   module _ (l : i < end) where
     left : All (λ a. a < walk_atoms) (get_or words i 0 ∷ take (end - (i + 1)) (drop (i + 1) words))

@@ -1,3 +1,4 @@
+#![tactic(auto)]
 // Which rules are broken after an atom flips (document 02, W-209).
 pub mod answering;
 pub mod breaking;

@@ -5,7 +5,7 @@ use mathlib.Core.Path.{◌≡◌, sym, ap, ap₂, ◌∙◌}
 use mathlib.Core.Bool.{true, ◌&&◌}
 use mathlib.Core.List.{List, [], ◌∷◌, ◌++◌, append_assoc, append-nil}
 use lib.Dec.{leb}
-use lib.ListN.{length, take, drop, length_append}
+use lib.ListN.{length, take, drop, length-append}
 use lib.Seq.{take_at, drop_at, drop-drop, sets}
 use Rattle.kinds.specs.Sizes.{store_words, store_bytes}
 use Rattle.kinds.specs.Limits.{atom_limit, rule_limit, occurrence_limit, within}
@@ -36,8 +36,8 @@ module _ {d : List ℕ} {skipped used : ℕ} {list : List ℕ} (f : Filled d ski
 pub fill_more : {d : List ℕ} {skipped used : ℕ} {list : List ℕ} → Filled d skipped used list → (w : List ℕ) → used + length w ≤ length d → Filled (sets d used w) skipped (used + length w) (list ++ w)
 fill_more {d} {skipped} {used} {list} f w l =
     let p = f.front ++ list in
-    let long : length p ≡ used = length_append f.front list ∙ ap (λ k. k + length list) f.before ∙ sym f.ends in
-    let room : length w ≤ length f.rest = omega (arith, ap length f.is ∙ length_append p f.rest) in
+    let long : length p ≡ used = length-append f.front list ∙ ap (λ k. k + length list) f.before ∙ sym f.ends in
+    let room : length w ≤ length f.rest = omega (arith, ap length f.is ∙ length-append p f.rest) in
     record {
       front = f.front;
       rest = drop (length w) f.rest;
@@ -47,7 +47,7 @@ fill_more {d} {skipped} {used} {list} f w l =
           ∙ sym (append_assoc p w (drop (length w) f.rest))
           ∙ ap (λ x. x ++ drop (length w) f.rest) (append_assoc f.front list w);
       before = f.before;
-      ends = omega (arith, f.ends, length_append list w);
+      ends = omega (arith, f.ends, length-append list w);
     }
 
 -- the counts, one by one
@@ -138,7 +138,7 @@ held_small {kind} {st} {g} {words} h =
     let f = h.stored in
     let l = within_limits kind g.counts h.counts_fit in
     record {
-      words = omega (arith, f.ends, f.before, h.words_room, ap length f.is ∙ length_append (f.front ++ stored_words st) f.rest, length_append f.front (stored_words st));
+      words = omega (arith, f.ends, f.before, h.words_room, ap length f.is ∙ length-append (f.front ++ stored_words st) f.rest, length-append f.front (stored_words st));
       bytes = omega (arith, h.short, l.atoms, atoms_small kind);
       atoms = omega (arith, l.atoms, atoms_small kind);
       rules = omega (arith, l.rules, rules_small kind);

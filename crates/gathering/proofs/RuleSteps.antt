@@ -5,7 +5,7 @@ use mathlib.Core.Path.{◌≡◌, refl, sym, ap, ◌∙◌, subst}
 use mathlib.Core.Bool.{Bool, true, false, not, cond, ◌||◌}
 use mathlib.Core.List.{List, [], ◌∷◌, ◌++◌, map, append_assoc}
 use lib.Dec.{T}
-use lib.ListN.{length, length_append, length_map}
+use lib.ListN.{length, length-append, length-map}
 use lib.Seq.{sets, length-sets}
 use borrow.Author.Tests.{lt-ltb}
 use Rattle.kinds.specs.Sizes.{store_words}
@@ -153,11 +153,11 @@ module _ {kind : Kind} {st : SoFar} {g : Gathered} {words bytes : List ℕ} (h :
     new_rule = numbered st.names hs bs ns
 
     rule_places : occurrences new_rule ≡ more
-    rule_places = omega (arith, length_map hs (name_number st.names), length_map bs (name_number st.names), length_map ns (name_number st.names), w.numbered.is_heads, w.numbered.is_bodies, w.numbered.is_nots)
+    rule_places = omega (arith, length-map hs (name_number st.names), length-map bs (name_number st.names), length-map ns (name_number st.names), w.numbered.is_heads, w.numbered.is_bodies, w.numbered.is_nots)
 
     new_counts : rule_counts g.counts more ≡ counts_of (with_rule_lem st new_rule)
     new_counts =
-        let rules : g.counts.rules + 1 ≡ length (st.program_rules ++ (new_rule ∷ [])) = omega (arith, rules_is h, length_append st.program_rules (new_rule ∷ [])) in
+        let rules : g.counts.rules + 1 ≡ length (st.program_rules ++ (new_rule ∷ [])) = omega (arith, rules_is h, length-append st.program_rules (new_rule ∷ [])) in
         let places : g.counts.occurrences + more ≡ sum occurrences (st.program_rules ++ (new_rule ∷ [])) = omega (arith, occurrences_is h, sum_last st.program_rules new_rule, rule_places) in
         λ i. record { atoms = atoms_is h i; rules = rules i; occurrences = places i }
 
@@ -177,13 +177,13 @@ module _ {kind : Kind} {st : SoFar} {g : Gathered} {words bytes : List ℕ} (h :
 
         rule_words_lem : counts ++ rule_numbers names hs bs ns ≡ rule_words new_rule
         rule_words_lem =
-            let of-head : c.heads ≡ length (map (name_number st.names) hs) = w.numbered.is_heads ∙ sym (length_map hs (name_number st.names)) in
-            let of-body : c.bodies ≡ length (map (name_number st.names) bs) = w.numbered.is_bodies ∙ sym (length_map bs (name_number st.names)) in
-            let of-nots : c.nots ≡ length (map (name_number st.names) ns) = w.numbered.is_nots ∙ sym (length_map ns (name_number st.names)) in
+            let of-head : c.heads ≡ length (map (name_number st.names) hs) = w.numbered.is_heads ∙ sym (length-map hs (name_number st.names)) in
+            let of-body : c.bodies ≡ length (map (name_number st.names) bs) = w.numbered.is_bodies ∙ sym (length-map bs (name_number st.names)) in
+            let of-nots : c.nots ≡ length (map (name_number st.names) ns) = w.numbered.is_nots ∙ sym (length-map ns (name_number st.names)) in
             λ i. of-head i ∷ of-body i ∷ of-nots i ∷ rule_numbers (same i) hs bs ns
 
         words_length : length (rule_words new_rule) ≡ 3 + more
-        words_length = omega (arith, rule_places, rules_length (new_rule ∷ []), length_append (rule_words new_rule) [])
+        words_length = omega (arith, rule_places, rules_length (new_rule ∷ []), length-append (rule_words new_rule) [])
 
         after_counts : {words₂ : List ℕ} → words₂ ≡ sets words₁ g.words counts → words₂ ≡ sets words g.words (rule_words new_rule)
         after_counts q =
@@ -203,7 +203,7 @@ module _ {kind : Kind} {st : SoFar} {g : Gathered} {words bytes : List ℕ} (h :
               words_length,
               h.words_room,
               h.stored.ends,
-              length_append st.words (flat rule_words st.program_rules),
+              length-append st.words (flat rule_words st.program_rules),
               rules_length st.program_rules,
               h.class_words_lem,
               rules_is h,

@@ -3,7 +3,7 @@ use kinds::limits::Counts;
 use kinds::refusals::Refusal;
 use lines::stage::Stage;
 
-#[derive(Drop)]
+#[derive(Clone, Copy)]
 pub struct Gathered {
     pub stage: Stage,
     pub classes: usize,
@@ -16,7 +16,7 @@ pub struct Gathered {
 }
 
 // What a line gives.
-#[derive(Drop)]
+#[derive(Clone, Copy)]
 pub enum Line {
     Next(Gathered),
     Fault(Refusal),

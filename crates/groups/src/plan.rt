@@ -2,7 +2,7 @@
 use crate::grouping::Group;
 use kinds::limits::Preference;
 
-#[derive(Drop)]
+#[derive(Clone, Copy)]
 pub struct Plan;
 
 impl Plan {

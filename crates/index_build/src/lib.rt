@@ -1,3 +1,4 @@
+#![tactic(auto)]
 // The index of a rule store, built (document 02, W-209).
 ghost use Rattle.std.specs.Prelude.{◌≡◌, ℕ, ◌≤◌, length, get_or};
 ghost use Rattle.kinds.specs.Limits.{rule_limit, atom_limit};

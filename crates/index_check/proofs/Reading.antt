@@ -12,7 +12,7 @@ use lib.ListN.{length, get_or, take, set, length-set}
 use lib.Seq.{take-suc, take_all, get_or-set_same, get_or-set_other}
 use borrow.Author.Tests.{not-true, not-false, lt-ltb, le-ltb, eq-eqb, ne_eqb}
 use Rattle.rules.specs.Lists.{All}
-use Rattle.rules.proofs.Booleans.{T_of, T-or-out, is_true_lem, and_false}
+use Rattle.rules.proofs.Booleans.{T_of, T-or-out, is_true_lem, and-false}
 use Rattle.rules.proofs.Lists.{all_at, some_last}
 use Rattle.stores.specs.Checking.{Below}
 use Rattle.stores.proofs.Marks.{below_more, set_below, set_marks}
@@ -132,7 +132,7 @@ module _ {atoms : List ℕ} {rule : ℕ} {ws next₀ ends marks₀ : List ℕ} {
           no_entry o = fails (entered ∙ ap (λ (t : Bool). t && eqb (get_or ws (get_or next a 0) 0) rule) (le-ltb (get_or next a 0) (get_or ends a 0) o))
 
           pub other_entry : (get_or ws (get_or next a 0) 0 ≡ rule → ⊥) → Answer marks' false
-          other_entry o = fails (entered ∙ ap (λ (t : Bool). ltb (get_or next a 0) (get_or ends a 0) && t) (ne_eqb (get_or ws (get_or next a 0) 0) rule o) ∙ and_false (ltb (get_or next a 0) (get_or ends a 0)))
+          other_entry o = fails (entered ∙ ap (λ (t : Bool). ltb (get_or next a 0) (get_or ends a 0) && t) (ne_eqb (get_or ws (get_or next a 0) 0) rule o) ∙ and-false (ltb (get_or next a 0) (get_or ends a 0)))
 
           pub read_entry : get_or next a 0 < get_or ends a 0 → get_or ws (get_or next a 0) 0 ≡ rule → {next' : List ℕ} → next' ≡ set next a (get_or next a 0 + 1) → Reading atoms rule ws next₀ ends marks₀ stamp next' marks' (i + 1)
           read_entry o r {next'} d = further

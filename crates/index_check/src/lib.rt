@@ -1,3 +1,4 @@
+#![tactic(auto)]
 // Whether words are the index of a rule store (document 02, W-209; refusal 19).
 ghost use Rattle.std.specs.Prelude.{◌≡◌, true, ◌≤◌, length, drop};
 ghost use Rattle.kinds.specs.Limits.{rule_limit};

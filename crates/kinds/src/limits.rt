@@ -2,24 +2,24 @@
 ghost use Rattle.std.specs.Prelude.{◌≡◌};
 ghost use Rattle.kinds.specs.Limits.{atom_limit, rule_limit, occurrence_limit, empty_counts, within};
 
-#[derive(Drop)]
+#[derive(Clone, Copy)]
 pub enum Kind {
     Plain,
     Preference,
 }
 
-#[derive(Drop)]
+#[derive(Clone, Copy)]
 pub struct Plain;
 
-#[derive(Drop)]
+#[derive(Clone, Copy)]
 pub struct Preference;
 
 // A verdict or the lister.
-#[derive(Drop)]
+#[derive(Clone, Copy)]
 pub struct Walk;
 
 // The class words that are no class.
-#[derive(Drop)]
+#[derive(Clone, Copy)]
 pub struct ClassWord;
 
 impl Plain {
@@ -102,7 +102,7 @@ impl Kind {
     }
 }
 
-#[derive(Drop)]
+#[derive(Clone, Copy)]
 pub struct Counts {
     pub atoms: usize,
     pub rules: usize,

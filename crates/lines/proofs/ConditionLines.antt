@@ -5,7 +5,7 @@ use mathlib.Core.Path.{◌≡◌, refl, sym, ap, ap₂, ◌∙◌, subst}
 use mathlib.Core.List.{List, [], ◌∷◌, ◌++◌}
 use mathlib.Core.Bool.{Bool, true, false, cond, ◌&&◌, ◌||◌}
 use lib.Dec.{T}
-use lib.ListN.{length, length_append}
+use lib.ListN.{length, length-append}
 use Rattle.kinds.specs.Words.{not_word, and_word, or_word, when_word, then_word}
 use Rattle.kinds.specs.declared.limits.Kind.{Kind}
 use Rattle.kinds.specs.declared.limits.Kind.TheVariants.{Plain, Preference}
@@ -97,7 +97,7 @@ split_then_lem [] a = refl
 split_then_lem (t ∷ ts) a = go (only_name (split_list then_word (t ∷ (ts ++ then_tokens a)))) refl (split_then_lem ts a)
   where
     go : (p : Conditional) → only_name (split_list then_word (t ∷ (ts ++ then_tokens a))) ≡ p → split_then (ts ++ then_tokens a) ≡ conditional ts a → then_or p (in_front t (split_then (ts ++ then_tokens a))) ≡ conditional (t ∷ ts) a
-    go (conditional vs b) e r = absurd (omega (arith, ap length (only_then (t ∷ (ts ++ then_tokens a)) e).0, length_append ts (then_tokens a)))
+    go (conditional vs b) e r = absurd (omega (arith, ap length (only_then (t ∷ (ts ++ then_tokens a)) e).0, length-append ts (then_tokens a)))
     go unconditional e r = ap (in_front t) r
 
 pub when_form_lem : (us ts : List Token) (a : List ℕ) → us ≡ ts ++ then_tokens a → when_form us ≡ cond (pairs 0 ts) (condition ts a) broken

@@ -5,7 +5,7 @@ use native.Mathlib.Nat.{add-sub_cancel_left}
 use native.Mathlib.Omega.{arith}
 use mathlib.Core.Path.{◌≡◌, refl, sym, ap, ◌∙◌}
 use mathlib.Core.List.{List, [], ◌∷◌}
-use mathlib.Core.Bool.{Bool, true, false, cond, ◌||◌, or_false}
+use mathlib.Core.Bool.{Bool, true, false, cond, ◌||◌, or-false}
 use lib.Dec.{eqb}
 use lib.ListN.{length, get_or, take, drop, length-drop, drop_of_length-le}
 use lib.Seq.{drop-cons, drop-drop}
@@ -27,7 +27,7 @@ ends xs = record { inside = zero-le; left = refl }
 
 module _ {xs : List ℕ} {i : ℕ} {flag : Bool} (w : Ends xs i flag) where
   pub ends_passed : length xs ≤ i → flag ≡ some is_end xs
-  ends_passed l = sym (or_false flag) ∙ ap (λ t. flag || some is_end t) (sym (drop_of_length-le xs l)) ∙ w.left
+  ends_passed l = sym (or-false flag) ∙ ap (λ t. flag || some is_end t) (sym (drop_of_length-le xs l)) ∙ w.left
 
   module _ (lt : i < length xs) where
     split : some is_end (drop i xs) ≡ (is_end (get_or xs i 0) || some is_end (drop (i + 1) xs))

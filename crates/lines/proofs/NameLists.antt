@@ -14,7 +14,7 @@ use Rattle.names.specs.Names.{name_class, takes, allowed}
 use Rattle.name_store.specs.NameStore.{same_bytes}
 use Rattle.name_store.proofs.NameStores.{same_self}
 use Rattle.rules.specs.Lists.{some}
-use Rattle.rules.proofs.Booleans.{or_assoc, or_true, or_false, is_true_lem}
+use Rattle.rules.proofs.Booleans.{or_assoc, or-true, or-false, is_true_lem}
 use Rattle.lines.specs.declared.scan.Item.{Item}
 use Rattle.lines.specs.declared.scan.Item.TheVariants.{At, Stop}
 use Rattle.lines.specs.declared.scan.Place.{Place}
@@ -110,7 +110,7 @@ module _ {kind : Kind} {s : List ℕ} {from end count : ℕ} {refused : Bool} (h
             inside = k.1;
             are_names_lem = sym h.naming ∙ ap are_names out;
             is_count = sym (add-zero count) ∙ ap (λ l. count + length l) (sym out) ∙ h.counted;
-            is_refused = sym (or_false refused) ∙ ap (λ l. refused || some (refused_name kind) l) (sym out) ∙ h.refusing;
+            is_refused = sym (or-false refused) ∙ ap (λ l. refused || some (refused_name kind) l) (sym out) ∙ h.refusing;
           };
         }
 
@@ -154,11 +154,11 @@ module _ {kind : Kind} {s : List ℕ} {from end count : ℕ} {refused : Bool} (h
 
       pub name_taken : q ≡ Fit.Taken → {b : Bool} → b ≡ refused → Naming kind s from (end + g + n) (count + 1) b
       unfolding allowed
-      name_taken k p = let t = fit_says kind x f k in on t.0 (p ∙ sym (ap (λ (y : Bool). refused || y) t.1 ∙ or_false refused))
+      name_taken k p = let t = fit_says kind x f k in on t.0 (p ∙ sym (ap (λ (y : Bool). refused || y) t.1 ∙ or-false refused))
 
       pub name_refused : q ≡ Fit.Refused → {b : Bool} → b ≡ true → Naming kind s from (end + g + n) (count + 1) b
       unfolding allowed
-      name_refused k p = let t = fit_says kind x f k in on t.0 (p ∙ sym (ap (λ (y : Bool). refused || y) t.1 ∙ or_true refused))
+      name_refused k p = let t = fit_says kind x f k in on t.0 (p ∙ sym (ap (λ (y : Bool). refused || y) t.1 ∙ or-true refused))
 
 -- a bracket with its word
 

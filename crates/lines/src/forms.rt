@@ -10,7 +10,7 @@ use kinds::limits::Kind;
 use names::forms::NameClass;
 
 // What a name is to a kind of program: taken, refused by its length or as a generated one (refusal 3), or no name.
-#[derive(Drop)]
+#[derive(Clone, Copy)]
 pub enum NameFit {
     Taken,
     Refused,
@@ -18,7 +18,7 @@ pub enum NameFit {
 }
 
 // Names up to a closing bracket: where it ends, their number, and whether one of them is refused; or no such list.
-#[derive(Drop)]
+#[derive(Clone, Copy)]
 pub enum Names {
     List {
         end: usize,
@@ -29,7 +29,7 @@ pub enum Names {
 }
 
 // The word of a line that declares atoms.
-#[derive(Drop)]
+#[derive(Clone, Copy)]
 pub enum Keyword {
     Atoms,
     Min,
@@ -38,7 +38,7 @@ pub enum Keyword {
 }
 
 // The form of a line, and of a rule whether one of its names is refused.
-#[derive(Drop)]
+#[derive(Clone, Copy)]
 pub enum Shape {
     Blank,
     Declares(DeclaredShape),
@@ -48,7 +48,7 @@ pub enum Shape {
 }
 
 // Where the names start, how many there are, and whether one of them is refused.
-#[derive(Drop)]
+#[derive(Clone, Copy)]
 pub struct DeclaredShape {
     pub word: Keyword,
     pub from: usize,

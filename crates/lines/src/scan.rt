@@ -8,21 +8,21 @@ ghost use Rattle.lines.specs.Tokens.{is_ending, is_delimiter, run, tokens};
 ghost use Rattle.lines.specs.Shapes.{begins, gap, item_of, WholeWord, ClosedIs, OpenedIs, BracketIs};
 
 // A word behind so many spaces, or anything else.
-#[derive(Drop)]
+#[derive(Clone, Copy)]
 pub enum Item {
     At { gap: usize, size: usize },
     Stop,
 }
 
 // The place behind what is looked for, or that something else stands there.
-#[derive(Drop)]
+#[derive(Clone, Copy)]
 pub enum Place {
     At(usize),
     Absent,
 }
 
 // A bracket by its place, or anything else.
-#[derive(Drop)]
+#[derive(Clone, Copy)]
 pub enum Bracket {
     Opening(usize),
     Closing(usize),

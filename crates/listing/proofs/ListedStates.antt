@@ -7,7 +7,7 @@ use mathlib.Core.Bool.{Bool, true, false, cond}
 use mathlib.Core.Logic.{⊎_elim}
 use mathlib.Core.List.{List, [], ◌∷◌, ◌++◌, append_assoc}
 use lib.Dec.{T, leb}
-use lib.ListN.{length, get_or, take, drop, length_append}
+use lib.ListN.{length, get_or, take, drop, length-append}
 use lib.Pow.{pow_mono}
 use types.Run.{OneOf}
 use denote.Enum.Declared.{tag_of}
@@ -63,7 +63,7 @@ module _ (names : List (List ℕ)) (short : All (λ x. length x ≤ longest_name
   members_short (suc c) i n e =
       omega (
         arith,
-        ap length (member_next names s i n (omega arith)).is ∙ length_append (member names s i) (members names s (i + 1) n),
+        ap length (member_next names s i n (omega arith)).is ∙ length-append (member names s i) (members names s (i + 1) n),
         member_short i,
         members_short c (i + 1) n (omega arith),
       )
@@ -73,7 +73,7 @@ module _ (names : List (List ℕ)) (short : All (λ x. length x ≤ longest_name
       omega (
         arith,
         ap length (state_opens names s (length names) refl).is,
-        length_append (members names s 0 (length names)) closing,
+        length-append (members names s 0 (length names)) closing,
         members_short (length names) 0 (length names) (omega arith),
       )
 
@@ -163,7 +163,7 @@ module _ {next : ℕ → NextState} {n : ℕ} {names : List (List ℕ)} {before 
   -- the listing so far already passes the size
   pub passed : stream_limit < at → Limited (listing (place n) (λ t. next_at n (next t)) (suc (2 ^ n)) names 0 0) before now at
   passed l =
-      let e = ap length (sym h.all) ∙ length_append h.written (rest h.left) in
+      let e = ap length (sym h.all) ∙ length-append h.written (rest h.left) in
       record { fits = λ k. absurd (omega (arith, e, h.so.place)); past = λ k. l }
 
   module _ {found : NextState} (e : found ≡ next start) where

@@ -4,7 +4,7 @@ use native.Mathlib.Numerals.{one-add}
 use native.Mathlib.Omega.{arith}
 use mathlib.Core.Path.{◌≡◌, ap, ◌∙◌, subst}
 use mathlib.Core.List.{List, map}
-use lib.ListN.{length, length_map}
+use lib.ListN.{length, length-map}
 use Rattle.kinds.specs.Sizes.{longest_name, longest_entry}
 use Rattle.kinds.specs.Words.{bytes, decimal}
 use Rattle.rules.specs.Lists.{from}
@@ -43,7 +43,7 @@ module _ (t at : ℕ) (r : InRange at (made_name t)) where
 pub names_short : (n : ℕ) → length (encode_names (map made_name (from 1 n))) ≤ longest_entry * n
 names_short n =
     let short = all_map (λ x. length x ≤ longest_name) made_name (from 1 n) (all_each (λ t. length (made_name t) ≤ longest_name) (λ t. omega (arith, name_short t)) (from 1 n)) in
-    omega (arith, encoded_length (map made_name (from 1 n)) short, length_map (from 1 n) made_name, length_from 1 n)
+    omega (arith, encoded_length (map made_name (from 1 n)) short, length-map (from 1 n) made_name, length_from 1 n)
 
 pub names_begin : (d : List ℕ) (n at : ℕ) → InRange at (encode_names (map made_name (from 1 n))) → Emitting (encode_names (map made_name (from 1 n))) d at (numbered_names made_name 1 (suc n)) d at
 names_begin d n at r =

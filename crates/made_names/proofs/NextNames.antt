@@ -10,7 +10,7 @@ use lib.ListN.{length, take}
 use Rattle.kinds.specs.Limits.{atom_limit}
 use Rattle.kinds.specs.declared.limits.Kind.TheVariants.{Preference}
 use Rattle.rules.specs.Lists.{All, some, from}
-use Rattle.rules.proofs.Booleans.{is_true_lem, is_false, or_false, T-not-out}
+use Rattle.rules.proofs.Booleans.{is_true_lem, is_false, or-false, T-not-out}
 use Rattle.rules.proofs.Lists.{some_app, from_append}
 use Rattle.names.specs.Names.{made_name, takes, allowed}
 use Rattle.names.proofs.MadeNames.{made_past}
@@ -76,7 +76,7 @@ look_first {p} {made} {count} {last} e m f =
       past = omega arith;
       left =
           ap₂ (λ k j. some p (from k j)) (add-one made) c
-          ∙ sym (or_false (some p (from (suc made) (last - made))))
+          ∙ sym (or-false (some p (from (suc made) (last - made))))
           ∙ ap (λ b. some p (from (suc made) (last - made)) || b) (sym (none_from p (suc made + (last - made)) (made + count - last) (λ t l u. f t (omega arith) (omega arith))))
           ∙ sym (some_app p (from (suc made) (last - made)) (from (suc made + (last - made)) (made + count - last)))
           ∙ ap (some p) (from_append (suc made) (last - made) (made + count - last) ∙ ap (from (suc made)) all);

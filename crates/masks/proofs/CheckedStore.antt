@@ -3,7 +3,7 @@ use Prim.Native.Nat.{ℕ, ◌+◌, ◌-◌, ◌≤◌, ◌<◌}
 use mathlib.Core.Path.{◌≡◌, sym, ap, ap₂, ◌∙◌, subst}
 use mathlib.Core.List.{List, map}
 use native.Mathlib.Omega.{arith}
-use lib.ListN.{length, get_or, take, drop, length_map}
+use lib.ListN.{length, get_or, take, drop, length-map}
 use Rattle.kinds.specs.Limits.{rule_limit, class_limit, walk_atoms, fixed}
 use Rattle.kinds.specs.declared.limits.Kind.{Kind}
 use Rattle.kinds.specs.declared.limits.Kind.TheVariants.{Plain, Preference}
@@ -90,7 +90,7 @@ module _ (ws : List ℕ) (n r : ℕ) (h : PreferenceHeader ws n r) where
     rules_front : (g : Rule ℕ → ℕ) (d l : List ℕ) → l ≡ over (map g (rules_from r rule_part)) d → take r l ≡ map g (decode ws).rules
     rules_front g d l e =
         ap (take r) (e ∙ ap (λ (x : List (Rule ℕ)). over (map g x) d) rules_are)
-        ∙ front_of (map g (decode ws).rules) d r (length_map (decode ws).rules g ∙ sym r_is)
+        ∙ front_of (map g (decode ws).rules) d r (length-map (decode ws).rules g ∙ sym r_is)
 
     pub masks_filled : (ks cs wants c₀ w₀ : List ℕ) → ks ≡ class_masks class_part 1 class_limit
         → (cs ≡ over (map (care_at n) (rules_from r rule_part)) c₀) × (wants ≡ over (map (want_at n) (rules_from r rule_part)) w₀)

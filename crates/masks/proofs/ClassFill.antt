@@ -7,7 +7,7 @@ use native.Mathlib.Decide.{ℕ_discrete}
 use native.Mathlib.Omega.{arith}
 use lib.Dec.{eqb, leb}
 use lib.Bits.{bit_or, or_zero_l, or_zero_r}
-use lib.ListN.{length, get_or, set, replicate, length_map}
+use lib.ListN.{length, get_or, set, replicate, length-map}
 use borrow.Author.Tests.{ne_eqb, eq-eqb, eqb-true, leb-true, le-leb}
 use Rattle.kinds.specs.Limits.{class_limit, varying, fixed}
 use Rattle.rules.specs.Lists.{keep, filter, from}
@@ -179,7 +179,7 @@ module _ (words : List ℕ) where
 
   module _ (ks : List ℕ) (x i : ℕ) (h : Noting ks x i) where
     pub notes_length : length ks ≡ class_limit
-    notes_length = ap length h.classes ∙ length_map (from 1 class_limit) (λ c. place_mask (length words) (below words i c))
+    notes_length = ap length h.classes ∙ length-map (from 1 class_limit) (λ c. place_mask (length words) (below words i c))
 
     pub notes_go_on : (ks' : List ℕ) (y b : ℕ) → i < length words → b ≡ 2 ^ mirror (length words) i
         → ks' ≡ noted (get_or words i 0) b ks → y ≡ cond (eqb (get_or words i 0) fixed) b 0 → Noting ks' (bit_or x y) (i + 1)

@@ -3,7 +3,7 @@ use Prim.Native.Nat.{ℕ, ◌≤◌}
 use mathlib.Core.Path.{◌≡◌, sym, ap, ◌∙◌, subst}
 use mathlib.Core.List.{List, []}
 use native.Mathlib.Omega.{arith}
-use lib.ListN.{length, take, length-take, length_map}
+use lib.ListN.{length, take, length-take, length-map}
 use Rattle.kinds.specs.declared.limits.Kind.{Kind}
 use Rattle.kinds.specs.declared.limits.Kind.TheVariants.{Preference}
 use Rattle.rules.specs.Lists.{All}
@@ -19,10 +19,10 @@ taken_fits r l e = omega (arith, length-take r l)
 
 module _ {p : Program} {cs wants ks : List ℕ} {z : Sizes} (d : MasksOf p cs wants ks z) where
   pub care_length : z.rules ≡ length (take z.rules cs)
-  care_length = sym (ap length d.care_front ∙ length_map p.rules (care_at p.atoms) ∙ sym d.rules_are)
+  care_length = sym (ap length d.care_front ∙ length-map p.rules (care_at p.atoms) ∙ sym d.rules_are)
 
   pub want_length : z.rules ≡ length (take z.rules wants)
-  want_length = sym (ap length d.want_front ∙ length_map p.rules (want_at p.atoms) ∙ sym d.rules_are)
+  want_length = sym (ap length d.want_front ∙ length-map p.rules (want_at p.atoms) ∙ sym d.rules_are)
 
   pub class_forms : ClassesForm Preference p.atoms p.classes p.words
   class_forms = subst (λ (x : Kind). ClassesForm x p.atoms p.classes p.words) d.is_preference d.form.classes_form

@@ -131,11 +131,11 @@ agrees s m c = let r = same_members (bit_and s c) (bit_and m c) in (
 )
   where
     out : (p q c : Bool) → T c → (p && c) ≡ (q && c) → p ≡ q
-    out p q true t e = sym (and_true p) ∙ e ∙ and_true q
+    out p q true t e = sym (and-true p) ∙ e ∙ and-true q
       where
-        and_true : (p : Bool) → (p && true) ≡ p
-        and_true true = refl
-        and_true false = refl
+        and-true : (p : Bool) → (p && true) ≡ p
+        and-true true = refl
+        and-true false = refl
     out p q false t e = absurd t
 
     into : (p q c : Bool) → (T c → p ≡ q) → (p && c) ≡ (q && c)

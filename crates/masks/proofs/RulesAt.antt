@@ -1,7 +1,7 @@
 -- The rules of a program of n atoms, met at the place of a set.
 use Prim.Native.Nat.{ℕ, ◌<◌}
 use mathlib.Core.Path.{◌≡◌, sym, ap, ap₂, ◌∙◌}
-use mathlib.Core.List.{List, [], map, map_map}
+use mathlib.Core.List.{List, [], map, map-map}
 use Rattle.rules.specs.Lists.{All}
 use Rattle.rules.specs.Sets.{has}
 use Rattle.rules.specs.Rules.{Rule, first_broken, rename}
@@ -15,6 +15,6 @@ use Rattle.masks.proofs.RuleMasks.{first_mask}
 
 pub first_at : (n : ℕ) (rs : List (Rule ℕ)) → All (Within (λ a. a < n)) rs → All (λ r. r.nots ≡ []) rs → (m : ℕ) → first_m (place n m) (map (care_at n) rs) (map (want_at n) rs) ≡ first_broken rs (has m)
 first_at n rs below plain m =
-    ap₂ (first_m (place n m)) (sym (map_map care_of (rename (mirror n)) rs)) (sym (map_map want_of (rename (mirror n)) rs))
+    ap₂ (first_m (place n m)) (sym (map-map care_of (rename (mirror n)) rs)) (sym (map-map want_of (rename (mirror n)) rs))
     ∙ first_mask (place n m) (map (rename (mirror n)) rs) (all_map (λ r. r.nots ≡ []) (rename (mirror n)) rs (all_imp (λ r. r.nots ≡ []) _ (λ r e. ap (map (mirror n)) e) rs plain))
     ∙ first_moved (mirror n) (λ a. a < n) m (place n m) (place_atoms n m) rs below

@@ -7,7 +7,7 @@ use native.Mathlib.Nat.{sub-zero}
 use native.Mathlib.Numerals.{add-one}
 use native.Mathlib.Omega.{arith}
 use lib.Bits.{bit_or}
-use lib.ListN.{length, get_or, take, drop, set, length-set, length_map, length-drop}
+use lib.ListN.{length, get_or, take, drop, set, length-set, length-map, length-drop}
 use lib.Seq.{drop-cons, drop-drop, set_at, length-take-le, append_snoc, take-suc, take_all, take_at}
 use Rattle.rules.specs.Lists.{over}
 use Rattle.rules.specs.Rules.{Rule}
@@ -115,7 +115,7 @@ module _ (ws : List ℕ) (rules n : ℕ) (c₀ w₀ : List ℕ) where
     entry g = sym (map_at g All-rules j (rule_at front) 0 in_rules ∙ ap g here)
 
     in_map : (g : Rule ℕ → ℕ) → j < length (map g All-rules)
-    in_map g = omega (arith, length_map All-rules g, in_rules)
+    in_map g = omega (arith, length-map All-rules g, in_rules)
 
     rest_stored : StoredRules n (rules - (j + 1)) (drop (at + (3 + places front)) ws)
     rest_stored = subst (StoredRules n (rules - (j + 1))) (drop-drop (3 + places (drop at ws)) at ws ∙ ap (λ (x : List ℕ). drop (at + (3 + places x)) ws) (sym (part_rest at ws))) stored_here.1
@@ -136,7 +136,7 @@ module _ (ws : List ℕ) (rules n : ℕ) (c₀ w₀ : List ℕ) where
 
   whole : (d : List ℕ) (g : Rule ℕ → ℕ) → part d (map g All-rules) rules ≡ over (map g All-rules) d
   whole d g =
-      let e : length (map g All-rules) ≡ rules = length_map All-rules g ∙ rules_count rules ws in
+      let e : length (map g All-rules) ≡ rules = length-map All-rules g ∙ rules_count rules ws in
       ap₂ (λ (x : List ℕ) (k : ℕ). x ++ drop k d) (take_all rules (map g All-rules) (omega arith)) (sym e)
 
   pub fill_ends : (cs wants : List ℕ) (at j : ℕ) → Filling cs wants at j → rules ≤ j

@@ -10,7 +10,7 @@ use kinds::refusals::Refusal;
 use store_check::store_forms::check_rules;
 use stores::rule_store::RuleStore;
 
-#[derive(Drop)]
+#[derive(Clone, Copy)]
 pub enum Guard {
     Passed,
     Refused { refusal: Refusal },

@@ -12,14 +12,14 @@ ghost use Rattle.masks.specs.FilledMasks.{MasksOf};
 use stores::roles::{Role, role_of};
 use stores::rule_words::rule_size;
 
-#[derive(Drop)]
+#[derive(Clone, Copy)]
 pub struct RuleMasks {
     pub care: u64,
     pub want: u64,
 }
 
 // How much of the masks is filled, and the mask of the fixed atoms.
-#[derive(Drop)]
+#[derive(Clone, Copy)]
 pub struct Sizes {
     pub atoms: usize,
     pub rules: usize,

@@ -6,7 +6,7 @@ use mathlib.Core.Path.{◌≡◌, refl, sym, ap, ap₂, ◌∙◌, subst, subst�
 use mathlib.Core.List.{List, [], ◌∷◌, ◌++◌}
 use mathlib.Core.Bool.{Bool, true, false, ◌&&◌, cond, not}
 use lib.Dec.{T, leb, eqb, leb→le}
-use lib.ListN.{length, get_or, take, drop, set, replicate, length_append, length-drop, length-set, take-append-drop}
+use lib.ListN.{length, get_or, take, drop, set, replicate, length-append, length-drop, length-set, take-append-drop}
 use lib.Seq.{length-take-le, drop-cons, drop-drop}
 use Rattle.kinds.specs.Sizes.{longest_entry}
 use Rattle.kinds.specs.declared.limits.Kind.{Kind}
@@ -65,7 +65,7 @@ check_begins kind bytes atoms starts firsts links few s e n = record {
 
 module _ {kind : Kind} {bytes : List ℕ} {atoms : ℕ} {starts₀ firsts₀ links₀ starts firsts links : List ℕ} {at atom : ℕ} (k : Checking kind bytes atoms starts₀ firsts₀ links₀ starts firsts links at atom) where
   inside : at ≤ length bytes
-  inside = omega (arith, k.here, length_append (encode_names (decode_names atom bytes)) (drop (length (encode_names (decode_names atom bytes))) bytes), ap length k.index.placed.stored)
+  inside = omega (arith, k.here, length-append (encode_names (decode_names atom bytes)) (drop (length (encode_names (decode_names atom bytes))) bytes), ap length k.index.placed.stored)
 
   pub check_passed : atoms ≤ atom → (eqb at (length bytes) ≡ are_names kind atoms bytes) × (eqb at (length bytes) ≡ true → Indexed (decode_names atoms bytes) bytes starts firsts links)
   unfolding are_names_from
@@ -152,7 +152,7 @@ module _ {kind : Kind} {bytes : List ℕ} {atoms : ℕ} {starts₀ firsts₀ lin
 
             grown : decode_names (atom + 1) bytes ≡ names ++ (x ∷ [])
             grown =
-                let n : length (names ++ (x ∷ [])) ≡ atom + 1 = length_append names (x ∷ []) ∙ ap (λ m. m + 1) (length_decode atom bytes) in
+                let n : length (names ++ (x ∷ [])) ≡ atom + 1 = length-append names (x ∷ []) ∙ ap (λ m. m + 1) (length_decode atom bytes) in
                 ap (λ m. decode_names m bytes) (sym n) ∙ placed_names_lem index_more.placed
 
             index_set : Indexed (decode_names (atom + 1) bytes) bytes (set starts atom at) (set firsts (name_hash x) (atom + 1)) (set links atom (get_or firsts (name_hash x) 0))
@@ -174,7 +174,7 @@ module _ {kind : Kind} {bytes : List ℕ} {atoms : ℕ} {starts₀ firsts₀ lin
                 let s = ap length es' ∙ length-set starts atom at in
                 let n = ap length en' ∙ length-set links atom (get_or firsts (name_hash x) 0) in
                 let size : length (encode_names (decode_names (atom + 1) bytes)) ≡ at + suc (length x) =
-                ap (λ l. length (encode_names l)) grown ∙ ap length (encode_last names x) ∙ length_append (encode_names names) (name_bytes x) ∙ ap (λ m. m + suc (length x)) (sym k.here) in
+                ap (λ l. length (encode_names l)) grown ∙ ap length (encode_last names x) ∙ length-append (encode_names names) (name_bytes x) ∙ ap (λ m. m + suc (length x)) (sym k.here) in
                 record {
                   same_starts = s ∙ k.same_starts;
                   same_firsts = ap length eh' ∙ length-set firsts (name_hash x) (atom + 1) ∙ k.same_firsts;

@@ -1,3 +1,4 @@
+#![tactic(auto)]
 // The check of a name store (document 01, refusal 14).
 ghost use Rattle.std.specs.Prelude.{◌≡◌, true, ◌≤◌, length, replicate};
 ghost use Rattle.kinds.specs.Limits.{atom_limit};

@@ -9,7 +9,7 @@ use lib.Dec.{eqb}
 use lib.ListN.{length, get_or, take, drop, length-take, length-drop, drop_of_length-le}
 use lib.Seq.{drop-cons, drop-drop}
 use borrow.Author.Tests.{eq-eqb, ne_eqb, not-true, not-false}
-use Rattle.rules.proofs.Booleans.{and_false}
+use Rattle.rules.proofs.Booleans.{and-false}
 use Rattle.name_store.specs.NameStore.{same_bytes}
 use Rattle.name_store.specs.NameIndex.{buckets, hash_from, name_hash}
 
@@ -64,7 +64,7 @@ module _ {a b : List ℕ} {from i : ℕ} {flag : Bool} (h : Same a b from i flag
         rw (add-one, drop-cons a i 0, drop-cons b i 0)
 
     pub same_differs : (get_or a i 0 ≡ get_or b i 0 → ⊥) → false ≡ same_bytes (drop from a) (drop from b)
-    same_differs e = sym (and_false flag) ∙ ap (λ t. flag && t) (sym (rw (ne_eqb _ _ e) at same_step)) ∙ h.left
+    same_differs e = sym (and-false flag) ∙ ap (λ t. flag && t) (sym (rw (ne_eqb _ _ e) at same_step)) ∙ h.left
 
     pub same_not : (get_or a i 0 ≡ get_or b i 0 → ⊥) → {flag' : Bool} → flag' ≡ false → Same a b from (i + 1) flag'
     same_not e d = record { long = h.long; inside = omega arith; left = ap (λ t. t && same_bytes (drop (i + 1) a) (drop (i + 1) b)) d ∙ same_differs e }

@@ -8,7 +8,7 @@ use mathlib.Core.Logic.{◌≢◌}
 use mathlib.Core.List.{List, [], ◌∷◌, ◌++◌, append_assoc, append-nil}
 use mathlib.Core.Bool.{true, false, cond, not}
 use lib.Dec.{eqb}
-use lib.ListN.{replicate, length-replicate, get_or-replicate, length, get_or, take, drop, set, length_append, length-set, get_or-append}
+use lib.ListN.{replicate, length-replicate, get_or-replicate, length, get_or, take, drop, set, length-append, length-set, get_or-append}
 use lib.Seq.{length-take-le, take-suc, get_or-take, drop-append_seam, take-append-le, take-append_seam, get_or-append_seam, get_or-set_same, get_or-set_other, drop-drop}
 use borrow.Author.Tests.{eq-eqb, ne_eqb}
 use Rattle.rules.specs.Lists.{All, Distinct, some}
@@ -35,7 +35,7 @@ encode_last names x = encode_append names (x ∷ []) ∙ ap (λ l. encode_names 
 pub place_next : (names : List (List ℕ)) (i : ℕ) → i < length names → name_start names (i + 1) ≡ name_start names i + (1 + length (get_or names i []))
 place_next names i l =
     let e : take (i + 1) names ≡ take i names ++ (get_or names i [] ∷ []) = ap (λ k. take k names) (add-one i) ∙ take-suc names i [] l in
-    omega (arith, ap (λ x. length (encode_names x)) e ∙ ap length (encode_last (take i names) (get_or names i [])) ∙ length_append (encode_names (take i names)) (name_bytes (get_or names i [])))
+    omega (arith, ap (λ x. length (encode_names x)) e ∙ ap length (encode_last (take i names) (get_or names i [])) ∙ length-append (encode_names (take i names)) (name_bytes (get_or names i [])))
 
 distinct_last : (names : List (List ℕ)) (x : List ℕ) → Distinct names → All (λ y. x ≢ y) names → Distinct (names ++ (x ∷ []))
 distinct_last [] x d f = (tt, tt)
@@ -72,7 +72,7 @@ module _ {names : List (List ℕ)} {bytes starts firsts links : List ℕ} (ix : 
   at = length (encode_names names)
 
   counts : length more ≡ suc (length names)
-  counts = length_append names (x ∷ []) ∙ add-one (length names)
+  counts = length-append names (x ∷ []) ∙ add-one (length names)
 
   old_name : (i : ℕ) → i < length names → get_or more i [] ≡ get_or names i []
   old_name i l = get_or-append names (x ∷ []) [] i l
@@ -86,7 +86,7 @@ module _ {names : List (List ℕ)} {bytes starts firsts links : List ℕ} (ix : 
   placed_more : Placed more bytes (set starts (length names) at)
   placed_more = record {
     stored =
-        ap₂ ◌++◌ (encode_last names x) (ap (λ n. drop n bytes) (ap length (encode_last names x) ∙ length_append (encode_names names) (name_bytes x))
+        ap₂ ◌++◌ (encode_last names x) (ap (λ n. drop n bytes) (ap length (encode_last names x) ∙ length-append (encode_names names) (name_bytes x))
         ∙ sym (drop-drop (length (name_bytes x)) at bytes) ∙ ap (drop (length (name_bytes x))) follows ∙ drop-append_seam (name_bytes x) rest)
         ∙ append_assoc (encode_names names) (name_bytes x) rest ∙ ap (λ l. encode_names names ++ l) (sym follows) ∙ ix.placed.stored;
     room = omega (arith, counts, length-set starts (length names) at);

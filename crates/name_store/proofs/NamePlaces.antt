@@ -4,7 +4,7 @@ use native.Mathlib.Nat.{add-zero, add-sub_cancel_left}
 use native.Mathlib.Omega.{arith}
 use mathlib.Core.Path.{◌≡◌, refl, sym, ap, ap₂, ◌∙◌, subst}
 use mathlib.Core.List.{List, [], ◌∷◌, ◌++◌, append_assoc}
-use lib.ListN.{length, get_or, take, drop, length_append, length-drop}
+use lib.ListN.{length, get_or, take, drop, length-append, length-drop}
 use lib.Seq.{take-append_seam, drop-append-add, drop-drop, get_or-drop}
 use Rattle.name_store.specs.NameStore.{name_bytes, encode_names, first_name, decode_names}
 use lib.Dec.{leb}
@@ -36,7 +36,7 @@ pub record NameHere (bytes : List ℕ) (p : ℕ) (x : List ℕ) : Type 0 where
 
 pub stands : (bytes : List ℕ) (p : ℕ) (x rest : List ℕ) → drop p bytes ≡ name_bytes x ++ rest → NameHere bytes p x
 stands bytes p x rest e =
-    let long : length bytes - p ≡ suc (length x + length rest) = sym (length-drop p bytes) ∙ ap length e ∙ ap suc (length_append x rest) in
+    let long : length bytes - p ≡ suc (length x + length rest) = sym (length-drop p bytes) ∙ ap length e ∙ ap suc (length-append x rest) in
     let after : drop (p + 1) bytes ≡ x ++ rest = sym (drop-drop 1 p bytes) ∙ ap (drop 1) e in
     record {
       inside = omega arith;
@@ -50,7 +50,7 @@ unfolding encode_names
 drop_place [] rest i l = absurd (omega arith)
 drop_place (x ∷ names) rest zero l = append_assoc (name_bytes x) (encode_names names) rest
 drop_place (x ∷ names) rest (suc i) l =
-    let size : name_start (x ∷ names) (suc i) ≡ length (name_bytes x) + name_start names i = length_append (name_bytes x) (encode_names (take i names)) in
+    let size : name_start (x ∷ names) (suc i) ≡ length (name_bytes x) + name_start names i = length-append (name_bytes x) (encode_names (take i names)) in
     ap₂ drop size (append_assoc (name_bytes x) (encode_names names) rest)
     ∙ drop-append-add (name_bytes x) (encode_names names ++ rest) (name_start names i)
     ∙ drop_place names rest i (omega arith)

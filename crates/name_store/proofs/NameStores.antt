@@ -7,7 +7,7 @@ use mathlib.Core.Logic.{◌↔◌, ◌≢◌, ◌⊎◌, inl, inr}
 use mathlib.Core.List.{List, [], ◌∷◌, ◌++◌, append_assoc, append-nil}
 use mathlib.Core.Bool.{Bool, true, false, not, ◌&&◌, ◌||◌, cond}
 use lib.Dec.{T, leb, eqb, leb→le, le→leb, eqb→eq, eqb_refl}
-use lib.ListN.{length, get_or, take, drop, length_append, length-drop, take-append-drop}
+use lib.ListN.{length, get_or, take, drop, length-append, length-drop, take-append-drop}
 use lib.Seq.{length-take-le, take-append_seam, drop-append_seam}
 use Rattle.kinds.specs.Limits.{name_limit}
 use Rattle.kinds.specs.Sizes.{longest_name, longest_entry}
@@ -191,7 +191,7 @@ module _ (kind : Kind) where
   complete seen [] a d f = tt
   complete seen (x ∷ names) a d f =
       let bs = length x ∷ (x ++ encode_names names) in
-      let long : length bs ≡ suc (length x + length (encode_names names)) = ap suc (length_append x (encode_names names)) in
+      let long : length bs ≡ suc (length x + length (encode_names names)) = ap suc (length-append x (encode_names names)) in
       let fits : T (leb 1 (length bs) && leb (1 + length x) (length bs)) = T_and (leb 1 (length bs)) (leb (1 + length x) (length bs)) (le→leb 1 (length bs) (omega (arith, long))) (le→leb (1 + length x) (length bs) (omega (arith, long))) in
       let new : T (not (some (same_bytes x) seen)) = (not_seen x seen).1 f.0 in
       let tail = complete (seen ++ (x ∷ [])) names a.1 d.1 (both d.0 f.1) in
@@ -228,4 +228,4 @@ names_law kind n bs = (λ h. (decode_names n bs, decoded_names kind n bs h), λ 
 pub encoded_length : (names : List (List ℕ)) → All (λ x. length x ≤ longest_name) names → length (encode_names names) ≤ longest_entry * length names
 unfolding encode_names
 encoded_length [] h = omega arith
-encoded_length (x ∷ names) h = omega (arith, length_append x (encode_names names), encoded_length names h.1, h.0)
+encoded_length (x ∷ names) h = omega (arith, length-append x (encode_names names), encoded_length names h.1, h.0)

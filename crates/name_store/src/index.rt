@@ -6,7 +6,7 @@ ghost use Rattle.name_store.specs.NameIndex.{found, name_end, name_hash, buckets
 // The values of the hash.
 pub const BUCKETS: usize = 4096;
 
-#[derive(Drop)]
+#[derive(Clone, Copy)]
 pub enum Found {
     At(usize),
     Missing,

@@ -5,7 +5,7 @@ use mathlib.Core.Path.{◌≡◌, refl, sym, ap, ap₂, ◌∙◌}
 use mathlib.Core.List.{List, [], ◌∷◌, ◌++◌}
 use mathlib.Core.Bool.{Bool, true, false, cond}
 use lib.Dec.{T, leb, ltb, le→leb}
-use lib.ListN.{length, get_or, length_append}
+use lib.ListN.{length, get_or, length-append}
 use borrow.Author.Tests.{ltb-true, ltb-false}
 use Rattle.kinds.specs.Words.{digits, decimal}
 use Rattle.rules.specs.Lists.{All}
@@ -20,7 +20,7 @@ digits_few (suc f) x = go (ltb x 10) (digits_few f (x / 10))
   where
     go : (b : Bool) → length (digits f (x / 10)) ≤ f → length (cond b ((48 + x) ∷ []) (digits f (x / 10) ++ ((48 + x % 10) ∷ []))) ≤ suc f
     go true h = omega arith
-    go false h = omega (arith, length_append (digits f (x / 10)) ((48 + x % 10) ∷ []))
+    go false h = omega (arith, length-append (digits f (x / 10)) ((48 + x % 10) ∷ []))
 
 is_digit_lem : (d : ℕ) → d < 10 → T (is_digit (48 + d))
 is_digit_lem d l = T_and (leb 48 (48 + d)) (leb (48 + d) 57) (le→leb 48 (48 + d) (omega arith)) (le→leb (48 + d) 57 (omega arith))
@@ -57,7 +57,7 @@ digits_below (suc f) x k l = go (ltb x 10) refl k l (λ k. digits_below f (x / 1
     go : (b : Bool) → ltb x 10 ≡ b → (k : ℕ) → x < 10 ^ suc k → ((k : ℕ) → x / 10 < 10 ^ suc k → length (digits f (x / 10)) ≤ suc k) → length (cond b ((48 + x) ∷ []) (digits f (x / 10) ++ ((48 + x % 10) ∷ []))) ≤ suc k
     go true e k l r = omega arith
     go false e zero l r = let h : 10 ≤ x = ltb-false x 10 e in absurd (omega arith)
-    go false e (suc k) l r = omega (arith, length_append (digits f (x / 10)) ((48 + x % 10) ∷ []), r k (omega arith))
+    go false e (suc k) l r = omega (arith, length-append (digits f (x / 10)) ((48 + x % 10) ∷ []), r k (omega arith))
 
 -- no zero first
 pub digits_first : (f x : ℕ) → 1 ≤ x → x < 10 ^ f → get_or (digits f x) 0 0 ≡ 48 → ⊥

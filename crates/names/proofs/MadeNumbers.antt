@@ -14,7 +14,7 @@ use borrow.Author.Tests.{ne_eqb, lt-ltb}
 use Rattle.kinds.specs.Limits.{atom_limit}
 use Rattle.kinds.specs.declared.limits.Kind.TheVariants.{Preference}
 use Rattle.rules.specs.Lists.{every}
-use Rattle.rules.proofs.Booleans.{T_of, is_true_lem, is_false, and_false, eq_to_eqb}
+use Rattle.rules.proofs.Booleans.{T_of, is_true_lem, is_false, and-false, eq_to_eqb}
 use Rattle.rules.proofs.Connectives.{and_law}
 use Rattle.names.specs.Numerals.{is_digit, is_numeral, value_from, value}
 use Rattle.names.specs.Names.{is_house, is_atom_number, atom_number, is_made_name, made_number, is_common_name}
@@ -109,7 +109,7 @@ module _ (xs : List ℕ) where
     where
       short : (xs : List ℕ) → length xs < 2 → 0 ≡ made_number xs
       short [] l = refl
-      short (b ∷ []) l = simp (and_false (eqb b 84))
+      short (b ∷ []) l = simp (and-false (eqb b 84))
       short (b ∷ c ∷ xs) l = absurd (omega arith)
 
   pub made_other : (get_or xs 0 0 ≡ 84 → ⊥) → 0 ≡ made_number xs

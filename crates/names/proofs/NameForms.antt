@@ -4,7 +4,7 @@ use native.Mathlib.Numerals.{add-one}
 use native.Mathlib.Omega.{arith}
 use mathlib.Core.Path.{◌≡◌, refl, sym, ap, ◌∙◌}
 use mathlib.Core.List.{List, [], ◌∷◌}
-use mathlib.Core.Bool.{Bool, true, false, ◌&&◌, ◌||◌, or_false}
+use mathlib.Core.Bool.{Bool, true, false, ◌&&◌, ◌||◌, or-false}
 use mathlib.Core.Logic.{◌⊎◌, inl, inr}
 use lib.Dec.{leb}
 use lib.ListN.{length, get_or, take, drop, length-drop, drop_of_length-le}
@@ -70,7 +70,7 @@ module _ (bs : List ℕ) (some : length bs ≡ 0 → ⊥) {r : Bool} (is : r ≡
 
 pub number_one : (bs : List ℕ) {r : Bool} → length bs ≡ 1 → r ≡ is_digit (get_or bs 0 0) → r ≡ is_class_number bs
 unfolding is_class_number
-number_one bs n e = e ∙ simp (n, or_false)
+number_one bs n e = e ∙ simp (n, or-false)
 
 module _ (bs : List ℕ) (n : length bs ≡ 2) (e : get_or bs 0 0 ≡ 49) where
   pub number_two : 48 ≤ get_or bs 1 0 → leb (get_or bs 1 0) 54 ≡ is_class_number bs

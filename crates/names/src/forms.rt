@@ -6,7 +6,7 @@ ghost use Rattle.names.specs.Names.{is_letter, is_first_byte, is_name_byte, is_h
 
 use kinds::limits::{Kind, Preference};
 
-#[derive(Drop)]
+#[derive(Clone, Copy)]
 pub enum NameClass {
     // A name of both kinds: a house name, or `T.` and a number.
     Common,

@@ -1,2 +1,3 @@
+#![tactic(auto)]
 // Which bytes are names (document 01, "The two kinds of file").
 pub mod forms;

@@ -4,12 +4,12 @@ use native.Mathlib.Omega.{arith}
 use mathlib.Core.Path.{◌≡◌, refl, sym, ap, ap₂, ◌∙◌, subst}
 use mathlib.Core.Bool.{Bool, true, false, ◌||◌}
 use mathlib.Core.List.{List, [], ◌∷◌, ◌++◌, append_assoc, append-nil}
-use lib.ListN.{length, drop, length_append}
+use lib.ListN.{length, drop, length-append}
 use Rattle.kinds.specs.Sizes.{longest_name}
 use Rattle.kinds.specs.Limits.{atom_limit}
 use Rattle.kinds.specs.declared.limits.Kind.TheVariants.{Plain}
 use Rattle.rules.specs.Lists.{some}
-use Rattle.rules.proofs.Booleans.{or_assoc, or_false}
+use Rattle.rules.proofs.Booleans.{or_assoc, or-false}
 use Rattle.rules.proofs.Lists.{some_app}
 use Rattle.name_store.specs.NameStore.{name_bytes, encode_names, decode_names, same_bytes, among}
 use Rattle.name_store.specs.NameIndex.{found, Indexed}
@@ -138,7 +138,7 @@ module _ {names : List (List ℕ)} {s : List ℕ} {from : ℕ} {bytes starts fir
 
         last_twice : twice names (h.passed ++ (x ∷ [])) ≡ among held x
         unfolding twice
-        last_twice = twice_split names h.passed (x ∷ []) ∙ ap (λ b. b || (among held x || false)) h.once ∙ or_false (among held x)
+        last_twice = twice_split names h.passed (x ∷ []) ∙ ap (λ b. b || (among held x || false)) h.once ∙ or-false (among held x)
 
         pub entered_twice : q ≡ false → twice names (items (drop from s)) ≡ true
         unfolding twice
@@ -152,7 +152,7 @@ module _ {names : List (List ℕ)} {s : List ℕ} {from : ℕ} {bytes starts fir
             let k = said t in
             let grown : held ++ (x ∷ []) ≡ names ++ (h.passed ++ (x ∷ [])) = append_assoc names h.passed (x ∷ []) in
             let size : length (encode_names (held ++ (x ∷ []))) ≡ length (encode_names held) + (1 + n) =
-            ap length (encode_last held x) ∙ length_append (encode_names held) (name_bytes x) ∙ ap (λ m. length (encode_names held) + m) (plus_one (item_length s i e d)) in
+            ap length (encode_last held x) ∙ length-append (encode_names held) (name_bytes x) ∙ ap (λ m. length (encode_names held) + m) (plus_one (item_length s i e d)) in
             record {
               passed = h.passed ++ (x ∷ []);
               inside = entry_inside;
@@ -161,13 +161,13 @@ module _ {names : List (List ℕ)} {s : List ℕ} {from : ℕ} {bytes starts fir
               once = last_twice ∙ k.0;
               stored = subst (λ l. Stored l bytes' starts' firsts' links' (atom + 1) (at + (1 + n))) grown (record {
                 index = k.1;
-                count = omega (arith, h.stored.count, length_append held (x ∷ []));
+                count = omega (arith, h.stored.count, length-append held (x ∷ []));
                 ends = omega (arith, h.stored.ends, size);
                 short = omega (arith, h.stored.short, item_length s i e d, shorts.0);
                 few = omega arith;
               });
               room = record { bytes_long = b ∙ h.room.bytes_long; starts_long = c ∙ h.room.starts_long; links_long = l ∙ h.room.links_long };
-              onward = omega (arith, h.onward, length_append h.passed (x ∷ []), item_long s i e d);
+              onward = omega (arith, h.onward, length-append h.passed (x ∷ []), item_long s i e d);
             }
           where
             plus_one : {m : ℕ} → m ≡ n → suc m ≡ 1 + n

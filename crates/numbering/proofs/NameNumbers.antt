@@ -6,10 +6,10 @@ use mathlib.Core.Path.{◌≡◌, refl, sym, ap, ap₂, ◌∙◌, subst}
 use mathlib.Core.List.{List, [], ◌∷◌, ◌++◌, map, append_assoc, append-nil}
 use mathlib.Core.Bool.{Bool, true, false, not, cond, ◌||◌}
 use lib.Dec.{T, eqb, eqb→eq}
-use lib.ListN.{length, get_or, drop, set, length-set, length_append, length_map}
+use lib.ListN.{length, get_or, drop, set, length-set, length-append, length-map}
 use borrow.Author.Tests.{ne_eqb}
 use Rattle.rules.specs.Lists.{All, some}
-use Rattle.rules.proofs.Booleans.{bool_ext, eq_to_eqb, or_assoc, or_true, or_false}
+use Rattle.rules.proofs.Booleans.{bool_ext, eq_to_eqb, or_assoc, or-true, or-false}
 use Rattle.rules.proofs.Lists.{all_app, some_last}
 use Rattle.name_store.specs.declared.index.Found.{Found}
 use Rattle.name_store.specs.declared.index.Found.TheVariants as Found
@@ -98,7 +98,7 @@ all_declared names (x ∷ seen) d = rw d.0 (all_declared names seen d.1)
 
 one_undeclared : (names seen : List (List ℕ)) (x : List ℕ) (xs : List (List ℕ)) → among names x ≡ false → some (λ x. not (among names x)) (seen ++ (x ∷ xs)) ≡ true
 one_undeclared names [] x xs e = rw e
-one_undeclared names (y ∷ seen) x xs e = rw (one_undeclared names seen x xs e) (or_true (not (among names y)))
+one_undeclared names (y ∷ seen) x xs e = rw (one_undeclared names seen x xs e) (or-true (not (among names y)))
 
 -- one more at the end
 
@@ -146,7 +146,7 @@ module _ {names : List (List ℕ)} {s : List ℕ} {from stamp : ℕ} {before : L
       let whole : h.seen ≡ items (drop from s) = sym (append-nil h.seen) ∙ ap (λ l. h.seen ++ l) (sym out) ∙ h.all in
       record {
         declared = ap (some (λ x. not (among names x))) (sym whole) ∙ all_declared names h.seen h.known;
-        is_twice = sym (or_false flag) ∙ ap (λ l. flag || twice h.seen l) (sym out) ∙ h.is_twice;
+        is_twice = sym (or-false flag) ∙ ap (λ l. flag || twice h.seen l) (sym out) ∙ h.is_twice;
         written = renamed h.written (ap (map (name_number names)) whole);
         below = h.below;
       }
@@ -191,7 +191,7 @@ module _ {names : List (List ℕ)} {s : List ℕ} {from stamp : ℕ} {before : L
         atom_marked = omega (arith, known_name.below, h.room)
 
         pub word_range : (w : ℕ) → InRange end (w ∷ [])
-        word_range w = record { below = omega (arith, h.range, h.written.place, length_map h.seen (name_number names), h.few, number_inside, item_long s i e d) }
+        word_range w = record { below = omega (arith, h.range, h.written.place, length-map h.seen (name_number names), h.few, number_inside, item_long s i e d) }
 
         module _ {had : Bool} {marks' : List ℕ} (m : had ≡ eqb (get_or marks j 0) stamp) (t : marks' ≡ set marks j stamp) {now' : List ℕ} {end' : ℕ} (w : Emitted now end (j ∷ []) now' end') where
           is_before : some (same_bytes x) h.seen ≡ had
@@ -208,7 +208,7 @@ module _ {names : List (List ℕ)} {s : List ℕ} {from stamp : ℕ} {before : L
                 seen = h.seen ++ (x ∷ []);
                 inside = number_inside;
                 range = h.range;
-                few = omega (arith, length_append h.seen (x ∷ []), h.few, item_long s i e d);
+                few = omega (arith, length-append h.seen (x ∷ []), h.few, item_long s i e d);
                 known = all_app (λ y. among names y ≡ true) h.seen (x ∷ []) h.known (known_name.declared, tt);
                 all = append_assoc h.seen (x ∷ []) xs ∙ split;
                 same_behind = sym (behind_is s i e d) ∙ h.same_behind;
@@ -226,7 +226,7 @@ module _ {names : List (List ℕ)} {s : List ℕ} {from stamp : ℕ} {before : L
               }
 
           pub number_again : had ≡ true → {flag' : Bool} → flag' ≡ true → Numbering names s from stamp before at (i + g + n) end' flag' marks' now'
-          number_again o p = step (p ∙ sym (ap (λ b. flag || b) o ∙ or_true flag))
+          number_again o p = step (p ∙ sym (ap (λ b. flag || b) o ∙ or-true flag))
 
           pub number_new : had ≡ false → {flag' : Bool} → flag' ≡ flag → Numbering names s from stamp before at (i + g + n) end' flag' marks' now'
-          number_new o p = step (p ∙ sym (ap (λ b. flag || b) o ∙ or_false flag))
+          number_new o p = step (p ∙ sym (ap (λ b. flag || b) o ∙ or-false flag))

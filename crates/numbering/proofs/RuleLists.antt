@@ -4,10 +4,10 @@ use native.Mathlib.Omega.{arith}
 use mathlib.Core.Path.{◌≡◌, refl, sym, ap, ◌∙◌, subst}
 use mathlib.Core.Bool.{Bool, true, false, not, cond, ◌||◌}
 use mathlib.Core.List.{List, [], ◌∷◌}
-use lib.ListN.{length, drop, length_map}
+use lib.ListN.{length, drop, length-map}
 use borrow.Author.Tests.{not-true, not-false}
 use Rattle.kinds.specs.Words.{atoms_word, min_word, vary_word, fix_word, rule_word, head_word, body_word, not_word, when_word}
-use Rattle.rules.proofs.Booleans.{or_true}
+use Rattle.rules.proofs.Booleans.{or-true}
 use Rattle.output.proofs.Emitting.{then}
 use Rattle.name_store.specs.NameStore.{same_bytes}
 use Rattle.lines.specs.declared.scan.Place.{Place}
@@ -40,7 +40,7 @@ module _ {names : List (List ℕ)} {s : List ℕ} {from stamp : ℕ} {before : L
 pub list_end : {names : List (List ℕ)} {s : List ℕ} {from stamp : ℕ} {d : List ℕ} {at : ℕ} {m d₁ : List ℕ} {place end : ℕ} {t : Bool} → ListNumbered names s from stamp d at m d₁ place end t → (at ≤ end) × (end ≤ at + length s)
 list_end {names} {s} {from} h =
     let w = h.numbered.written.place in
-    (omega (arith, length_map (items (drop from s)) (name_number names)), omega (arith, length_map (items (drop from s)) (name_number names), items_few s from))
+    (omega (arith, length-map (items (drop from s)) (name_number names)), omega (arith, length-map (items (drop from s)) (name_number names), items_few s from))
 
 -- no list there, or one with a name that is not declared
 abbrev NoList : List (List ℕ) → List ℕ → List Token → Type 0
@@ -105,7 +105,7 @@ module _ (names : List (List ℕ)) (ts : List Token) where
     body_otherwise n hs' bs ns e =
         let p = parts ts hs' bs ns e in
         let same : p.behind_head_lem ≡ r = same_rest (sym p.in_head ∙ h) in
-        rw (n bs p.behind_body_lem (ap (split_list body_word) (sym same) ∙ p.in_body)) (or_true (undeclared names hs'))
+        rw (n bs p.behind_body_lem (ap (split_list body_word) (sym same) ∙ p.in_body)) (or-true (undeclared names hs'))
 
     module _ {bs : List (List ℕ)} {t : List Token} (b : split_list body_word r ≡ split bs t) where
       not_otherwise : NoList names not_word t → NoRule names (rule_form ts)
@@ -113,7 +113,7 @@ module _ (names : List (List ℕ)) (ts : List Token) where
           let p = parts ts hs' bs' ns e in
           let same : p.behind_head_lem ≡ r = same_rest (sym p.in_head ∙ h) in
           let also : p.behind_body_lem ≡ t = same_rest (sym p.in_body ∙ ap (split_list body_word) same ∙ b) in
-          rw (n ns p.behind_not (ap (split_list not_word) (sym also) ∙ p.in_not)) (rw (or_true (undeclared names bs')) (or_true (undeclared names hs')))
+          rw (n ns p.behind_not (ap (split_list not_word) (sym also) ∙ p.in_not)) (rw (or-true (undeclared names bs')) (or-true (undeclared names hs')))
 
 -- a list behind its bracket and word
 module _ {names : List (List ℕ)} {s : List ℕ} {at from stamp : ℕ} {d : List ℕ} {start : ℕ} {m e : List ℕ} {place end : ℕ} {t : Bool} (w : List ℕ) {q : Place} (o : OpenedIs s at w q) (g : q ≡ Place.At from) (l : ListNumbered names s from stamp d start m e place end t) where
@@ -171,9 +171,9 @@ module _ (names : List (List ℕ)) (s : List ℕ) (from stamp : ℕ) (before : L
                           is_twice = e ∙ (λ i. h.numbered.is_twice i || (b.numbered.is_twice i || n.numbered.is_twice i));
                           written = then h.numbered.written (then b.numbered.written n.numbered.written);
                           below = record { mark = λ a. omega (arith, n.numbered.below.mark a) };
-                          is_heads = omega (arith, h.numbered.written.place, length_map hs (name_number names));
-                          is_bodies = omega (arith, b.numbered.written.place, length_map bs (name_number names));
-                          is_nots = omega (arith, n.numbered.written.place, length_map ns (name_number names));
+                          is_heads = omega (arith, h.numbered.written.place, length-map hs (name_number names));
+                          is_bodies = omega (arith, b.numbered.written.place, length-map bs (name_number names));
+                          is_nots = omega (arith, n.numbered.written.place, length-map ns (name_number names));
                         };
                       };
                     }

@@ -16,7 +16,7 @@ use name_store::index::Found;
 use output::bytes::{emit, push};
 
 // What entering the names of a line gives: all are entered; or those before `at`, where the store is full; or a name stands twice.
-#[derive(Drop)]
+#[derive(Clone, Copy)]
 pub enum Entered {
     All { atoms: usize, bytes: usize },
     Full { at: usize },

@@ -6,7 +6,7 @@ use lines::scan;
 use name_store::index;
 
 // A name behind so many spaces, by its length and its hash, or anything else.
-#[derive(Drop)]
+#[derive(Clone, Copy)]
 pub enum HashedItem {
     At {
         gap: usize,

@@ -15,7 +15,7 @@ use output::words::push;
 
 // A list up to its closing bracket: the places behind it and behind its numbers, and whether a name stands twice in it.
 // Otherwise a name is not declared or the list is not closed.
-#[derive(Drop)]
+#[derive(Clone, Copy)]
 pub enum Numbers {
     List {
         place: usize,
@@ -26,13 +26,13 @@ pub enum Numbers {
 }
 
 // The same of a rule's three lists, with their counts.
-#[derive(Drop)]
+#[derive(Clone, Copy)]
 pub enum RuleNumbers {
     Rule(RuleCounts),
     Otherwise,
 }
 
-#[derive(Drop)]
+#[derive(Clone, Copy)]
 pub struct RuleCounts {
     pub place: usize,
     pub heads: usize,

@@ -5,7 +5,7 @@ use native.Mathlib.Numerals.{add-one}
 use native.Mathlib.Omega.{arith}
 use mathlib.Core.Path.{◌≡◌, refl, sym, ap, ap₂, ◌∙◌}
 use mathlib.Core.List.{List, [], ◌∷◌, ◌++◌, append-nil}
-use lib.ListN.{length, get_or, set, take, drop, drop_of_length-le, length_append, length-drop, length-set, take-append-drop}
+use lib.ListN.{length, get_or, set, take, drop, drop_of_length-le, length-append, length-drop, length-set, take-append-drop}
 use lib.Seq.{drop-cons, take-suc, take_all, set_at, append_snoc, length-take-le, take-append-le, take-take, sets, length-sets, lt-length-sets, sets-eq}
 use borrow.Rule.Slice.PartMut.{mid_of, post_of, put_mid}
 use Rattle.rules.proofs.Lists.{part_rest}
@@ -111,7 +111,7 @@ module _ (k : ℕ) (s d : List ℕ) (e : length d ≡ length s) (l : k ≤ lengt
   ends_meet : (now tail : List ℕ) → now ≡ overlaid s d k → tail ≡ drop (length s - k) s → put_mid (length s - k) (length now - (length s - k)) now tail ≡ s
   ends_meet now tail p back =
       let i : ℕ = length s - k in
-      let n : length now ≡ length s = ap length p ∙ omega (arith, length_append (take k s) (drop k d), length-take-le k s l, length-drop k d) in
+      let n : length now ≡ length s = ap length p ∙ omega (arith, length-append (take k s) (drop k d), length-take-le k s l, length-drop k d) in
       let front : take i now ≡ take i s = ap (take i) p ∙ take-append-le i (take k s) (drop k d) (omega (arith, length-take-le k s l)) ∙ take-take i k s (omega arith) in
       ap₂ (λ (a b : List ℕ). a ++ (b ++ post_of i (length now - i) now)) front back
       ∙ ap (λ (r : List ℕ). take i s ++ (drop i s ++ r)) (rest_gone i (length now - i) now (omega arith))
@@ -128,7 +128,7 @@ module _ (k : ℕ) (s d : List ℕ) (e : length d ≡ length s) (l : k ≤ lengt
       → put_mid (length s - k) (length now - (length s - k)) now tail ≡ s
   both_ends now tail p q =
       let i : ℕ = length s - k in
-      let n : length now ≡ length s = ap length p ∙ omega (arith, length_append (take k s) (drop k d), length-take-le k s l, length-drop k d) in
+      let n : length now ≡ length s = ap length p ∙ omega (arith, length-append (take k s) (drop k d), length-take-le k s l, length-drop k d) in
       let kept : take k (mid_of i (length s - i) s) ≡ drop i s = ap (take k) (part_rest i s) ∙ take_all k (drop i s) (omega (arith, length-drop i s)) in
       let past : drop k (mid_of i (length now - i) now) ≡ [] = ap (drop k) (part_rest i now) ∙ rest_gone i k now (omega arith) in
       ends_meet now tail p (q ∙ ap₂ (λ (a b : List ℕ). a ++ b) kept past ∙ append-nil (drop i s))

@@ -5,7 +5,7 @@ use native.Mathlib.Nat.{add-zero, zero-add}
 use native.Mathlib.Omega.{arith}
 use mathlib.Core.Path.{◌≡◌, refl, sym, ap, ap₂, ◌∙◌, subst}
 use mathlib.Core.List.{List, [], ◌∷◌, ◌++◌, append_assoc, append-nil}
-use lib.ListN.{length, get_or, take, drop, set, length_append}
+use lib.ListN.{length, get_or, take, drop, set, length-append}
 use lib.Seq.{take_at, drop-cons, drop-drop, set-append_seam, set_out, set_comm, sets, sets-eq, length-sets}
 use borrow.Rule.Slice.PartMut.{put_mid}
 use Rattle.output.specs.Emitted.{Emitted, InRange}
@@ -37,7 +37,7 @@ sets_seam p q [] l = refl
 sets_seam p [] (a ∷ w) l = absurd (omega arith)
 sets_seam p (b ∷ q) (a ∷ w) l =
     let here : set (p ++ (b ∷ q)) (length p) a ≡ (p ++ (a ∷ [])) ++ q = set-append_seam p b q a ∙ sym (append_assoc p (a ∷ []) q) in
-    let place : suc (length p) ≡ length (p ++ (a ∷ [])) = sym (length_append p (a ∷ []) ∙ add-one (length p)) in
+    let place : suc (length p) ≡ length (p ++ (a ∷ [])) = sym (length-append p (a ∷ []) ∙ add-one (length p)) in
     ap₂ (λ (x : List ℕ) (k : ℕ). sets x k w) here place
     ∙ sets_seam (p ++ (a ∷ [])) q w (omega arith)
     ∙ append_assoc p (a ∷ []) (w ++ drop (length w) q)
@@ -48,7 +48,7 @@ none {d} {at} = record { place = sym (add-zero at); bytes = refl }
 pub then : {d d₁ d₂ u v : List ℕ} {at at₁ at₂ : ℕ} → Emitted d at u d₁ at₁ → Emitted d₁ at₁ v d₂ at₂ → Emitted d at (u ++ v) d₂ at₂
 then {d} {d₁} {d₂} {u} {v} {at} p q =
     record {
-      place = omega (arith, p.place, q.place, length_append u v);
+      place = omega (arith, p.place, q.place, length-append u v);
       bytes = q.bytes ∙ ap₂ (λ (l : List ℕ) (k : ℕ). sets l k v) p.bytes p.place ∙ sets_append d at u v;
     }
 
@@ -138,7 +138,7 @@ module _ {whole before left now : List ℕ} {at next : ℕ} (h : Emitting whole 
 
   pub range_here : {run rest : List ℕ} → Ahead left run rest → InRange next run
   range_here {run} {rest} e =
-      record { below = omega (arith, h.range.below, h.so.place, ap length (sym h.all) ∙ length_append h.written left, ap length e.is ∙ length_append run rest) }
+      record { below = omega (arith, h.range.below, h.so.place, ap length (sym h.all) ∙ length-append h.written left, ap length e.is ∙ length-append run rest) }
 
   pub length_kept : length now ≡ length before
   length_kept = same_length h.so

@@ -2,7 +2,7 @@
 use Prim.Native.Nat.{ℕ, suc, ◌+◌, ◌*◌, ◌≤◌, ◌<◌}
 use native.Mathlib.Omega.{arith}
 use mathlib.Core.Path.{◌≡◌, refl, sym, ap, ap₂, ◌∙◌}
-use mathlib.Core.List.{List, [], ◌∷◌, ◌++◌, map, map_map, map-id, map-append}
+use mathlib.Core.List.{List, [], ◌∷◌, ◌++◌, map, map-map, map-id, map-append}
 use mathlib.Core.Bool.{Bool}
 use lib.ListN.{length, get_or, take}
 use lib.Seq.{take-length}
@@ -47,7 +47,7 @@ module _ (p : Program) where
 
   looped5 : map numbered (step5 p) ≡ map (loop5 p.words d e u) (from 1 p.classes)
   unfolding step5
-  looped5 = simp (map_map, map-append)
+  looped5 = simp (map-map, map-append)
 
   looped4 : map numbered (step4 p) ≡ loop4 e u ∷ []
   unfolding step4
@@ -55,7 +55,7 @@ module _ (p : Program) where
 
   looped9 : map numbered (step9 p) ≡ map (λ j. loop789 u (e + j)) (from 0 (suc p.classes))
   unfolding step9
-  looped9 = map_map numbered (λ j. rule (E j ∷ []) (U ∷ []) []) (from 0 (suc p.classes))
+  looped9 = map-map numbered (λ j. rule (E j ∷ []) (U ∷ []) []) (from 0 (suc p.classes))
 
   looped10 : map numbered (step10 p) ≡ loop10 e u p.classes
   unfolding step10
@@ -73,14 +73,14 @@ module _ (p : Program) where
 
     looped2 : map numbered (step2 p) ≡ map (loop2 m p.atoms) p.rules
     unfolding step2
-    looped2 = simp (map_map, map-append, map-id) (map_same _ (loop2 m p.atoms) p.rules (all_imp (Inside p.atoms) _ (λ r i j. rule
+    looped2 = simp (map-map, map-append, map-id) (map_same _ (loop2 m p.atoms) p.rules (all_imp (Inside p.atoms) _ (λ r i j. rule
         (chosen (is_minimised p) (below m) (minimised_below p fit) r.head i.head j)
         (chosen (is_minimised p) (below m) (minimised_below p fit) r.body i.body j)
         (chosen (is_unminimised p) (beyond m) (unminimised_beyond p fit) r.head i.head j ++ map (λ a. p.atoms + a) (chosen (is_unminimised p) (beyond m) (unminimised_beyond p fit) r.body i.body j))) p.rules fit.rules))
 
     looped3 : map numbered (step3 p) ≡ map (loop3 q s u) p.rules
     unfolding step3
-    looped3 = simp (map_map, map-append, map-id) (map_same _ (loop3 q s u) p.rules (all_imp (Inside p.atoms) _ (λ r i j. rule
+    looped3 = simp (map-map, map-append, map-id) (map_same _ (loop3 q s u) p.rules (all_imp (Inside p.atoms) _ (λ r i j. rule
         (map (λ a. s + a) (chosen (is_unfixed p) (below q) (unfixed_below p fit) r.head i.head j) ++ (u ∷ []))
         (map (λ a. s + a) (chosen (is_unfixed p) (below q) (unfixed_below p fit) r.body i.body j) ++ chosen (is_fixed p) (beyond q) (fixed_beyond p fit) r.body i.body j)
         (chosen (is_fixed p) (beyond q) (fixed_beyond p fit) r.head i.head j)) p.rules fit.rules))
@@ -91,11 +91,11 @@ module _ (p : Program) where
 
     looped7 : map numbered (step7 p) ≡ map (λ a. loop789 u (s + a)) (from 0 q)
     unfolding step7
-    looped7 = simp map_map (ap (map (λ a. loop789 u (s + a))) (unfixed_first p fit))
+    looped7 = simp map-map (ap (map (λ a. loop789 u (s + a))) (unfixed_first p fit))
 
     looped8 : map numbered (step8 p) ≡ map (λ a. loop789 u (d + a)) (from 0 m)
     unfolding step8
-    looped8 = simp map_map (ap (map (λ a. loop789 u (d + a))) (minimised_first p fit))
+    looped8 = simp map-map (ap (map (λ a. loop789 u (d + a))) (minimised_first p fit))
 
     whole : translated_rules p ≡ looped p
     unfolding translated_rules translation looped
@@ -120,22 +120,22 @@ module _ (p : Program) where
     all_names = first_names p.atoms (omega arith) ∙ ap (λ (c : ℕ). take c names) (sym count) ∙ take-length names
 
     dots : (c : ℕ) (l : List ℕ) (r : List (List ℕ)) → map name l ≡ r → map (λ a. dot c (name a)) l ≡ map (dot c) r
-    dots c l r h = sym (map_map (dot c) name l) ∙ ap (map (dot c)) h
+    dots c l r h = sym (map-map (dot c) name l) ∙ ap (map (dot c)) h
 
     both : (xs ys : List Atom) (l r : List (List ℕ)) → map (name_of names) xs ≡ l → map (name_of names) ys ≡ r → map (name_of names) (xs ++ ys) ≡ l ++ r
     both xs ys l r f g = map-append (name_of names) xs ys ∙ ap₂ (λ (x y : List (List ℕ)). x ++ y) f g
 
     run : (f : ℕ → Atom) (c : ℕ) (l : List ℕ) (r : List (List ℕ)) → ((a : ℕ) → name_of names (f a) ≡ dot c (name a)) → map name l ≡ r → map (name_of names) (map f l) ≡ map (dot c) r
-    run f c l r g h = map_map (name_of names) f l ∙ map_eq (λ a. name_of names (f a)) (λ a. dot c (name a)) g l ∙ dots c l r h
+    run f c l r g h = map-map (name_of names) f l ∙ map_eq (λ a. name_of names (f a)) (λ a. dot c (name a)) g l ∙ dots c l r h
 
     whole_names : translated_names p names ≡ looped_names p names
     unfolding translated_names declared looped_names
     whole_names =
-        both (map original (originals p)) _ names _ (map_map (name_of names) original (originals p) ∙ all_names)
+        both (map original (originals p)) _ names _ (map-map (name_of names) original (originals p) ∙ all_names)
         (both (map N (originals p)) _ (map (dot 78) names) _ (run N 78 (originals p) names (λ a. refl) all_names)
         (both (map S (unfixed_atoms p)) _ (map (dot 83) (take q names)) _ (run S 83 (unfixed_atoms p) (take q names) (λ a. refl) (ap (map name) (unfixed_first p fit) ∙ first_names q few_unfixed))
         (both (map D (minimised_atoms p)) _ (map (dot 68) (take m names)) _ (run D 68 (minimised_atoms p) (take m names) (λ a. refl) (ap (map name) (minimised_first p fit) ∙ first_names m few_minimised))
-        (both (map E (from 0 (suc p.classes))) (U ∷ []) (map (λ j. dot 69 (decimal j)) (from 0 (suc p.classes))) ((85 ∷ []) ∷ []) (map_map (name_of names) E (from 0 (suc p.classes))) refl))))
+        (both (map E (from 0 (suc p.classes))) (U ∷ []) (map (λ j. dot 69 (decimal j)) (from 0 (suc p.classes))) ((85 ∷ []) ∷ []) (map-map (name_of names) E (from 0 (suc p.classes))) refl))))
 
 pub looped_rules : (p : Program) → p.kind ≡ Preference → ProgramForm p → (translated p).rules ≡ looped p
 looped_rules p kind form = whole p (fit_of p kind form)

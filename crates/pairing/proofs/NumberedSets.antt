@@ -4,7 +4,7 @@ use native.Mathlib.Omega.{arith}
 use mathlib.Core.Path.{◌≡◌, sym, ap, subst, ◌∙◌}
 use mathlib.Core.List.{List, [], map}
 use mathlib.Core.Bool.{Bool}
-use lib.ListN.{length, get_or, length_map, get_or-map}
+use lib.ListN.{length, get_or, length-map, get_or-map}
 use Rattle.rules.specs.Lists.{All, from}
 use Rattle.rules.specs.Sets.{has}
 use Rattle.rules.proofs.Lists.{all_zip, all_map, map_all, all_from, from_all}
@@ -23,7 +23,7 @@ module _ {A : Type 0} (num : A → ℕ) (d : A) (atoms : List A) (order : map nu
   set_of w = number (map w atoms)
 
   pub set_lt : (w : A → Bool) → set_of w < 2 ^ length atoms
-  set_lt w = subst (λ (c : ℕ). set_of w < 2 ^ c) (length_map atoms w) (number_lt (map w atoms))
+  set_lt w = subst (λ (c : ℕ). set_of w < 2 ^ c) (length-map atoms w) (number_lt (map w atoms))
 
   pub set_has : (w : A → Bool) → All (λ c. has (set_of w) (num c) ≡ w c) atoms
-  set_has w = all_zip (λ c. num c < length atoms) (λ c. get_or atoms (num c) d ≡ c) (λ c. has (set_of w) (num c) ≡ w c) (λ c g k. has_number (w d) (map w atoms) (num c) (omega (arith, length_map atoms w)) ∙ get_or-map w atoms (num c) d ∙ ap w k) atoms (of_numbers (λ i. i < length atoms) (λ i l. l)) (found num d [] atoms order)
+  set_has w = all_zip (λ c. num c < length atoms) (λ c. get_or atoms (num c) d ≡ c) (λ c. has (set_of w) (num c) ≡ w c) (λ c g k. has_number (w d) (map w atoms) (num c) (omega (arith, length-map atoms w)) ∙ get_or-map w atoms (num c) d ∙ ap w k) atoms (of_numbers (λ i. i < length atoms) (λ i l. l)) (found num d [] atoms order)

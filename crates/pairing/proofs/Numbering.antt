@@ -2,11 +2,11 @@
 use Prim.Native.Nat.{ℕ, suc, ◌+◌, ◌*◌, ◌<◌}
 use native.Mathlib.Omega.{arith}
 use mathlib.Core.Path.{◌≡◌, refl, sym, ap, ap₂, ◌∙◌}
-use mathlib.Core.List.{List, [], ◌∷◌, ◌++◌, map, map_map, map-append}
+use mathlib.Core.List.{List, [], ◌∷◌, ◌++◌, map, map-map, map-append}
 use mathlib.Core.Bool.{Bool, true, false, not}
-use mathlib.Core.Logic.{and_true}
+use mathlib.Core.Logic.{and-true}
 use lib.Dec.{T, leb→le, le→leb, eqb→eq}
-use lib.ListN.{length, get_or, length_append, length_map}
+use lib.ListN.{length, get_or, length-append, length-map}
 use Rattle.kinds.specs.Limits.{class_limit, fixed}
 use Rattle.rules.specs.Lists.{All, from}
 use Rattle.rules.proofs.Booleans.{eq_to_eqb, T-not-in, T-not-out}
@@ -36,17 +36,17 @@ module _ (p : Program) where
     pub to_declared : All Q (declared p) → Declared Q
     unfolding declared
     to_declared h =
-        let q = simp (Each·simp, and_true) at h in
+        let q = simp (Each·simp, and-true) at h in
         record { originals = q.0; Ns = q.1.0; Ss = q.1.1.0; Ds = q.1.1.1.0; Es = q.1.1.1.1.0; Us = q.1.1.1.1.1 }
 
     pub of_declared : Declared Q → All Q (declared p)
     unfolding declared
-    of_declared d = simp (Each·simp, and_true) (d.originals, (d.Ns, (d.Ss, (d.Ds, (d.Es, d.Us)))))
+    of_declared d = simp (Each·simp, and-true) (d.originals, (d.Ns, (d.Ss, (d.Ds, (d.Es, d.Us)))))
 
   -- the count of the declared atoms, run by run
   pub count : length (declared p) ≡ p.atoms + (p.atoms + (length (unfixed_atoms p) + (length (minimised_atoms p) + (suc p.classes + 1))))
   unfolding declared
-  count = simp (length_append, length_map, length_from)
+  count = simp (length-append, length-map, length_from)
 
   module _ (fit : Fit p) where
     pub unfixed_first : unfixed_atoms p ≡ from 0 (length (unfixed_atoms p))
@@ -80,7 +80,7 @@ module _ (p : Program) where
     run : (f : ℕ → Atom) (s : ℕ) (l : List ℕ) (c : ℕ) → ((a : ℕ) → atom_number p (f a) ≡ s + a) → l ≡ from 0 c → map (atom_number p) (map f l) ≡ from s c
     run f s l c h e =
         let k : s + 0 ≡ s = omega arith in
-        map_map (atom_number p) f l ∙ map_eq (λ (a : ℕ). atom_number p (f a)) (λ (a : ℕ). s + a) h l ∙ ap (map (λ (a : ℕ). s + a)) e ∙ shifted s 0 c ∙ ap (λ (x : ℕ). from x c) k
+        map-map (atom_number p) f l ∙ map_eq (λ (a : ℕ). atom_number p (f a)) (λ (a : ℕ). s + a) h l ∙ ap (map (λ (a : ℕ). s + a)) e ∙ shifted s 0 c ∙ ap (λ (x : ℕ). from x c) k
 
     then : (xs ys : List Atom) (s c t d : ℕ) → s + c ≡ t → map (atom_number p) xs ≡ from s c → map (atom_number p) ys ≡ from t d → map (atom_number p) (xs ++ ys) ≡ from s (c + d)
     then xs ys s c t d j e f = map-append (atom_number p) xs ys ∙ ap₂ (λ (x y : List ℕ). x ++ y) e (f ∙ ap (λ (x : ℕ). from x d) (sym j)) ∙ from_append s c d

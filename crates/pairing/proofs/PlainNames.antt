@@ -7,7 +7,7 @@ use mathlib.Core.Bool.{Bool, true, false, not, ◌&&◌, ◌||◌, cond}
 use mathlib.Core.Logic.Iff
 use mathlib.Core.Logic.{◌≢◌}
 use lib.Dec.{T, leb, eqb}
-use lib.ListN.{length, get_or, take, drop, length_map}
+use lib.ListN.{length, get_or, take, drop, length-map}
 use lib.Seq.{take_at}
 use borrow.Author.Tests.{le-leb, ne_eqb}
 use Rattle.kinds.specs.Limits.{name_limit, class_limit}
@@ -168,7 +168,7 @@ module _ (p : Program) (kind : p.kind ≡ Preference) (form : ProgramForm p) (na
 
   one_each : length (translated_names p names) ≡ length (declared p)
   unfolding translated_names
-  one_each = length_map (declared p) (name_of names)
+  one_each = length-map (declared p) (name_of names)
 
   pub plain_names : NamesForm Plain (translated p).atoms (translated_names p names)
   plain_names = record {

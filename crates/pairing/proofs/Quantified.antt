@@ -3,7 +3,7 @@ use Prim.Native.Nat.{ℕ, ◌≤◌, ◌<◌}
 use native.Mathlib.Omega.{arith}
 use mathlib.Core.List.{List, ◌++◌, map}
 use mathlib.Core.Bool.{Bool}
-use mathlib.Core.Logic.{◌⊎◌, inl, inr, ◌↔◌, and_true, true_implies}
+use mathlib.Core.Logic.{◌⊎◌, inl, inr, ◌↔◌, and-true, true_implies}
 use lib.Dec.{T, leb, leb→le, le→leb}
 use Rattle.rules.specs.Lists.{All, Any, filter, from}
 use Rattle.rules.proofs.Lists.{all_from, from_all, all_imp, any_app, app_any, any_map, map_any, any_filter, filter_any, app_iff, keep_iff, filter_iff, map_iff, flat_iff}
@@ -65,4 +65,4 @@ module _ (P : ℕ → Type 0) (n : ℕ) where
 -- a list's All as a statement of each atom; an asked rule as a plain implication
 pub ruleset Each·simp = (app_iff, keep_iff, flat_iff, map_iff, filter_iff, below_iff, classes_iff, le_iff)
 
-pub ruleset Asked·simp = (curry_iff, and_true, true_implies, or_last, or_none)
+pub ruleset Asked·simp = (curry_iff, and-true, true_implies, or_last, or_none)

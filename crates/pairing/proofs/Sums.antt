@@ -6,7 +6,7 @@ use mathlib.Core.Path.{◌≡◌, refl, sym, ap, ◌∙◌}
 use mathlib.Core.List.{List, map}
 use mathlib.Core.Logic.{inr}
 use lib.Dec.{eqb, leb, eqb→eq, leb→le, le→leb}
-use lib.ListN.{length, length_append, length_map}
+use lib.ListN.{length, length-append, length-map}
 use Rattle.kinds.specs.Limits.{class_limit, varying, fixed}
 use Rattle.kinds.specs.declared.limits.Kind.TheVariants.{Preference}
 use Rattle.rules.specs.Lists.{filter, from, sum}
@@ -61,11 +61,11 @@ module _ (p : Program) where
 
   rules2 : length (step2 p) ≡ r
   unfolding step2
-  rules2 = simp length_map
+  rules2 = simp length-map
 
   rules3 : length (step3 p) ≡ r
   unfolding step3
-  rules3 = simp length_map
+  rules3 = simp length-map
 
   rules4 : length (step4 p) ≡ 1
   unfolding step4
@@ -73,7 +73,7 @@ module _ (p : Program) where
 
   rules5 : length (step5 p) ≡ k
   unfolding step5
-  rules5 = simp (length_map, length_from)
+  rules5 = simp (length-map, length_from)
 
   rules6 : length (step6 p) ≡ 4 * m
   unfolding step6
@@ -81,15 +81,15 @@ module _ (p : Program) where
 
   rules7 : length (step7 p) ≡ u
   unfolding step7
-  rules7 = simp length_map
+  rules7 = simp length-map
 
   rules8 : length (step8 p) ≡ m
   unfolding step8
-  rules8 = simp length_map
+  rules8 = simp length-map
 
   rules9 : length (step9 p) ≡ suc k
   unfolding step9
-  rules9 = simp (length_map, length_from)
+  rules9 = simp (length-map, length_from)
 
   rules10 : length (step10 p) ≡ 2
   unfolding step10
@@ -100,7 +100,7 @@ module _ (p : Program) where
 
   rules_all : length (translation p) ≡ o + n + (r + (r + (1 + (k + (4 * m + (u + (m + (suc k + 2))))))))
   unfolding translation
-  rules_all = simp (length_append, rules1, rules2, rules3, rules4, rules5, rules6, rules7, rules8, rules9, rules10)
+  rules_all = simp (length-append, rules1, rules2, rules3, rules4, rules5, rules6, rules7, rules8, rules9, rules10)
 
   module _ (fit : Fit p) where
     -- places, step by step
@@ -115,17 +115,17 @@ module _ (p : Program) where
     unfolding step2
     places2 = simp sum_map (sum_eq _ occurrences p.rules (all_imp (Inside n) _ (λ q i.
         let e : length q.nots ≡ 0 = ap length i.nots in
-        simp (length_append, length_map) (omega (arith, length_parts (is_minimised p) q.head, length_parts (is_minimised p) q.body))) p.rules fit.rules))
+        simp (length-append, length-map) (omega (arith, length_parts (is_minimised p) q.head, length_parts (is_minimised p) q.body))) p.rules fit.rules))
 
     split : (l : List ℕ) → length (map S (filter (is_unfixed p) l)) + length (map original (filter (is_fixed p) l)) ≡ length l
-    split l = omega (arith, length_map (filter (is_unfixed p) l) S, length_map (filter (is_fixed p) l) original, length_parts (is_fixed p) l)
+    split l = omega (arith, length-map (filter (is_unfixed p) l) S, length-map (filter (is_fixed p) l) original, length_parts (is_fixed p) l)
 
     places3 : sum occurrences (step3 p) ≡ sum occurrences p.rules + r
     unfolding step3
     places3 = simp sum_map
         (sum_eq _ (λ q. occurrences q + 1) p.rules (all_imp (Inside n) _ (λ q i.
         let e : length q.nots ≡ 0 = ap length i.nots in
-        simp length_append (omega (arith, split q.head, split q.body))) p.rules fit.rules)
+        simp length-append (omega (arith, split q.head, split q.body))) p.rules fit.rules)
         ∙ sum_add occurrences (λ q. 1) p.rules ∙ ap (λ (x : ℕ). sum occurrences p.rules + x) (sum_const 1 p.rules ∙ omega arith))
 
     places4 : sum occurrences (step4 p) ≡ 2
@@ -153,7 +153,7 @@ module _ (p : Program) where
     places5 : sum occurrences (step5 p) ≡ m + 3 * k
     unfolding step5
     places5 = simp sum_map
-        (sum_eq _ (λ i. length (of_class p.words i) + 3) (from 1 k) (all_each _ (λ i. simp (length_append, length_map) (omega arith)) (from 1 k))
+        (sum_eq _ (λ i. length (of_class p.words i) + 3) (from 1 k) (all_each _ (λ i. simp (length-append, length-map) (omega arith)) (from 1 k))
         ∙ sum_add (λ i. length (of_class p.words i)) (λ i. 3) (from 1 k)
         ∙ omega (arith, classes_sum, sum_const 3 (from 1 k), length_from 1 k))
 
@@ -189,7 +189,7 @@ module _ (p : Program) (kind : p.kind ≡ Preference) (form : ProgramForm p) whe
 
   pub rules_sum_lem : length (translated p).rules ≡ rules_sum (numbers p)
   unfolding numbers translated_rules
-  rules_sum_lem = simp length_map (omega (arith, rules_all p, parts p, others p))
+  rules_sum_lem = simp length-map (omega (arith, rules_all p, parts p, others p))
 
   pub occurrences_sum_lem : sum occurrences (translated p).rules ≡ occurrences_sum (numbers p)
   unfolding numbers translated_rules

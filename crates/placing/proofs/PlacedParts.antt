@@ -3,7 +3,7 @@ use Prim.Native.Nat.{ℕ, ◌+◌, ◌-◌, ◌≤◌, ◌<◌}
 use native.Mathlib.Omega.{arith}
 use mathlib.Core.Path.{◌≡◌, refl, sym, ap, ap₂, ◌∙◌}
 use mathlib.Core.List.{List, [], ◌++◌, map, append-nil}
-use lib.ListN.{length, get_or, take, drop, replicate, length_append, take-append-drop}
+use lib.ListN.{length, get_or, take, drop, replicate, length-append, take-append-drop}
 use lib.Seq.{take_all, take_at, drop-append_seam}
 use Rattle.kinds.specs.Limits.{varying}
 use Rattle.rules.specs.Lists.{from}
@@ -27,7 +27,7 @@ pub record Runs (whole u v w : List ℕ) : Type 0 where
 
 module _ {whole u v w : List ℕ} {at : ℕ} (e : Runs whole u v w) (r : InRange at whole) where
   long : length whole ≡ length u + (length v + length w)
-  long = ap length e.are ∙ length_append u (v ++ w) ∙ ap (λ n. length u + n) (length_append v w)
+  long = ap length e.are ∙ length-append u (v ++ w) ∙ ap (λ n. length u + n) (length-append v w)
 
   pub first_range : InRange at u
   first_range = record { below = omega (arith, r.below, long) }
@@ -87,7 +87,7 @@ module _ {bytes : List ℕ} {count at i : ℕ} (h : Passing bytes count at i) wh
 
 module _ (q : ℕ) {bytes : List ℕ} {split : ℕ} (f : AtFront q bytes) (e : split ≡ length (first_bytes q bytes)) where
   pub split_inside : split ≤ length bytes
-  split_inside = omega (arith, ap length f, length_append (first_bytes q bytes) (drop (length (first_bytes q bytes)) bytes))
+  split_inside = omega (arith, ap length f, length-append (first_bytes q bytes) (drop (length (first_bytes q bytes)) bytes))
 
   pub name_runs : (k : ℕ) → Runs (placed_names q k bytes) (take split bytes) (encode_names (map made_name (from 1 k))) (take (length bytes - split) (drop split bytes))
   unfolding placed_names
@@ -130,4 +130,4 @@ module _ (q : ℕ) (names : List (List ℕ)) (l : q ≤ length names) where
   unfolding written_names
   names_long k =
       let made = map made_name (from 1 k) in
-      omega (arith, ap length (encode_append (take q names) (made ++ drop q names)), length_append front (encode_names (made ++ drop q names)), ap length (encode_append made (drop q names)), length_append (encode_names made) (encode_names (drop q names)), ap length parts, length_append front (encode_names (drop q names)))
+      omega (arith, ap length (encode_append (take q names) (made ++ drop q names)), length-append front (encode_names (made ++ drop q names)), ap length (encode_append made (drop q names)), length-append (encode_names made) (encode_names (drop q names)), ap length parts, length-append front (encode_names (drop q names)))

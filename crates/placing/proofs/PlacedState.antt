@@ -4,7 +4,7 @@ use native.Mathlib.Nat.{zero-add}
 use native.Mathlib.Omega.{arith}
 use mathlib.Core.Path.{◌≡◌, refl, sym, ap, ap₂, ◌∙◌, subst}
 use mathlib.Core.List.{List, ◌++◌, map}
-use lib.ListN.{length, get_or, take, drop, length_append, length_map}
+use lib.ListN.{length, get_or, take, drop, length-append, length-map}
 use lib.Seq.{length-take-le, take_at, drop-append_seam, sets-eq}
 use Rattle.kinds.specs.Limits.{atom_limit}
 use Rattle.kinds.specs.Sizes.{store_words, store_bytes}
@@ -150,7 +150,7 @@ module _ {g : Gathered} {words bytes : List ℕ} (h : Held Preference (state_of 
     -- the rules
 
     rules_count : length (in_place q st).program_rules ≡ g.counts.rules
-    rules_count = length_map st.program_rules (rename (placing q (length st.names) st.made)) ∙ sym (rules_is h)
+    rules_count = length-map st.program_rules (rename (placing q (length st.names) st.made)) ∙ sym (rules_is h)
 
     places_count : sum occurrences (in_place q st).program_rules ≡ g.counts.occurrences
     places_count = rename_occurrences (placing q (length st.names) st.made) st.program_rules ∙ sym (occurrences_is h)
@@ -211,7 +211,7 @@ module _ {g : Gathered} {words bytes : List ℕ} (h : Held Preference (state_of 
             counts_are = λ i. record { atoms = atoms_are i; rules = sym rules_count i; occurrences = sym places_count i };
             made_is = refl;
             class_words_lem = words_length q st.made st.words (omega (arith, few_first, h.class_words_lem)) ∙ ap₂ ◌+◌ h.class_words_lem (sym h.made_is);
-            stored = filled_behind (renamed (then a b) words_are) (omega (arith, ap length words_are, length_append (placed_words q k (class_part n words)) moved, classes_long, moved_long, all_few, fits.0, fits.1, room-d));
+            stored = filled_behind (renamed (then a b) words_are) (omega (arith, ap length words_are, length-append (placed_words q k (class_part n words)) moved, classes_long, moved_long, all_few, fits.0, fits.1, room-d));
             names_allowed = written_allowed q st.made st.names (omega (arith, u.few)) h.names_allowed;
             names_stored = stored_front names_written (omega (arith, names_few, all_few, room-c));
             bytes_is = names_written.place ∙ zero-add (length (encode_names (in_place q st).names));

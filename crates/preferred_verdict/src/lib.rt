@@ -1,2 +1,3 @@
+#![tactic(auto)]
 // The preferred verdict over a rule store (document 01, "Verdicts").
 pub mod preferred;

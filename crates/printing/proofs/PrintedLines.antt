@@ -7,7 +7,7 @@ use mathlib.Core.Path.{◌≡◌, refl, sym, ap, ap₂, ◌∙◌, subst}
 use mathlib.Core.Bool.{Bool, true, false, cond}
 use mathlib.Core.List.{List, [], ◌∷◌, ◌++◌}
 use lib.Dec.{ltb}
-use lib.ListN.{length, get_or, take, drop, length_append}
+use lib.ListN.{length, get_or, take, drop, length-append}
 use lib.Seq.{sets-eq, length-sets, take-append_seam}
 use borrow.Author.Tests.{le-leb, lt-leb, lt-ltb, le-ltb}
 use Rattle.kinds.specs.declared.refusals.Refusal.{Refusal}
@@ -30,7 +30,7 @@ digits_short (suc f) x = go (ltb x 10) (digits_short f (x / 10))
   where
     go : (b : Bool) → length (digits f (x / 10)) ≤ f → length (cond b ((48 + x) ∷ []) (digits f (x / 10) ++ ((48 + x % 10) ∷ []))) ≤ suc f
     go true h = omega arith
-    go false h = omega (arith, length_append (digits f (x / 10)) ((48 + x % 10) ∷ []))
+    go false h = omega (arith, length-append (digits f (x / 10)) ((48 + x % 10) ∷ []))
 
 pub decimal_short : (x : ℕ) → length (decimal x) ≤ 20
 decimal_short x = digits_short 20 x
@@ -61,7 +61,7 @@ refused_opens f line e = record { is = rw e }
 
 pub refused_short : (f : Refusal) (line : ℕ) → length (refused_text f line) ≤ 52
 unfolding refused_text
-refused_short f line = simp length_append (omega (arith, decimal_short (refusal_number f), decimal_short line))
+refused_short f line = simp length-append (omega (arith, decimal_short (refusal_number f), decimal_short line))
 
 pub refused_range : (f : Refusal) (line : ℕ) → InRange 0 (refused_text f line)
 refused_range f line = record { below = omega (arith, refused_short f line) }
@@ -109,7 +109,7 @@ total_opens c = record { is = refl }
 
 pub total_short : (c : ℕ) → length (total_line c) ≤ 29
 unfolding total_line
-total_short c = simp length_append (omega (arith, decimal_short c))
+total_short c = simp length-append (omega (arith, decimal_short c))
 
 -- a text in a lent output
 

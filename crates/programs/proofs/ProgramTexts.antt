@@ -5,7 +5,7 @@ use mathlib.Core.Path.{◌≡◌, refl, sym, ap, ap₂, ◌∙◌, subst}
 use mathlib.Core.Bool.{Bool, true, false, cond}
 use mathlib.Core.List.{List}
 use lib.Dec.{T, leb}
-use lib.ListN.{length, get_or, take, drop, length_append}
+use lib.ListN.{length, get_or, take, drop, length-append}
 use borrow.Author.Tests.{le-leb, lt-leb, leb-true, leb-false, eq-eqb, ne_eqb}
 use Rattle.kinds.specs.Sizes.{longest_name, longest_entry, store_words, store_bytes}
 use Rattle.kinds.specs.Limits.{stream_limit, walk_atoms, atom_limit}
@@ -125,7 +125,7 @@ module _ (rules names : List ℕ) where
       output_is = w ∙ ap (λ (x : Written). over (written_bytes x translation) before) (sym a ∙ r)
 
       pub translation_fits : k - 0 ≤ length after
-      translation_fits = omega (arith, (room_for translation before a r).0, ap length output_is ∙ length_append translation (drop (length translation) before))
+      translation_fits = omega (arith, (room_for translation before a r).0, ap length output_is ∙ length-append translation (drop (length translation) before))
 
       pub translation_is : take (k - 0) (drop 0 after) ≡ shown_translation
       translation_is =
@@ -153,10 +153,10 @@ module _ (text rules names : List ℕ) {answer : Read} (a : answer ≡ read_answ
   names_are = v ∙ (reads_as text p atom_names read_as.lines).names_filled rules names read_as.rules_room read_as.names_room
 
   pub rules_part : w - 0 ≤ length rules'
-  rules_part = omega (arith, read_as.words_are, ap length rules_are ∙ length_append (encode p) (drop (length (encode p)) rules))
+  rules_part = omega (arith, read_as.words_are, ap length rules_are ∙ length-append (encode p) (drop (length (encode p)) rules))
 
   pub names_part : b - 0 ≤ length names'
-  names_part = omega (arith, read_as.bytes_are, ap length names_are ∙ length_append (encode_names atom_names) (drop (length (encode_names atom_names)) names))
+  names_part = omega (arith, read_as.bytes_are, ap length names_are ∙ length-append (encode_names atom_names) (drop (length (encode_names atom_names)) names))
 
   rules_taken : take (w - 0) (drop 0 rules') ≡ encode p
   rules_taken =

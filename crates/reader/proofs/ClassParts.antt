@@ -5,9 +5,9 @@ use native.Mathlib.Decide.{dec_le}
 use mathlib.Core.Path.{◌≡◌, refl, sym, ap, ap₂, ◌∙◌, subst}
 use mathlib.Core.Logic.{◌⊎◌, inl, inr, ◌≢◌}
 use mathlib.Core.Bool.{Bool, true, false, ◌&&◌, cond}
-use mathlib.Core.List.{List, [], ◌∷◌, ◌++◌, map, map_map, append-nil}
+use mathlib.Core.List.{List, [], ◌∷◌, ◌++◌, map, map-map, append-nil}
 use lib.Dec.{T, leb, eqb, leb→le, eqb→eq}
-use lib.ListN.{length, get_or, replicate, length_append, length-replicate}
+use lib.ListN.{length, get_or, replicate, length-append, length-replicate}
 use borrow.Author.Tests.{eq-eqb, ne_eqb, le-leb, lt-leb}
 use Rattle.rules.specs.Lists.{All, Distinct, keep, filter, from}
 use Rattle.rules.specs.Preferred.{of_class}
@@ -44,7 +44,7 @@ chosen_names p (w ∷ ws) (x ∷ xs) e =
     let later = filter (λ a. p (get_or ws a 0)) (from 0 (length ws)) in
     map_keep name (p w) 0 (filter passes (from 1 (length ws)))
     ∙ ap (λ l. keep (p w) x (map name l)) (ap (filter passes) (from_suc 0 (length ws)) ∙ filter_map suc passes (from 0 (length ws)))
-    ∙ ap (keep (p w) x) (map_map name suc later ∙ chosen_names p ws xs (omega arith))
+    ∙ ap (keep (p w) x) (map-map name suc later ∙ chosen_names p ws xs (omega arith))
 
 -- the names of class word w
 abbrev pub class_names : List ℕ → List (List ℕ) → ℕ → List (List ℕ)
@@ -123,7 +123,7 @@ chosen_words w (v ∷ ws) (x ∷ xs) e = go (eqb v w) (eqb→eq v w) (chosen_wor
 
 module _ (ws : List ℕ) (names : List (List ℕ)) (same : length ws ≡ length names) (v : ℕ) (xs : List (List ℕ)) where
   pub words_fit : length (ws ++ replicate (length xs) v) ≡ length (names ++ xs)
-  words_fit = omega (arith, length_append ws (replicate (length xs) v), length_append names xs, length-replicate (length xs) v)
+  words_fit = omega (arith, length-append ws (replicate (length xs) v), length-append names xs, length-replicate (length xs) v)
 
   split : (w : ℕ) → class_names (ws ++ replicate (length xs) v) (names ++ xs) w ≡ chosen (is w) ws names ++ chosen (is w) (replicate (length xs) v) xs
   split w =

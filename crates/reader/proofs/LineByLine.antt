@@ -5,7 +5,7 @@ use native.Mathlib.Omega.{arith}
 use mathlib.Core.Path.{◌≡◌, refl, sym, ap, ◌∙◌, subst}
 use mathlib.Core.Bool.{Bool, true, false, not, cond}
 use mathlib.Core.List.{List, [], ◌∷◌}
-use lib.ListN.{length, length_append, drop, drop_of_length-le}
+use lib.ListN.{length, length-append, drop, drop_of_length-le}
 use borrow.Author.Tests.{not-true, not-false}
 use Rattle.kinds.specs.Words.{atoms_word}
 use Rattle.kinds.specs.declared.limits.Kind.{Kind}
@@ -40,10 +40,10 @@ use Rattle.reader.proofs.FormedLines.{line_formed, start_formed}
 
 more_rules : (st after : SoFar) (f : LineForm) → step_form st f ≡ next after → length st.program_rules ≤ length after.program_rules
 more_rules st after (declares w xs) e = omega (arith, ap (λ z. length z.program_rules) (declare_said st w xs after e).1)
-more_rules st after (rules hs bs ns) e = omega (arith, ap (λ z. length z.program_rules) (rule_said st hs bs ns after e).1, length_append st.program_rules (numbered st.names hs bs ns ∷ []))
+more_rules st after (rules hs bs ns) e = omega (arith, ap (λ z. length z.program_rules) (rule_said st hs bs ns after e).1, length-append st.program_rules (numbered st.names hs bs ns ∷ []))
 more_rules st after (condition ts a) e =
     let d = condition_said st ts a after e in
-    omega (arith, ap (λ z. length z.program_rules) d.2, length_append st.program_rules (condition_rules (length st.names) d.0 (name_number st.names a)))
+    omega (arith, ap (λ z. length z.program_rules) d.2, length-append st.program_rules (condition_rules (length st.names) d.0 (name_number st.names a)))
 more_rules st after blank e = let same : st ≡ after = cc in omega (arith, ap (λ z. length z.program_rules) same)
 more_rules st after broken e = absurd (let z : ◌≡◌ {A = ℕ} 0 1 = cc in omega arith)
 

@@ -6,7 +6,7 @@ use mathlib.Core.Logic.{inl, inr, ◌≢◌}
 use mathlib.Core.Bool.{Bool, true, false, cond}
 use mathlib.Core.List.{List, [], ◌∷◌, ◌++◌, map}
 use lib.Dec.{T}
-use lib.ListN.{length, take, drop, length_map, take-append-drop}
+use lib.ListN.{length, take, drop, length-map, take-append-drop}
 use Rattle.kinds.specs.Limits.{atom_limit}
 use Rattle.kinds.specs.declared.limits.Kind.{Kind}
 use Rattle.kinds.specs.declared.limits.Kind.TheVariants.{Plain, Preference}
@@ -120,7 +120,7 @@ module _ (stage : Stage) (j : ℕ) (words : List ℕ) (names : List (List ℕ)) 
       let long = written_length q (suc k) names inside in
       let classes : ClassesForm Preference (length words) j words = subst (λ (i : ℕ). ClassesForm Preference i j words) (sym same) f.classes_form in
       let size : length words + suc k ≡ length (written_names q (suc k) names) = omega arith in
-      let few : length (map (rename (placing q n (suc k))) rs) ≡ length rs = length_map rs (rename (placing q n (suc k))) in (
+      let few : length (map (rename (placing q n (suc k))) rs) ≡ length rs = length-map rs (rename (placing q n (suc k))) in (
         record {
           atoms_fit = omega (arith, f.atoms_fit);
           rules_fit_lem = omega (arith, f.rules_fit_lem);

@@ -2,9 +2,9 @@
 use Prim.Native.Nat.{ℕ}
 use mathlib.Core.Path.{◌≡◌, refl, sym, ap, ap₂, subst, ◌∙◌}
 use mathlib.Core.Bool.{Bool}
-use mathlib.Core.List.{List, [], ◌∷◌, ◌++◌, map, map_map}
+use mathlib.Core.List.{List, [], ◌∷◌, ◌++◌, map, map-map}
 use lib.Dec.{T, eqb}
-use lib.ListN.{length, get_or, length_map}
+use lib.ListN.{length, get_or, length-map}
 use Rattle.kinds.specs.Limits.{varying, fixed}
 use Rattle.kinds.specs.Words.{min_word, vary_word, fix_word}
 use Rattle.kinds.specs.declared.limits.Kind.{Kind}
@@ -35,7 +35,7 @@ module _ (names : List (List ℕ)) (xs : List ℕ) where
   name_left a h = let p = at_place xs a h in map_at (λ b. get_or names b []) xs (place_in xs a) 0 [] p.0 ∙ ap (λ (b : ℕ). get_or names b []) p.1
 
   named_left : (l : List ℕ) → All (λ a. T (is_member xs a)) l → named (entries [] names xs) (map (place_in xs) l) ≡ named names l
-  named_left l h = map_map (λ a. get_or (entries [] names xs) a []) (place_in xs) l ∙ map_same _ (λ a. get_or names a []) l (all_imp (λ a. T (is_member xs a)) _ name_left l h)
+  named_left l h = map-map (λ a. get_or (entries [] names xs) a []) (place_in xs) l ∙ map_same _ (λ a. get_or names a []) l (all_imp (λ a. T (is_member xs a)) _ name_left l h)
 
   rule_text_lem : (r : Rule ℕ) → Within (λ a. T (is_member xs a)) r → rule_text (entries [] names xs) (rename (place_in xs) r) ≡ rule_text names r
   rule_text_lem r h = rw (named_left r.head h.head, named_left r.body h.body, named_left r.nots h.nots)
@@ -47,7 +47,7 @@ module _ (p : Program) (names : List (List ℕ)) (size : length p.words ≡ p.at
   class_left : (w : ℕ) → named (entries [] names (left p)) (of_class (entries 0 p.words (left p)) w) ≡ named names (filter (is_used p.rules) (of_class p.words w))
   unfolding used
   class_left w =
-      class_chosen (entries 0 p.words (left p)) (entries [] names (left p)) w (length_map (left p) (λ a. get_or p.words a 0) ∙ sym (length_map (left p) (λ a. get_or names a [])))
+      class_chosen (entries 0 p.words (left p)) (entries [] names (left p)) w (length-map (left p) (λ a. get_or p.words a 0) ∙ sym (length-map (left p) (λ a. get_or names a [])))
       ∙ chosen_mapped (is w) (λ a. get_or p.words a 0) (λ a. get_or names a []) (left p)
       ∙ ap (named names) (filter_swap (λ a. eqb (get_or p.words a 0) w) (is_used p.rules) (from 0 p.atoms) ∙ ap (λ (n : ℕ). filter (is_used p.rules) (filter (λ a. eqb (get_or p.words a 0) w) (from 0 n))) (sym size))
 

@@ -7,7 +7,7 @@ use mathlib.Core.Bool.{true, false}
 use mathlib.Core.List.{List, [], ◌∷◌, ◌++◌, append_assoc, append-nil}
 use native.Mathlib.Decide.{dec_le}
 use lib.Dec.{T}
-use lib.ListN.{length, get_or, replicate, length_append}
+use lib.ListN.{length, get_or, replicate, length-append}
 use lib.Seq.{append_snoc}
 use borrow.Author.Tests.{le-leb, lt-leb}
 use Rattle.kinds.specs.Limits.{atom_limit, rule_limit, occurrence_limit, class_limit, varying, fixed}
@@ -150,7 +150,7 @@ module _ (kind : Kind) (k : ℕ) (words : List ℕ) (names : List (List ℕ)) (f
   reads_rules before [] h few room = subst (λ l. Reads (ruled before) [] (ruled l)) (sym (append-nil before)) reads_none
   reads_rules before (r ∷ rs) h few room =
       let e = append_snoc before r rs in
-      let first = reads_one before r h.0 (omega (arith, length_append before (r ∷ rs), length_append before (r ∷ []))) (omega (arith, sum_app occurrences before (r ∷ rs), sum_app occurrences before (r ∷ []))) in
+      let first = reads_one before r h.0 (omega (arith, length-append before (r ∷ rs), length-append before (r ∷ []))) (omega (arith, sum_app occurrences before (r ∷ rs), sum_app occurrences before (r ∷ []))) in
       let later = reads_rules (before ++ (r ∷ [])) rs h.1 (subst (λ l. length l ≤ rule_limit kind) (sym e) few) (subst (λ l. sum occurrences l ≤ occurrence_limit kind) (sym e) room) in
       subst (λ l. Reads (ruled before) (flat (rule_text names) (r ∷ rs)) (ruled l)) e (reads_then first later)
 

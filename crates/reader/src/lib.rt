@@ -1,3 +1,4 @@
+#![tactic(auto)]
 // Text to stores, of both kinds (document 01, "The two kinds of file" and "Who can be turned back").
 pub mod reading;
 

@@ -20,7 +20,7 @@ use lines::scan::Place;
 use lines::stage::Stage;
 
 // What the lines of a text give: the counts beside the filled scratch stores, or the earliest faulty line with its refusal.
-#[derive(Drop)]
+#[derive(Clone, Copy)]
 pub enum Gather {
     Whole(Gathered),
     Refused { refusal: Refusal, line: usize },

@@ -4,7 +4,7 @@ use native.Mathlib.Omega.{arith}
 use mathlib.Core.Path.{◌≡◌, refl, sym, ap, ap₂, ◌∙◌}
 use mathlib.Core.Bool.{Bool, true, false}
 use mathlib.Core.List.{List, [], ◌∷◌, ◌++◌, map}
-use lib.ListN.{length, get_or, drop, length_append, length_map}
+use lib.ListN.{length, get_or, drop, length-append, length-map}
 use lib.Seq.{drop-cons}
 use Rattle.kinds.specs.declared.limits.Kind.{Kind}
 use Rattle.kinds.specs.declared.limits.Kind.TheVariants.{Preference}
@@ -41,7 +41,7 @@ use Rattle.remaining_stores.proofs.Tabling.{more_inside}
 -- rules keep their length
 
 moved_length : (f : ℕ → ℕ) (rs : List (Rule ℕ)) → length (flat rule_words (map (rename f) rs)) ≡ length (flat rule_words rs)
-moved_length f rs = omega (arith, rules_length (map (rename f) rs), rules_length rs, length_map rs (rename f), rename_occurrences f rs)
+moved_length f rs = omega (arith, rules_length (map (rename f) rs), rules_length rs, length-map rs (rename f), rename_occurrences f rs)
 
 -- some names take no more room than all
 
@@ -51,14 +51,14 @@ some_names t names s zero e = omega arith
 some_names t names s (suc c) e =
     let rest = entries [] names (filter t (from (suc s) c)) in
     let more : length (encode_names (drop s names)) ≡ length (name_bytes (get_or names s [])) + length (encode_names (drop (suc s) names)) =
-    ap (λ (l : List (List ℕ)). length (encode_names l)) (drop-cons names s [] (omega arith)) ∙ length_append (name_bytes (get_or names s [])) (encode_names (drop (suc s) names)) in
+    ap (λ (l : List (List ℕ)). length (encode_names l)) (drop-cons names s [] (omega arith)) ∙ length-append (name_bytes (get_or names s [])) (encode_names (drop (suc s) names)) in
     go (t s) (some_names t names (suc s) c (omega arith)) more
   where
     go : (b : Bool)
         → length (encode_names (entries [] names (filter t (from (suc s) c)))) ≤ length (encode_names (drop (suc s) names))
         → length (encode_names (drop s names)) ≡ length (name_bytes (get_or names s [])) + length (encode_names (drop (suc s) names))
         → length (encode_names (entries [] names (keep b s (filter t (from (suc s) c))))) ≤ length (encode_names (drop s names))
-    go true h m = omega (arith, length_append (name_bytes (get_or names s [])) (encode_names (entries [] names (filter t (from (suc s) c)))))
+    go true h m = omega (arith, length-append (name_bytes (get_or names s [])) (encode_names (entries [] names (filter t (from (suc s) c)))))
     go false h m = omega arith
 
 module _ {g : Gathered} {words bytes : List ℕ} (h : Held Preference (state_of Preference g words bytes) g words bytes)
@@ -107,20 +107,20 @@ module _ {g : Gathered} {words bytes : List ℕ} (h : Held Preference (state_of 
   words_are : header ++ (classes ++ moved) ≡ encode (remaining p)
   unfolding encode remaining restrict state_of
   words_are =
-      (λ i. 1 ∷ t.count_is i ∷ h.classes_is i ∷ (rules_is h ∙ sym (length_map p.rules (rename (λ a. get_or numbers a 0))) ∙ ap length t.numbers_are) i ∷ (classes_are i ++ moved_are i))
+      (λ i. 1 ∷ t.count_is i ∷ h.classes_is i ∷ (rules_is h ∙ sym (length-map p.rules (rename (λ a. get_or numbers a 0))) ∙ ap length t.numbers_are) i ∷ (classes_are i ++ moved_are i))
       ∙ ap (λ (k : Kind). encode (remaining_of k p)) (sym h.kind_is)
 
   moved_long : length moved ≡ length (flat rule_words p.rules)
   moved_long = ap length (moved_are ∙ ap (flat rule_words) (sym t.numbers_are)) ∙ moved_length (λ a. get_or numbers a 0) p.rules
 
   classes_long : length classes ≡ count
-  classes_long = ap length classes_are ∙ length_map (left p) (λ a. get_or st.words a 0) ∙ sym t.count_is
+  classes_long = ap length classes_are ∙ length-map (left p) (λ a. get_or st.words a 0) ∙ sym t.count_is
 
   stored_long : g.words ≡ 4 + (n + length (flat rule_words p.rules))
-  stored_long = omega (arith, h.stored.ends, length_append st.words (flat rule_words p.rules), h.class_words_lem)
+  stored_long = omega (arith, h.stored.ends, length-append st.words (flat rule_words p.rules), h.class_words_lem)
 
   pub words_long : length (encode (remaining p)) ≡ g.words - (n - count)
-  words_long = omega (arith, ap length words_are, length_append classes moved, moved_long, classes_long, stored_long, few)
+  words_long = omega (arith, ap length words_are, length-append classes moved, moved_long, classes_long, stored_long, few)
 
   pub header_small : (count < 65536) × (g.classes < 65536) × (g.counts.rules < 65536)
   header_small = let s = held_small h in (omega (arith, s.atoms, few), omega (arith, h.classes_fit), omega (arith, s.rules))

@@ -10,7 +10,7 @@ use Rattle.kinds.specs.declared.limits.Kind.TheVariants.{Plain}
 use Rattle.rules.specs.Lists.{All, filter, from}
 use Rattle.rules.specs.Rules.{Rule}
 use Rattle.rules.specs.Renumbering.{Within}
-use Rattle.rules.proofs.Booleans.{or_false}
+use Rattle.rules.proofs.Booleans.{or-false}
 use Rattle.rules.proofs.Renumbering.{within_imp, rename_same}
 use Rattle.stores.specs.Program.{Program, ProgramForm}
 use Rattle.answers.specs.declared.Read.{Read}
@@ -35,7 +35,7 @@ no_mark (suc k) (suc a) = no_mark k a
 module _ (rs : List (Rule ℕ)) (k : ℕ) {marks : List Bool} (m : Marks (is_used rs) (replicate k false) marks) where
   marked_used : (a : ℕ) → marked a marks ≡ filter (is_used rs) (from 0 a)
   unfolding marked
-  marked_used a = λ i. filter (λ b. (m.mark b ∙ ap (λ (c : Bool). is_used rs b || c) (no_mark k b) ∙ or_false (is_used rs b)) i) (from 0 a)
+  marked_used a = λ i. filter (λ b. (m.mark b ∙ ap (λ (c : Bool). is_used rs b || c) (no_mark k b) ∙ or-false (is_used rs b)) i) (from 0 a)
 
 pub tables : {p : Program} {k : ℕ} {marks : List Bool} {numbers : List ℕ} {count n : ℕ}
     → n ≡ p.atoms → n ≤ k → n ≤ length numbers → All (Within (λ a. a < p.atoms)) p.rules → Marks (is_used p.rules) (replicate k false) marks

@@ -6,7 +6,7 @@ use mathlib.Core.Logic.{◌≢◌}
 use mathlib.Core.Bool.{Bool, true, false}
 use mathlib.Core.List.{List, [], ◌∷◌, map}
 use lib.Dec.{T}
-use lib.ListN.{length, get_or, length_map}
+use lib.ListN.{length, get_or, length-map}
 use Rattle.kinds.specs.Limits.{atom_limit, rule_limit, occurrence_limit}
 use Rattle.kinds.specs.declared.limits.Kind.{Kind}
 use Rattle.kinds.specs.declared.limits.Kind.TheVariants.{Plain, Preference}
@@ -56,7 +56,7 @@ pub restrict_form : (xs : List ℕ) (p : Program) → ProgramForm p → Covers p
 unfolding restrict
 restrict_form xs p f c few classes = record {
   atoms_fit = few;
-  rules_fit_lem = subst (λ (n : ℕ). n ≤ rule_limit p.kind) (sym (length_map p.rules (rename (place_in xs)))) f.rules_fit_lem;
+  rules_fit_lem = subst (λ (n : ℕ). n ≤ rule_limit p.kind) (sym (length-map p.rules (rename (place_in xs)))) f.rules_fit_lem;
   occurrences_fit = subst (λ (n : ℕ). n ≤ occurrence_limit p.kind) (sym (rename_occurrences (place_in xs) p.rules)) f.occurrences_fit;
   classes_form = classes;
   rule_forms = all_map (RuleForm p.kind (length xs)) (rename (place_in xs)) p.rules
@@ -79,7 +79,7 @@ module _ (n k : ℕ) (ws : List ℕ) (rs : List (Rule ℕ)) (f : ClassesForm Pre
   unfolding used
   classes_left = (
     f.0,
-    length_map (used n rs) (λ a. get_or ws a 0),
+    length-map (used n rs) (λ a. get_or ws a 0),
     all_map (λ w. RoleForm k (role_of w)) (λ a. get_or ws a 0) (used n rs) (all_imp (λ a. a < n) _ (λ a l. all_at (λ w. RoleForm k (role_of w)) 0 ws f.2 a (omega (arith, f.1))) (used n rs) c.inside),
     rising_left ws (rising_at 0 ws f.3) (is_used rs) 0 0 n (λ i m u. omega arith) (omega (arith, f.1)),
   )
@@ -114,7 +114,7 @@ distinct_at d (x ∷ l) h (suc i) (suc j) m u e = ap suc (distinct_at d l h.1 i 
 
 pub names_left : (kind : Kind) (n : ℕ) (xs : List ℕ) (names : List (List ℕ)) → All (λ a. a < n) xs → Distinct xs → NamesForm kind n names → NamesForm kind (length xs) (entries [] names xs)
 names_left kind n xs names inside different f = record {
-  count = length_map xs (λ a. get_or names a []);
+  count = length-map xs (λ a. get_or names a []);
   all_allowed = all_map (λ x. T (allowed kind x)) (λ a. get_or names a []) xs (all_imp (λ a. a < n) _ (λ a l. all_at (λ x. T (allowed kind x)) [] names f.all_allowed a (omega (arith, f.count))) xs inside);
   different = distinct_map (λ a. get_or names a []) (λ a. a < n) (λ a b l u. distinct_at [] names f.different a b (omega (arith, f.count)) (omega (arith, f.count))) xs inside different;
 }

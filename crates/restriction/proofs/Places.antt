@@ -6,7 +6,7 @@ use mathlib.Core.Bool.{Bool, true, false, cond, ◌||◌}
 use mathlib.Core.Logic.{◌↔◌}
 use native.Mathlib.Omega.{arith}
 use lib.Dec.{T, eqb, eqb→eq, eqb_refl}
-use lib.ListN.{length, get_or, length_map}
+use lib.ListN.{length, get_or, length-map}
 use lib.Seq.{ext_get_or}
 use borrow.Author.Tests.{eq-eqb, ne_eqb}
 use Rattle.rules.specs.Lists.{All, Any, Distinct, keep, filter, from}
@@ -105,7 +105,7 @@ pub entries_whole : {A : Type 0} (d : A) (l : List A) → entries d l (from 0 (l
 entries_whole {A} d l = ext_get_or d (entries d l (from 0 (length l))) l size (λ i h. let e : 0 + i ≡ i = omega arith in map_from_at (λ a. get_or l a d) d 0 (length l) i (omega (arith, size)) ∙ ap (λ (a : ℕ). get_or l a d) e)
   where
     size : length (entries d l (from 0 (length l))) ≡ length l
-    size = length_map (from 0 (length l)) (λ a. get_or l a d) ∙ length_from 0 (length l)
+    size = length-map (from 0 (length l)) (λ a. get_or l a d) ∙ length_from 0 (length l)
 
 pub place_whole : (n a : ℕ) → a < n → place_in (from 0 n) a ≡ a
 place_whole n a l = ap (λ (r : List ℕ). place_in r a) (sym (whole n)) ∙ filter_place (λ b. true) n a l tt ∙ ap length (whole a) ∙ length_from 0 a

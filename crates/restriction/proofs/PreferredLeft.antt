@@ -6,7 +6,7 @@ use mathlib.Core.Bool.{Bool, true, false, not, cond, ◌&&◌}
 use mathlib.Core.Logic.{◌⊎◌, inl, inr, ◌↔◌}
 use native.Mathlib.Omega.{arith}
 use lib.Dec.{T, eqb, eqb→eq, eqb_refl}
-use lib.ListN.{length, get_or, length_map}
+use lib.ListN.{length, get_or, length-map}
 use Rattle.kinds.specs.Limits.{class_limit, fixed}
 use Rattle.rules.specs.Sets.{has, In, Out, Agree}
 use Rattle.rules.specs.Rules.{Rule, Model}
@@ -32,12 +32,12 @@ cut_number [] m = refl
 cut_number (x ∷ xs) m = omega (arith, digit_cond (has m x), cut_number xs m)
 
 pub cut_lt : (xs : List ℕ) (m : ℕ) → cut_to xs m < 2 ^ length xs
-cut_lt xs m = subst (λ (c : ℕ). cut_to xs m < 2 ^ c) (length_map xs (has m)) (omega (arith, cut_number xs m, number_lt (map (has m) xs)))
+cut_lt xs m = subst (λ (c : ℕ). cut_to xs m < 2 ^ c) (length-map xs (has m)) (omega (arith, cut_number xs m, number_lt (map (has m) xs)))
 
 pub cut_at : (xs : List ℕ) (m i : ℕ) → i < length xs → has (cut_to xs m) i ≡ has m (get_or xs i 0)
 cut_at xs m i l =
     ap (λ (x : ℕ). has x i) (cut_number xs m)
-    ∙ has_number (has m 0) (map (has m) xs) i (omega (arith, length_map xs (has m)))
+    ∙ has_number (has m 0) (map (has m) xs) i (omega (arith, length-map xs (has m)))
     ∙ map_at (has m) xs i 0 (has m 0) l
 
 cut_place : (xs : List ℕ) (m a : ℕ) → T (is_member xs a) → has (cut_to xs m) (place_in xs a) ≡ has m a
@@ -51,7 +51,7 @@ module _ (xs ws : List ℕ) (rs : List (Rule ℕ)) (k : Covers (length ws) xs rs
   rs' = renumbered xs rs
 
   size : length ws' ≡ length xs
-  size = length_map xs (λ a. get_or ws a 0)
+  size = length-map xs (λ a. get_or ws a 0)
 
   inside : (a : ℕ) → T (is_member xs a) → a < length ws
   inside a h = member_all (λ b. b < length ws) xs a k.inside h

@@ -1,1 +1,2 @@
+#![tactic(auto)]
 // Definitions and laws of programs over some of their atoms; no code.

@@ -1,3 +1,4 @@
+#![tactic(auto)]
 // The public entry points (documents 01 and 02). None asks anything of its caller.
 pub mod capi;
 

@@ -5,7 +5,7 @@ use mathlib.Core.Path.{◌≡◌, sym, ap, ap₂, subst, ◌∙◌}
 use mathlib.Core.Bool.{◌&&◌}
 use mathlib.Core.List.{List, [], ◌∷◌, ◌++◌}
 use lib.Dec.{T, leb, eqb}
-use lib.ListN.{length, get_or, take, drop, length_append}
+use lib.ListN.{length, get_or, take, drop, length-append}
 use lib.Seq.{drop-append_seam}
 use Rattle.kinds.specs.Limits.{atom_limit, rule_limit, occurrence_limit}
 use Rattle.kinds.specs.declared.limits.Kind.TheVariants.{Plain}
@@ -40,7 +40,7 @@ lists_of f [] = tt
 lists_of f (x ∷ xs) =
     let rest = flat (λ a. counted (f a)) xs in
     let one : suc (length (f x)) ≡ 1 + length (f x) = omega arith in (
-      omega (arith, length_append (f x) rest),
+      omega (arith, length-append (f x) rest),
       subst (CountedLists (length xs)) (sym (drop-append_seam (f x) rest) ∙ ap (λ (k : ℕ). drop k (counted (f x) ++ rest)) one) (lists_of f xs),
     )
 

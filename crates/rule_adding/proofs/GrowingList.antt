@@ -4,7 +4,7 @@ use native.Mathlib.Omega.{arith}
 use mathlib.Core.Path.{◌≡◌, sym, ap, ◌∙◌}
 use mathlib.Core.Bool.{Bool, true, false}
 use mathlib.Core.List.{List, [], ◌∷◌, ◌++◌, append-nil}
-use lib.ListN.{length, get_or, take, drop, length_append, length-drop}
+use lib.ListN.{length, get_or, take, drop, length-append, length-drop}
 use lib.Seq.{length-take-le}
 use Rattle.rules.proofs.Lists.{part_sized}
 use Rattle.output.specs.Emitted.{Emitted, InRange}
@@ -43,13 +43,13 @@ module _ {number : ℕ} {mark : Bool} {words : List ℕ} {at : ℕ} (front : Fro
     unfolding grown_list
     grown =
         let own : list ≡ take (get_or words 0 0) (drop 1 words) = part_sized 1 (get_or words 0 0) (drop 1 words) in
-        let size : get_or words 0 0 + 1 ≡ length (list ++ (number ∷ [])) = omega (arith, length_append list (number ∷ []), list_length) in
+        let size : get_or words 0 0 + 1 ≡ length (list ++ (number ∷ [])) = omega (arith, length-append list (number ∷ []), list_length) in
         ap (λ (n : ℕ). n ∷ (list ++ (number ∷ []))) size
         ∙ ap (λ (l : List ℕ). length (l ++ (number ∷ [])) ∷ (l ++ (number ∷ []))) own
         ∙ ap (λ (b : Bool). grown_list number b words) (sym e)
 
     size_grown : length (grown_list number mark words) ≡ get_or words 0 0 + 2
-    size_grown = omega (arith, ap length grown, length_append list (number ∷ []), list_length)
+    size_grown = omega (arith, ap length grown, length-append list (number ∷ []), list_length)
 
     pub count_range : {k : ℕ} → InRange at (k ∷ [])
     count_range = record { below = omega (arith, front.range.below, size_grown) }

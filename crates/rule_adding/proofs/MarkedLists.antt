@@ -8,7 +8,7 @@ use lib.ListN.{length, get_or, take, drop, replicate, length-replicate, get_or-r
 use lib.Seq.{drop-cons, length-take-le}
 use Rattle.rules.specs.Lists.{keep}
 use Rattle.rules.specs.Rules.{Rule}
-use Rattle.rules.proofs.Booleans.{or_false}
+use Rattle.rules.proofs.Booleans.{or-false}
 use Rattle.stores.specs.RuleStore.{rule_at, rules_from}
 use Rattle.restriction.specs.Atoms.{is_used}
 use Rattle.used_atoms.specs.Marks.{Marks}
@@ -34,7 +34,7 @@ module _ (rule : List ℕ) {size : ℕ} {marks : List Bool} (m : Marks (is_used 
   unfolding rules_from
   marked a l =
       let stands = is_standing a (rule_at rule) in
-      m.mark a ∙ ap (λ (b : Bool). (stands || false) || b) (get_or-replicate size a false false (omega (arith, as_many))) ∙ or_false (stands || false) ∙ or_false stands
+      m.mark a ∙ ap (λ (b : Bool). (stands || false) || b) (get_or-replicate size a false false (omega (arith, as_many))) ∙ or-false (stands || false) ∙ or-false stands
 
   pub marks_length : length (take n marks) ≡ n
   marks_length = length-take-le n marks (omega (arith, as_many))

@@ -8,7 +8,7 @@ use lib.Dec.{leb}
 use lib.ListN.{length}
 use borrow.Author.Tests.{lt-leb, le-leb}
 use Rattle.kinds.specs.declared.refusals.Refusal.TheVariants.{Output}
-use Rattle.rules.proofs.Booleans.{and_false}
+use Rattle.rules.proofs.Booleans.{and-false}
 use Rattle.output.specs.Emitted.{Emitted}
 use Rattle.output.proofs.Emitting.{sets_seam}
 use Rattle.rule_index.specs.declared.Grown.TheVariants.{Stores, Refused}
@@ -23,7 +23,7 @@ module _ (store index before index_before : List ℕ) {words : ℕ} (long : leng
   pub index_short : length index_before < length index → Delivered store index before index_before before index_before (Refused Output)
   index_short l =
       let a : leb (length index) (length index_before) ≡ false = lt-leb (length index) (length index_before) l in
-      record { answer = rw (a, and_false (leb (length store) (length before))); store_after = refl; index_after_holds = refl }
+      record { answer = rw (a, and-false (leb (length store) (length before))); store_after = refl; index_after_holds = refl }
 
   pub both_written : words ≤ length before → length index ≤ length index_before
       → {after : List ℕ} {x : ℕ} → Emitted before 0 store after x

@@ -4,7 +4,7 @@ use native.Mathlib.Numerals.{add-one}
 use native.Mathlib.Omega.{arith}
 use mathlib.Core.Path.{◌≡◌, ap}
 use mathlib.Core.List.{List, [], ◌∷◌, ◌++◌}
-use lib.ListN.{length, get_or, take, drop, length_append, length-drop}
+use lib.ListN.{length, get_or, take, drop, length-append, length-drop}
 use lib.Seq.{length-take-le}
 use Rattle.rules.proofs.Lists.{part_rest}
 use Rattle.output.specs.Emitted.{Emitted, InRange}
@@ -17,7 +17,7 @@ module _ (ws rule : List ℕ) (header : 4 ≤ length ws) where
 
   pub grown_size : length (grown_store ws rule) ≡ length ws + length rule
   unfolding grown_store
-  grown_size = omega (arith, length_append (take 3 ws) (suc (get_or ws 3 0) ∷ (drop 4 ws ++ rule)), front_length, length_append (drop 4 ws) rule, length-drop 4 ws)
+  grown_size = omega (arith, length-append (take 3 ws) (suc (get_or ws 3 0) ∷ (drop 4 ws ++ rule)), front_length, length-append (drop 4 ws) rule, length-drop 4 ws)
 
   -- the rules that are there, as the code takes them
   abbrev others : List ℕ

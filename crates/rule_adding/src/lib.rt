@@ -1,3 +1,4 @@
+#![tactic(auto)]
 // A rule added at a store's end, and the index with it (document 02, W-209).
 pub mod delivering;
 pub mod fitting;

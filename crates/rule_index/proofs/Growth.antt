@@ -6,7 +6,7 @@ use mathlib.Core.List.{List, [], ◌∷◌, ◌++◌, append_assoc, append-nil}
 use native.Mathlib.Omega.{arith}
 use native.Mathlib.Nat.{zero-add, add-zero}
 use lib.Dec.{T, leb, leb→le, le→leb, eqb, eqb→eq}
-use lib.ListN.{length, drop, length_append, drop_of_length-le}
+use lib.ListN.{length, drop, length-append, drop_of_length-le}
 use lib.Seq.{take_at, drop_at, take-append_seam, drop-append_seam}
 use Rattle.kinds.specs.Limits.{atom_limit, rule_limit, occurrence_limit}
 use Rattle.kinds.specs.declared.limits.Kind.{Kind}
@@ -49,7 +49,7 @@ grown_index_lem r n rs = grown_from r rs 0 n
 added_words : (p : Program) (r : Rule ℕ) → encode (with_rule p r) ≡ grown_store (encode p) (rule_words r)
 unfolding encode grown_store
 added_words p r =
-    let count : length (p.rules ++ (r ∷ [])) ≡ suc (length p.rules) = omega (arith, length_append p.rules (r ∷ [])) in
+    let count : length (p.rules ++ (r ∷ [])) ≡ suc (length p.rules) = omega (arith, length-append p.rules (r ∷ [])) in
     let rules : flat rule_words (p.rules ++ (r ∷ [])) ≡ flat rule_words p.rules ++ rule_words r =
     flat_append rule_words p.rules (r ∷ []) ∙ ap (λ (l : List ℕ). flat rule_words p.rules ++ l) (append-nil (rule_words r)) in
     λ i. kind_word p.kind ∷ p.atoms ∷ p.classes ∷ count i ∷ (ap (λ (l : List ℕ). p.words ++ l) rules ∙ sym (append_assoc p.words (flat rule_words p.rules) (rule_words r))) i
@@ -139,7 +139,7 @@ added_form : (p : Program) (r : Rule ℕ) → ProgramForm p → suc (length p.ru
     → RuleForm p.kind p.atoms r → ProgramForm (with_rule p r)
 added_form p r f few fits form = record {
   atoms_fit = f.atoms_fit;
-  rules_fit_lem = omega (arith, few, length_append p.rules (r ∷ []));
+  rules_fit_lem = omega (arith, few, length-append p.rules (r ∷ []));
   occurrences_fit = omega (arith, fits, sum_app occurrences p.rules (r ∷ []));
   classes_form = f.classes_form;
   rule_forms = all_app (RuleForm p.kind p.atoms) p.rules (r ∷ []) f.rule_forms (form, tt);

@@ -6,7 +6,7 @@ use mathlib.Core.List.{List, [], ◌∷◌, ◌++◌}
 use native.Mathlib.Omega.{arith}
 use native.Mathlib.Decide.{ℕ_discrete}
 use lib.Dec.{eqb}
-use lib.ListN.{length, length_append}
+use lib.ListN.{length, length-append}
 use borrow.Author.Tests.{ne_eqb}
 use Rattle.rules.specs.Lists.{sum, from}
 use Rattle.rules.specs.Rules.{Rule, occurrences}
@@ -63,7 +63,7 @@ members_few (x ∷ xs) s c =
     omega (arith, h, sum_add (λ a. digit (eqb a x)) (λ a. digit (is_member xs a)) (from s c), once x s c, members_few xs s c)
 
 atoms_length : (r : Rule ℕ) → length (atoms_of r) ≡ occurrences r
-atoms_length r = omega (arith, length_append r.head (r.body ++ r.nots), length_append r.body r.nots)
+atoms_length r = omega (arith, length-append r.head (r.body ++ r.nots), length-append r.body r.nots)
 
 listed_few : (n s : ℕ) (rs : List (Rule ℕ)) → sum (λ a. length (numbers_of (λ i r. is_standing a r) s rs)) (from 0 n) ≤ sum occurrences rs
 listed_few n s [] = omega (arith, sum_zero (from 0 n))

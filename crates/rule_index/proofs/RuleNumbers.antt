@@ -8,7 +8,7 @@ use native.Mathlib.Omega.{arith}
 use native.Mathlib.Nat.{zero-add}
 use native.Mathlib.Decide.{ℕ_discrete}
 use lib.Dec.{T, eqb, eqb→eq}
-use lib.ListN.{length, get_or, take, drop, length_append}
+use lib.ListN.{length, get_or, take, drop, length-append}
 use lib.Seq.{length-take-le, take-suc, split_at, get_or-append_seam}
 use Rattle.rules.specs.Lists.{All, keep}
 use Rattle.rules.specs.Rules.{Rule, rule}
@@ -30,8 +30,8 @@ keep_length true x xs = omega arith
 keep_length false x xs = omega arith
 
 keep_last : (b : Bool) (x : ℕ) (xs : List ℕ) → length (xs ++ keep b x []) ≡ cond b (suc (length xs)) (length xs)
-keep_last true x xs = omega (arith, length_append xs (x ∷ []))
-keep_last false x xs = omega (arith, length_append xs [])
+keep_last true x xs = omega (arith, length-append xs (x ∷ []))
+keep_last false x xs = omega (arith, length-append xs [])
 
 keep_member : (b : Bool) (x : ℕ) (xs : List ℕ) (i : ℕ) → T (is_member (keep b x xs) i) ↔ ((T b × (i ≡ x)) ⊎ T (is_member xs i))
 keep_member true x xs i = (λ h. there (T-or-out (eqb i x) (is_member xs i) h), λ h. T-or (eqb i x) (is_member xs i) (back h))
@@ -126,7 +126,7 @@ pub with_at : (a i : ℕ) (rs : List (Rule ℕ)) → i < length rs → T (is_sta
 with_at a i rs l h =
     let rest = numbers_of (λ j r. is_standing a r) (suc i) (drop (suc i) rs) in
     let whole = with_split a i rs l h in (
-      omega (arith, ap length whole, length_append (rules_with a (take i rs)) (i ∷ rest)),
+      omega (arith, ap length whole, length-append (rules_with a (take i rs)) (i ∷ rest)),
       ap (λ (xs : List ℕ). get_or xs (length (rules_with a (take i rs))) 0) whole ∙ get_or-append_seam (rules_with a (take i rs)) i rest 0,
     )
 

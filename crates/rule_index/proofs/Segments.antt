@@ -5,7 +5,7 @@ use mathlib.Core.List.{List, [], ◌++◌}
 use native.Mathlib.Omega.{arith}
 use native.Mathlib.Nat.{zero-add}
 use native.Mathlib.Decide.{dec_lt}
-use lib.ListN.{length, get_or, length_append, get_or-append}
+use lib.ListN.{length, get_or, length-append, get_or-append}
 use lib.Seq.{get_or-append-add, ext_get_or}
 use Rattle.rules.specs.Lists.{flat, from}
 use Rattle.rules.proofs.Lists.{from_append}
@@ -24,12 +24,12 @@ module _ (g : ℕ → List ℕ) where
   flat_next a =
       let e : a + 1 ≡ suc a = omega arith in
       let whole : length (flat g (from 0 (suc a))) ≡ length (flat g (from 0 a) ++ (g a ++ [])) = ap (λ (m : ℕ). length (flat g (from 0 m))) (sym e) ∙ ap length (flat_parts a 1) in
-      omega (arith, whole, length_append (flat g (from 0 a)) (g a ++ []), length_append (g a) [])
+      omega (arith, whole, length-append (flat g (from 0 a)) (g a ++ []), length-append (g a) [])
 
   pub flat_inside : (n a : ℕ) → a < n → length (flat g (from 0 a)) + length (g a) ≤ length (flat g (from 0 n))
   flat_inside n a l =
       let rest = flat g (from (suc a) (n - suc a)) in
-      omega (arith, ap length (flat_split n a l), length_append (flat g (from 0 a)) (g a ++ rest), length_append (g a) rest)
+      omega (arith, ap length (flat_split n a l), length-append (flat g (from 0 a)) (g a ++ rest), length-append (g a) rest)
 
   pub flat_at : (n a k : ℕ) → a < n → k < length (g a) → get_or (flat g (from 0 n)) (length (flat g (from 0 a)) + k) 0 ≡ get_or (g a) k 0
   flat_at n a k l u =

@@ -4,7 +4,7 @@ use native.Mathlib.Nat.{add-sub_cancel_left}
 use native.Mathlib.Omega.{arith}
 use mathlib.Core.Path.{◌≡◌, sym, ap, ap₂, ◌∙◌, subst}
 use mathlib.Core.List.{List, [], ◌∷◌, ◌++◌, map, append_assoc}
-use lib.ListN.{length, take, drop, length_append, length_map, length-drop}
+use lib.ListN.{length, take, drop, length-append, length-map, length-drop}
 use lib.Seq.{length-take-le}
 use Rattle.rules.specs.Lists.{All, filter}
 use Rattle.rules.specs.Rules.{rule}
@@ -75,7 +75,7 @@ module _ (m n : ℕ) where
   by_lists2 h b =
       let others = map (λ a. n + a) (filter (beyond m) b) in
       let third : length (filter (beyond m) h ++ others) ≡ length h - length (filter (below m) h) + (length b - length (filter (below m) b)) =
-      omega (arith, length_append (filter (beyond m) h) others, length_map (filter (beyond m) b) (λ a. n + a), length_parts (below m) h, length_parts (below m) b) in
+      omega (arith, length-append (filter (beyond m) h) others, length-map (filter (beyond m) b) (λ a. n + a), length_parts (below m) h, length_parts (below m) b) in
       rw (third, each_itself (below m) h, each_itself (below m) b, each_itself (beyond m) h, each_raised (beyond m) n b)
 
   pub by_rule2 : (ws : List ℕ) → words2 m n (rule_at ws) ≡ lists2 m n (head_part ws) (body_part ws)
@@ -92,9 +92,9 @@ module _ (q s u : ℕ) where
       let heads = map (λ a. s + a) (filter (below q) h) in
       let bodies = map (λ a. s + a) (filter (below q) b) in
       let first : length (heads ++ (u ∷ [])) ≡ length (filter (below q) h) + 1 =
-      omega (arith, length_append heads (u ∷ []), length_map (filter (below q) h) (λ a. s + a)) in
+      omega (arith, length-append heads (u ∷ []), length-map (filter (below q) h) (λ a. s + a)) in
       let second : length (bodies ++ filter (beyond q) b) ≡ length b =
-      omega (arith, length_append bodies (filter (beyond q) b), length_map (filter (below q) b) (λ a. s + a), length_parts (below q) b) in
+      omega (arith, length-append bodies (filter (beyond q) b), length-map (filter (below q) b) (λ a. s + a), length_parts (below q) b) in
       let third : length (filter (beyond q) h) ≡ length h - length (filter (below q) h) = omega (arith, length_parts (below q) h) in
       let lists = append_assoc heads (u ∷ []) ((bodies ++ filter (beyond q) b) ++ filter (beyond q) h) ∙ ap (λ (l : List ℕ). heads ++ (u ∷ l)) (append_assoc bodies (filter (beyond q) b) (filter (beyond q) h)) in
       rw (first, second, third, each_raised (below q) s h, each_raised (below q) s b, each_itself (beyond q) h, each_itself (beyond q) b) (ap (λ (l : List ℕ). (length (filter (below q) h) + 1) ∷ length b ∷ (length h - length (filter (below q) h)) ∷ l) lists)

@@ -3,7 +3,7 @@ use Prim.Native.Nat.{ℕ, ◌+◌, ◌-◌, ◌≤◌}
 use native.Mathlib.Omega.{arith}
 use mathlib.Core.Path.{◌≡◌, sym, ap, ◌∙◌}
 use mathlib.Core.List.{List, [], ◌∷◌, ◌++◌, append_assoc}
-use lib.ListN.{length, length_append}
+use lib.ListN.{length, length-append}
 use lib.Seq.{sets}
 use Rattle.output.specs.Emitted.{Emitted, InRange}
 use Rattle.output.proofs.Emitting.{Ahead, then, renamed, sets_append, sets_front}
@@ -18,7 +18,7 @@ woven2 : (d : List ℕ) (p : ℕ) (a b c e : List ℕ) {q r s : ℕ} → q ≡ p
     → sets (sets (sets (sets d p a) r c) q b) s e ≡ sets d p (a ++ (b ++ (c ++ e)))
 woven2 d p a b c e {q} {r} {s} i j k =
     ap (λ (x : List ℕ). sets x s e) (sets_front (sets d p a) q b r c j ∙ ap (λ (o : ℕ). sets (sets d p a) o (b ++ c)) i ∙ sets_append d p a (b ++ c))
-    ∙ ap (λ (o : ℕ). sets (sets d p (a ++ (b ++ c))) o e) (omega (arith, i, j, k, length_append a (b ++ c), length_append b c))
+    ∙ ap (λ (o : ℕ). sets (sets d p (a ++ (b ++ c))) o e) (omega (arith, i, j, k, length-append a (b ++ c), length-append b c))
     ∙ sets_append d p (a ++ (b ++ c)) e
     ∙ ap (sets d p) (append_assoc a (b ++ c) e ∙ ap (λ (x : List ℕ). a ++ x) (append_assoc b c e))
 
@@ -28,7 +28,7 @@ woven3 : (d : List ℕ) (p : ℕ) (a : List ℕ) (u : ℕ) (b c e : List ℕ) {o
 woven3 d p a u b c e {o} {q} {r} {s} h i j k =
     ap (λ (x : List ℕ). sets (sets x p a) s e) middle
     ∙ ap (λ (x : List ℕ). sets x s e) (sets_front d p a o (u ∷ (b ++ c)) h)
-    ∙ ap (λ (l : ℕ). sets (sets d p (a ++ (u ∷ (b ++ c)))) l e) (omega (arith, h, i, j, k, length_append a (u ∷ (b ++ c)), length_append b c))
+    ∙ ap (λ (l : ℕ). sets (sets d p (a ++ (u ∷ (b ++ c)))) l e) (omega (arith, h, i, j, k, length-append a (u ∷ (b ++ c)), length-append b c))
     ∙ sets_append d p (a ++ (u ∷ (b ++ c))) e
     ∙ ap (sets d p) (append_assoc a (u ∷ (b ++ c)) e ∙ ap (λ (x : List ℕ). a ++ (u ∷ x)) (append_assoc b c e))
   where
@@ -51,9 +51,9 @@ module _ (m n : ℕ) (h b : List ℕ) where
   unfolding lists2
   long2 = omega (
     arith,
-    length_append (lows (split_from m 0 0) h) (lows (split_from m 0 n) b ++ (highs (split_from m 0 0) h ++ highs (split_from m 0 n) b)),
-    length_append (lows (split_from m 0 n) b) (highs (split_from m 0 0) h ++ highs (split_from m 0 n) b),
-    length_append (highs (split_from m 0 0) h) (highs (split_from m 0 n) b),
+    length-append (lows (split_from m 0 0) h) (lows (split_from m 0 n) b ++ (highs (split_from m 0 0) h ++ highs (split_from m 0 n) b)),
+    length-append (lows (split_from m 0 n) b) (highs (split_from m 0 0) h ++ highs (split_from m 0 n) b),
+    length-append (highs (split_from m 0 0) h) (highs (split_from m 0 n) b),
     lows_length (split_from m 0 0) h,
     lows_length (split_from m 0 n) b,
     highs_length (split_from m 0 0) h,
@@ -108,9 +108,9 @@ module _ (q s u : ℕ) (h b : List ℕ) where
   unfolding lists3
   long3 = omega (
     arith,
-    length_append (lows copied h) (u ∷ (lows copied b ++ (highs copied b ++ highs copied h))),
-    length_append (lows copied b) (highs copied b ++ highs copied h),
-    length_append (highs copied b) (highs copied h),
+    length-append (lows copied h) (u ∷ (lows copied b ++ (highs copied b ++ highs copied h))),
+    length-append (lows copied b) (highs copied b ++ highs copied h),
+    length-append (highs copied b) (highs copied h),
     lows_length copied h,
     lows_length copied b,
     highs_length copied h,

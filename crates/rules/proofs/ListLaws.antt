@@ -6,7 +6,7 @@ use mathlib.Core.List.{List, [], ◌∷◌, ◌++◌, map, map-append, append_as
 use mathlib.Core.Bool.{Bool, true, false}
 use mathlib.Core.Logic.{◌≢◌}
 use lib.Dec.{T, ltb, lt→ltb, ltb→lt}
-use lib.ListN.{length, get_or, take, length_append}
+use lib.ListN.{length, get_or, take, length-append}
 use lib.Seq.{get_or-append_seam}
 use Rattle.rules.specs.Lists.{All, Any, Distinct, keep, filter, flat, from}
 use Rattle.rules.proofs.Booleans.{T_of, bool_ext}
@@ -27,7 +27,7 @@ entries d (x ∷ l) pre zero h = refl
 entries {A} d (x ∷ l) pre (suc c) h = ap₂ (λ (y : A) (r : List A). y ∷ r) (get_or-append_seam pre x l d) (next ∙ entries d l (pre ++ (x ∷ [])) c (omega arith))
   where
     longer : suc (length pre) ≡ length (pre ++ (x ∷ []))
-    longer = omega (arith, length_append pre (x ∷ []))
+    longer = omega (arith, length-append pre (x ∷ []))
 
     next : map (λ (a : ℕ). get_or (pre ++ (x ∷ l)) a d) (from (suc (length pre)) c) ≡ map (λ (a : ℕ). get_or ((pre ++ (x ∷ [])) ++ l) a d) (from (length (pre ++ (x ∷ []))) c)
     next = ap₂ (λ (r : List A) (s : ℕ). map (λ (a : ℕ). get_or r a d) (from s c)) (sym (append_assoc pre (x ∷ []) l)) longer
@@ -37,11 +37,11 @@ pub found : {A : Type 0} (num : A → ℕ) (d : A) (pre l : List A) → map num 
 found num d pre [] e = tt
 found {A} num d pre (c ∷ l) e = (
   ap (λ (i : ℕ). get_or (pre ++ (c ∷ l)) i d) (head-eq_of_cons-eq e) ∙ get_or-append_seam pre c l d,
-  rw (← append_assoc pre (c ∷ []) l) (found num d (pre ++ (c ∷ [])) l (tail-eq_of_cons-eq e ∙ ap (λ (i : ℕ). from i (length l)) longer)),
+  subst (λ (w : List A). All (λ x. get_or w (num x) d ≡ x) l) (append_assoc pre (c ∷ []) l) (found num d (pre ++ (c ∷ [])) l (tail-eq_of_cons-eq e ∙ ap (λ (i : ℕ). from i (length l)) longer)),
 )
   where
     longer : suc (length pre) ≡ length (pre ++ (c ∷ []))
-    longer = omega (arith, length_append pre (c ∷ []))
+    longer = omega (arith, length-append pre (c ∷ []))
 
 -- maps
 

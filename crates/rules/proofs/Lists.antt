@@ -12,7 +12,7 @@ use lib.ListN.{length, get_or, take, drop, length-drop}
 use lib.Seq.{take_all}
 use borrow.Author.Tests.{eq-eqb, ne_eqb}
 use Rattle.rules.specs.Lists.{All, Any, Distinct, every, some, is_empty, keep, filter, sum, flat, from}
-use Rattle.rules.proofs.Booleans.{decide, T_and, T-and-l, T-and-r, T-or, T-or-out, or_assoc, or_false}
+use Rattle.rules.proofs.Booleans.{decide, T_and, T-and-l, T-and-r, T-or, T-or-out, or_assoc, or-false}
 
 module _ {A : Type 0} (P : A → Type 0) where
   pub all_app : (xs ys : List A) → All P xs → All P ys → All P (xs ++ ys)
@@ -279,7 +279,7 @@ some_app p [] ys = refl
 some_app p (x ∷ xs) ys = ap (λ (b : Bool). p x || b) (some_app p xs ys) ∙ or_assoc (p x) (some p xs) (some p ys)
 
 pub some_last : {A : Type 0} (p : A → Bool) (xs : List A) (x : A) → some p (xs ++ (x ∷ [])) ≡ (p x || some p xs)
-some_last p xs x = some_app p xs (x ∷ []) ∙ or_comm (some p xs) (p x || false) ∙ ap (λ (b : Bool). b || some p xs) (or_false (p x))
+some_last p xs x = some_app p xs (x ∷ []) ∙ or_comm (some p xs) (p x || false) ∙ ap (λ (b : Bool). b || some p xs) (or-false (p x))
 
 -- each entry that passes a test makes it pass somewhere
 pub some_each : {A B : Type 0} (p : B → A → Bool) (l : List A) → All (λ x. (b : B) → T (p b x) → T (some (p b) l)) l

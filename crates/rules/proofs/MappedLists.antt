@@ -4,7 +4,7 @@ use mathlib.Core.Path.{◌≡◌, refl, sym, ap, ap₂, ◌∙◌}
 use mathlib.Core.Bool.{Bool, true, false, ◌&&◌, ◌||◌}
 use mathlib.Core.List.{List, [], ◌∷◌, map}
 use native.Mathlib.Omega.{arith}
-use lib.ListN.{length, length_append}
+use lib.ListN.{length, length-append}
 use Rattle.rules.specs.Lists.{All, every, some, keep, filter, sum, flat, from}
 use Rattle.rules.proofs.Lists.{sum_app}
 
@@ -36,7 +36,7 @@ module _ {A B : Type 0} where
 
   pub length_flat : (g : A → List B) (l : List A) → length (flat g l) ≡ sum (λ a. length (g a)) l
   length_flat g [] = refl
-  length_flat g (x ∷ l) = omega (arith, length_append (g x) (flat g l), length_flat g l)
+  length_flat g (x ∷ l) = omega (arith, length-append (g x) (flat g l), length_flat g l)
 
 -- following numbers, one further
 pub from_suc : (s c : ℕ) → from (suc s) c ≡ map suc (from s c)

@@ -1,11 +1,11 @@
 -- Renumbering the atoms, class words and rules alike, keeps the preferred sets, both ways.
 use Prim.Native.Nat.{ℕ, ◌^◌, ◌≤◌, ◌<◌}
 use mathlib.Core.Path.{◌≡◌, refl, sym, ap, ap₂, subst, ◌∙◌}
-use mathlib.Core.List.{List, [], ◌∷◌, map, map_map}
+use mathlib.Core.List.{List, [], ◌∷◌, map, map-map}
 use mathlib.Core.Bool.{Bool, not, ◌&&◌, ◌||◌}
 use mathlib.Core.Logic.{◌⊎◌, inl, inr, ◌↔◌}
 use native.Mathlib.Omega.{arith}
-use lib.ListN.{length, get_or, length_map}
+use lib.ListN.{length, get_or, length-map}
 use Rattle.kinds.specs.Limits.{class_limit, fixed}
 use Rattle.rules.specs.Lists.{All, every, some, from}
 use Rattle.rules.specs.Sets.{has, In, Out, Agree}
@@ -23,7 +23,7 @@ use Rattle.rules.proofs.CutClass.{cut_none_new}
 
 pub words_renumbered : (f g : ℕ → ℕ) (ws : List ℕ) → Bijection (length ws) f g → Renumbered f g ws (renumber_words g ws)
 words_renumbered f g ws k = record {
-  size = length_map (from 0 (length ws)) (λ a. get_or ws (g a) 0) ∙ length_from 0 (length ws);
+  size = length-map (from 0 (length ws)) (λ a. get_or ws (g a) 0) ∙ length_from 0 (length ws);
   bijection = k;
   words = λ a l. map_from_at (λ b. get_or ws (g b) 0) 0 0 (length ws) (f a) (k.there a l) ∙ ap (λ (b : ℕ). get_or ws b 0) (ap g (omega arith) ∙ k.there_back a l);
 }
@@ -42,7 +42,7 @@ rename_itself f rs h = map_itself (rename f) rs
     (all_imp (Within (λ a. f a ≡ a)) _ (λ r w i. rule (map_itself f r.head w.head i) (map_itself f r.body w.body i) (map_itself f r.nots w.nots i)) rs h)
 
 pub rename_again : {A B C : Type 0} (g : B → C) (f : A → B) (rs : List (Rule A)) → map (rename g) (map (rename f) rs) ≡ map (rename (λ c. g (f c))) rs
-rename_again g f rs = map_map (rename g) (rename f) rs ∙ map_eq (λ r. rename g (rename f r)) (rename (λ c. g (f c))) (λ r i. rule (map_map g f r.head i) (map_map g f r.body i) (map_map g f r.nots i)) rs
+rename_again g f rs = map-map (rename g) (rename f) rs ∙ map_eq (λ r. rename g (rename f r)) (rename (λ c. g (f c))) (λ r i. rule (map-map g f r.head i) (map-map g f r.body i) (map-map g f r.nots i)) rs
 
 -- s' has, by their new numbers, the atoms that are Q as s has them
 module _ (f : ℕ → ℕ) (Q : ℕ → Type 0) (s s' : ℕ) (same : (a : ℕ) → Q a → has s' (f a) ≡ has s a) where

@@ -6,7 +6,7 @@ use mathlib.Core.Bool.{Bool, true, false, not, ◌&&◌, ◌||◌}
 use mathlib.Core.Logic.{◌↔◌}
 use native.Mathlib.Omega.{arith}
 use lib.Dec.{T}
-use lib.ListN.{length, length_map}
+use lib.ListN.{length, length-map}
 use Rattle.rules.specs.Lists.{All, Any, every, some, sum}
 use Rattle.rules.specs.Sets.{In, Out}
 use Rattle.rules.specs.Rules.{Rule, rule, occurrences, Holds, Model, FirstBroken, reduct, is_holding, is_model, count_if, first_broken, rename}
@@ -118,4 +118,4 @@ module _ {A : Type 0} where
 
 -- other atoms, the same occurrences
 pub rename_occurrences : {A B : Type 0} (f : A → B) (rs : List (Rule A)) → sum occurrences (map (rename f) rs) ≡ sum occurrences rs
-rename_occurrences f rs = simp sum_map (sum_eq _ occurrences rs (all_each _ (λ r. simp length_map) rs))
+rename_occurrences f rs = simp sum_map (sum_eq _ occurrences rs (all_each _ (λ r. simp length-map) rs))

@@ -9,7 +9,7 @@ use mathlib.Core.Bool.{Bool, true, false}
 use mathlib.Core.Logic.{◌⊎◌, inl, inr}
 use lib.Dec.{T, eqb, eqb→eq}
 use lib.Pow.{shr-shr, field, mod-mod-pow, pow_mono}
-use lib.ListN.{length, get_or, length_map}
+use lib.ListN.{length, get_or, length-map}
 use Rattle.rules.specs.Lists.{from}
 use Rattle.rules.specs.Sets.{has}
 use Rattle.rules.proofs.Booleans.{decide, T_of, eq_to_eqb}
@@ -103,7 +103,7 @@ set_of_lem n t = (
 )
   where
     size : length (map t (from 0 n)) ≡ n
-    size = length_map (from 0 n) t ∙ length_from 0 n
+    size = length-map (from 0 n) t ∙ length_from 0 n
 
 pub lt_pow : (i : ℕ) → i < 2 ^ i
 lt_pow zero = omega arith

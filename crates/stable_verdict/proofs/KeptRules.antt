@@ -6,7 +6,7 @@ use mathlib.Core.Bool.{Bool, true, false, not, ◌&&◌, ◌||◌}
 use mathlib.Core.List.{List, [], ◌∷◌, ◌++◌, map}
 use native.Mathlib.Omega.{arith}
 use lib.Dec.{T}
-use lib.ListN.{length, get_or, take, drop, replicate, length_map, length-take}
+use lib.ListN.{length, get_or, take, drop, replicate, length-map, length-take}
 use lib.Pow.{pow_mono}
 use lib.Seq.{take_at}
 use Rattle.kinds.specs.Limits.{walk_atoms, rule_limit}
@@ -120,7 +120,7 @@ module _ (ws : List ℕ) (n r m : ℕ) where
   in_reduct = reduct (rules_in ws r) (has m)
 
   reduct_front : (f : Rule ℕ → ℕ) (d l : List ℕ) (k : ℕ) → l ≡ over (map f in_reduct) d → k ≡ length in_reduct → take k l ≡ map f in_reduct
-  reduct_front f d l k e c = ap (take k) e ∙ front_of (map f in_reduct) d k (length_map in_reduct f ∙ sym c)
+  reduct_front f d l k e c = ap (take k) e ∙ front_of (map f in_reduct) d k (length-map in_reduct f ∙ sym c)
 
   pub reduct_ready : {marks : List Bool} {cs wants : List ℕ} {kept : ℕ} (c₀ w₀ : List ℕ) → PlainHeader ws n r
       → (marks ≡ marks_of m (rules_in ws r)) × ((cs ≡ over (map (care_at n) in_reduct) c₀) × ((wants ≡ over (map (want_at n) in_reduct) w₀) × (kept ≡ length in_reduct)))
@@ -141,17 +141,17 @@ module _ {ws : List ℕ} {n r m : ℕ} {marks : List Bool} {cs wants : List ℕ}
   rules_length = rules_count r (take (length ws - 4) (drop 4 ws))
 
   pub kept_care_length : kept ≡ length (take kept cs)
-  kept_care_length = sym (ap length d.care_front ∙ length_map (reduct rules (has m)) (care_at n) ∙ sym d.count)
+  kept_care_length = sym (ap length d.care_front ∙ length-map (reduct rules (has m)) (care_at n) ∙ sym d.count)
 
   pub kept_want_length : kept ≡ length (take kept wants)
-  kept_want_length = sym (ap length d.want_front ∙ length_map (reduct rules (has m)) (want_at n) ∙ sym d.count)
+  kept_want_length = sym (ap length d.want_front ∙ length-map (reduct rules (has m)) (want_at n) ∙ sym d.count)
 
   marks_front : take r marks ≡ map (is_keeping m) rules
   unfolding marks_of
-  marks_front = ap (take r) d.marked ∙ take_at (map (is_keeping m) rules) (replicate (rule_limit Plain - length rules) false) r (length_map rules (is_keeping m) ∙ rules_length)
+  marks_front = ap (take r) d.marked ∙ take_at (map (is_keeping m) rules) (replicate (rule_limit Plain - length rules) false) r (length-map rules (is_keeping m) ∙ rules_length)
 
   pub marks_length : r ≡ length (take r marks)
-  marks_length = sym (ap length marks_front ∙ length_map rules (is_keeping m) ∙ rules_length)
+  marks_length = sym (ap length marks_front ∙ length-map rules (is_keeping m) ∙ rules_length)
 
   pub marks_fit : r ≤ length marks
   marks_fit = omega (arith, marks_length, length-take r marks)

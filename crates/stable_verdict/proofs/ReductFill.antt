@@ -6,7 +6,7 @@ use mathlib.Core.List.{List, [], ◌∷◌, ◌++◌, map, map-append, append-ni
 use native.Mathlib.Nat.{add-zero}
 use native.Mathlib.Numerals.{add-one}
 use native.Mathlib.Omega.{arith}
-use lib.ListN.{length, get_or, take, drop, set, replicate, length_append, length_map, length-set, length-replicate}
+use lib.ListN.{length, get_or, take, drop, set, replicate, length-append, length-map, length-set, length-replicate}
 use lib.Seq.{drop-cons, take-suc, take_all, set_at, append_snoc, get_or-set_same, length-take-le}
 use borrow.Rule.Slice.PartMut.{mid_of, put_mid, set_mid_at}
 use Rattle.kinds.specs.Limits.{rule_limit}
@@ -39,7 +39,7 @@ put_masks f ws a xs ys h e = put_first a (f (rule_at ws)) xs ys h e
 -- one entry more over what was there
 over_more : (l d : List ℕ) (n v : ℕ) → length l ≡ n → n < length d → set (over l d) n v ≡ over (l ++ (v ∷ [])) d
 over_more l d n v e h =
-    let k : suc (length l) ≡ length (l ++ (v ∷ [])) = omega (arith, length_append l (v ∷ [])) in
+    let k : suc (length l) ≡ length (l ++ (v ∷ [])) = omega (arith, length-append l (v ∷ [])) in
     ap (λ (x : List ℕ). set (l ++ x) n v) (drop-cons d (length l) 0 (omega arith))
     ∙ set_at l (get_or d (length l) 0) (drop (suc (length l)) d) v n e
     ∙ sym (append_snoc l v (drop (suc (length l)) d)) ∙ ap (λ (i : ℕ). (l ++ (v ∷ [])) ++ drop i d) k
@@ -71,10 +71,10 @@ module _ (m : ℕ) (r : Rule ℕ) where
     marks_more : (j : ℕ) → length rs ≡ j → j < rule_limit Plain → set (marks_of m rs) j (is_keeping m r) ≡ marks_of m (rs ++ (r ∷ []))
     unfolding marks_of
     marks_more j e l =
-        let k : rule_limit Plain - length rs ≡ suc (rule_limit Plain - length (rs ++ (r ∷ []))) = omega (arith, length_append rs (r ∷ [])) in
+        let k : rule_limit Plain - length rs ≡ suc (rule_limit Plain - length (rs ++ (r ∷ []))) = omega (arith, length-append rs (r ∷ [])) in
         let rest : List Bool = replicate (rule_limit Plain - length (rs ++ (r ∷ []))) false in
         ap (λ (n : ℕ). set (map (is_keeping m) rs ++ replicate n false) j (is_keeping m r)) k
-        ∙ set_at (map (is_keeping m) rs) false rest (is_keeping m r) j (length_map rs (is_keeping m) ∙ e)
+        ∙ set_at (map (is_keeping m) rs) false rest (is_keeping m r) j (length-map rs (is_keeping m) ∙ e)
         ∙ sym (append_snoc (map (is_keeping m) rs) (is_keeping m r) rest)
         ∙ ap (λ (l : List Bool). l ++ rest) (sym (map-append (is_keeping m) rs (r ∷ [])))
 
@@ -88,7 +88,7 @@ module _ (m : ℕ) (r : Rule ℕ) where
     masks_more : (f : Rule ℕ → ℕ) → f r ≡ f (bare r) → (d : List ℕ) (kept : ℕ) → is_keeping m r ≡ true → kept < length d → kept ≡ length (reduct rs (has m))
         → set (over (map f (reduct rs (has m))) d) kept (f r) ≡ over (map f (reduct (rs ++ (r ∷ [])) (has m))) d
     masks_more f q d kept e l k =
-        over_more (map f (reduct rs (has m))) d kept (f r) (length_map (reduct rs (has m)) f ∙ sym k) l
+        over_more (map f (reduct rs (has m))) d kept (f r) (length-map (reduct rs (has m)) f ∙ sym k) l
         ∙ ap (λ (v : ℕ). over (map f (reduct rs (has m)) ++ (v ∷ [])) d) q
         ∙ ap (λ (x : List ℕ). over x d) (sym (ap (map f) (kept_here e) ∙ map-append f (reduct rs (has m)) (bare r ∷ [])))
 
@@ -103,7 +103,7 @@ module _ {n m : ℕ} {rs : List (Rule ℕ)} {c₀ w₀ cs wants : List ℕ} {kep
   masks_kept e l = record {
     cares = ap (λ (x : List ℕ). set x kept (care_at n r)) d.cares ∙ masks_more m r rs (care_at n) (care_bare (rename (mirror n) r)) c₀ kept e l.0 d.count;
     want_masks = ap (λ (x : List ℕ). set x kept (want_at n r)) d.want_masks ∙ masks_more m r rs (want_at n) (want_bare (rename (mirror n) r)) w₀ kept e l.1 d.count;
-    count = omega (arith, d.count, ap length (kept_here m r rs e), length_append (reduct rs (has m)) (bare r ∷ []));
+    count = omega (arith, d.count, ap length (kept_here m r rs e), length-append (reduct rs (has m)) (bare r ∷ []));
   }
 
   masks_dropped : is_keeping m r ≡ false → Masked n m (rs ++ (r ∷ [])) c₀ w₀ cs wants kept

@@ -1,3 +1,4 @@
+#![tactic(auto)]
 // The stable verdict over a rule store (document 01, "Verdicts").
 pub mod reduct;
 pub mod stable;

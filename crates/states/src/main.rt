@@ -1,3 +1,4 @@
+#![tactic(auto)]
 // Lists the preferred states of the preference file on standard input (document 01).
 use kinds::limits::Kind;
 

@@ -5,7 +5,7 @@ use mathlib.Core.Path.{◌≡◌, refl, sym, ap, ap₂, ◌∙◌}
 use mathlib.Core.List.{List, [], ◌∷◌, ◌++◌, map, append_assoc}
 use mathlib.Core.Bool.{Bool}
 use borrow.Author.Tests.{lt-leb}
-use lib.ListN.{length, length_append, length_map}
+use lib.ListN.{length, length-append, length-map}
 use Rattle.rules.specs.Lists.{from}
 use Rattle.rules.specs.Rules.{count_if}
 use Rattle.rules.specs.Preferred.{of_class}
@@ -40,7 +40,7 @@ run_words o ws i first end l e =
     let run : map (λ a. d + a) (of_class ws i) ≡ each single (from (d + first) (d + end - (d + first))) =
     ap (map (λ a. d + a)) e ∙ shifted d first (end - first) ∙ ap (from (d + first)) c ∙ sym (each_single (from (d + first) (d + end - (d + first)))) in
     let size : length (map (λ a. d + a) (of_class ws i) ++ ends) ≡ end - first + 2 =
-    omega (arith, length_append (map (λ a. d + a) (of_class ws i)) ends, length_map (of_class ws i) (λ a. d + a), ap length e ∙ length_from first (end - first)) in
+    omega (arith, length-append (map (λ a. d + a) (of_class ws i)) ends, length-map (of_class ws i) (λ a. d + a), ap length e ∙ length_from first (end - first)) in
     ap (λ (k : ℕ). k ∷ 1 ∷ 0 ∷ ((map (λ a. d + a) (of_class ws i) ++ ends) ++ ((o.e + (i - 1)) ∷ []))) size
     ∙ ap (λ (r : List ℕ). (end - first + 2) ∷ 1 ∷ 0 ∷ ((r ++ ends) ++ ((o.e + (i - 1)) ∷ []))) run
     ∙ ap (λ (r : List ℕ). (end - first + 2) ∷ 1 ∷ 0 ∷ r) (append_assoc (each single (from (d + first) (d + end - (d + first)))) ends ((o.e + (i - 1)) ∷ []))

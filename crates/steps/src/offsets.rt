@@ -2,7 +2,7 @@
 ghost use Rattle.std.specs.Prelude.{◌≡◌, ◌≤◌};
 ghost use Rattle.steps.specs.Offsets.{offsets_of};
 
-#[derive(Drop)]
+#[derive(Clone, Copy)]
 pub struct Offsets {
     pub n: u16,
     pub s: u16,

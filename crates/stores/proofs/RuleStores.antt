@@ -6,7 +6,7 @@ use mathlib.Core.Logic.{◌↔◌}
 use mathlib.Core.List.{List, [], ◌∷◌, ◌++◌, append_assoc, append-nil}
 use native.Mathlib.Omega.{arith}
 use lib.Dec.{T, leb, leb→le, le→leb, eqb→eq}
-use lib.ListN.{length, take, drop, get_or, length_append, length-take, take-append-drop}
+use lib.ListN.{length, take, drop, get_or, length-append, length-take, take-append-drop}
 use lib.Seq.{length-take-le, take_at, drop_at, drop-drop}
 use Rattle.kinds.specs.Sizes.{store_words}
 use Rattle.kinds.specs.Limits.{atom_limit, rule_limit, occurrence_limit, class_limit}
@@ -71,9 +71,9 @@ rules_length [] = refl
 rules_length (r ∷ rs) =
     omega (
       arith,
-      length_append (rule_words r) (flat rule_words rs),
-      length_append r.head (r.body ++ r.nots),
-      length_append r.body r.nots,
+      length-append (rule_words r) (flat rule_words rs),
+      length-append r.head (r.body ++ r.nots),
+      length-append r.body r.nots,
       rules_length rs,
     )
 
@@ -194,7 +194,7 @@ only_decoded ws p s = sym (decode_encode p s.form) ∙ ap decode s.words
 pub words_fit : (p : Program) → ProgramForm p → length (encode p) ≤ store_words
 unfolding encode
 words_fit p f =
-    let a = length_append p.words (flat rule_words p.rules) in
+    let a = length-append p.words (flat rule_words p.rules) in
     let b = rules_length p.rules in
     let c = words_count p.kind p.atoms p.classes p.words f.classes_form in
     omega (arith, by_kind p.kind c f.atoms_fit f.rules_fit_lem f.occurrences_fit a b)

@@ -7,7 +7,7 @@ use mathlib.Core.List.{List, [], ◌∷◌, ◌++◌, append_assoc}
 use native.Mathlib.Omega.{arith}
 use native.Mathlib.Nat.{add_assoc}
 use lib.Dec.{T, eqb, leb→le, le→leb, ltb→lt, lt→ltb, eqb→eq}
-use lib.ListN.{length, get_or, take, drop, length-drop, take-append-drop, length_append}
+use lib.ListN.{length, get_or, take, drop, length-drop, take-append-drop, length-append}
 use lib.Seq.{length-take-le, take-append_seam, drop-append_seam, drop-drop}
 use Rattle.kinds.specs.Limits.{occurrence_limit}
 use Rattle.kinds.specs.declared.limits.Kind.{Kind}
@@ -195,7 +195,7 @@ pub rule_encoded : (kind : Kind) (n used : ℕ) (r : Rule ℕ) (t : List ℕ) �
 rule_encoded kind n used r t h f =
     (rule_law kind n used (rule_words r ++ t)).1
     (record {
-      inside = omega (arith, length_append (r.head ++ (r.body ++ r.nots)) t, length_append r.head (r.body ++ r.nots), length_append r.body r.nots);
+      inside = omega (arith, length-append (r.head ++ (r.body ++ r.nots)) t, length-append r.head (r.body ++ r.nots), length-append r.body r.nots);
       fits = omega arith;
       form = subst (RuleForm kind n) (sym (rule_front r t)) h;
     })

@@ -3,7 +3,7 @@ use Prim.Native.Nat.{ℕ, ◌+◌, ◌*◌, ◌≤◌, ◌<◌}
 use mathlib.Core.Path.{◌≡◌, sym, ap, ap₂, ◌∙◌, subst}
 use mathlib.Core.List.{List, [], ◌∷◌, ◌++◌, append_assoc, append-nil}
 use native.Mathlib.Omega.{arith}
-use lib.ListN.{length, get_or, drop, length_append}
+use lib.ListN.{length, get_or, drop, length-append}
 use lib.Seq.{drop_at, drop-drop}
 use Rattle.kinds.specs.Limits.{occurrence_limit}
 use Rattle.kinds.specs.declared.limits.Kind.TheVariants.{Plain}
@@ -31,7 +31,7 @@ rules_front n (r ∷ rs) rest h l =
     let t : List ℕ = flat rule_words rs ++ rest in
     subst (StoredRules n (length (r ∷ rs))) (sym (append_assoc (rule_words r) (flat rule_words rs) rest)) (
       record {
-        inside = omega (arith, length_append (r.head ++ (r.body ++ r.nots)) t, length_append r.head (r.body ++ r.nots), length_append r.body r.nots);
+        inside = omega (arith, length-append (r.head ++ (r.body ++ r.nots)) t, length-append r.head (r.body ++ r.nots), length-append r.body r.nots);
         few = omega arith;
         heads = subst (λ (q : Rule ℕ). All (λ a. a < n) q.head) (sym (rule_front r t)) h.0.head;
         bodies = subst (λ (q : Rule ℕ). All (λ a. a < n) q.body) (sym (rule_front r t)) h.0.body;
@@ -78,7 +78,7 @@ module _ (ws : List ℕ) (p : Program) (s : StoreOf ws p) where
   store_size : length ws ≡ 4 + word_count p.kind p.atoms + (3 * length p.rules + sum occurrences p.rules)
   unfolding encode
   store_size =
-      let l = length_append p.words (flat rule_words p.rules) in
+      let l = length-append p.words (flat rule_words p.rules) in
       let w = words_count p.kind p.atoms p.classes p.words s.form.classes_form in
       let r = rules_length p.rules in
       ap length (sym s.words) ∙ omega arith

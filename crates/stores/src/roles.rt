@@ -4,7 +4,7 @@ ghost use Rattle.stores.specs.Program.{role_of};
 
 use kinds::limits::ClassWord;
 
-#[derive(Drop)]
+#[derive(Clone, Copy)]
 pub enum Role {
     Minimised(usize),
     Varying,

@@ -4,7 +4,7 @@ use native.Mathlib.Omega.{arith}
 use mathlib.Core.Path.{◌≡◌, sym, ap, ◌∙◌, subst}
 use mathlib.Core.List.{List, ◌++◌}
 use lib.Dec.{T}
-use lib.ListN.{length, take, drop, length_append}
+use lib.ListN.{length, take, drop, length-append}
 use lib.Seq.{take_at, length-take-le}
 use Rattle.kinds.specs.Sizes.{longest_name}
 use Rattle.kinds.specs.Limits.{atom_limit}
@@ -40,7 +40,7 @@ module _ {kind : Kind} {n : ℕ} {names : List ℕ} (m : NamesOf names kind n (d
       filled_handed = sym (take_at filled (drop n table) n (k ∙ front_length))
 
       pub table_inside : n ≤ length (filled ++ drop n table)
-      table_inside = omega (arith, length_append filled (drop n table), k, front_length)
+      table_inside = omega (arith, length-append filled (drop n table), k, front_length)
 
       pub handed_length : length handed ≡ n
       handed_length = ap length (sym filled_handed) ∙ k ∙ front_length

@@ -5,7 +5,7 @@ use native.Mathlib.Nat.{mul-le-mul}
 use mathlib.Core.Path.{◌≡◌}
 use mathlib.Core.List.{List, [], ◌∷◌, ◌++◌}
 use lib.Dec.{T, eqb}
-use lib.ListN.{length, get_or, length_append, length_map}
+use lib.ListN.{length, get_or, length-append, length-map}
 use Rattle.kinds.specs.Sizes.{longest_name, longest_entry}
 use Rattle.kinds.specs.Limits.{atom_limit, rule_limit, occurrence_limit, class_limit, text_limit, varying, fixed}
 use Rattle.kinds.specs.declared.limits.Kind.{Kind}
@@ -33,7 +33,7 @@ name_short (x ∷ names) h (suc a) = name_short names h.1 a
 
 items_short : (names : List (List ℕ)) → Short names → length (flat item names) ≤ longest_entry * length names
 items_short [] h = omega arith
-items_short (x ∷ names) h = omega (arith, length_append x (flat item names), items_short names h.1, h.0)
+items_short (x ∷ names) h = omega (arith, length-append x (flat item names), items_short names h.1, h.0)
 
 module _ (names : List (List ℕ)) (short : Short names) where
   named_short : (xs : List ℕ) → Short (named names xs)
@@ -41,15 +41,15 @@ module _ (names : List (List ℕ)) (short : Short names) where
   named_short (a ∷ xs) = (name_short names short a, named_short xs)
 
   named_length : (xs : List ℕ) → length (flat item (named names xs)) ≤ longest_entry * length xs
-  named_length xs = omega (arith, items_short (named names xs) (named_short xs), length_map xs (λ a. get_or names a []))
+  named_length xs = omega (arith, items_short (named names xs) (named_short xs), length-map xs (λ a. get_or names a []))
 
   rule_length : (r : Rule ℕ) → length (rule_text names r) ≤ 27 + longest_entry * occurrences r
   unfolding rule_line open_text
-  rule_length r = simp length_append (omega (arith, named_length r.head, named_length r.body, named_length r.nots))
+  rule_length r = simp length-append (omega (arith, named_length r.head, named_length r.body, named_length r.nots))
 
   rules_length : (rs : List (Rule ℕ)) → length (flat (rule_text names) rs) ≤ 27 * length rs + longest_entry * sum occurrences rs
   rules_length [] = omega arith
-  rules_length (r ∷ rs) = omega (arith, length_append (rule_text names r) (flat (rule_text names) rs), rule_length r, rules_length rs)
+  rules_length (r ∷ rs) = omega (arith, length-append (rule_text names r) (flat (rule_text names) rs), rule_length r, rules_length rs)
 
 class_length : (ws : List ℕ) (w : ℕ) → length (of_class ws w) ≤ length ws
 class_length ws w = omega (arith, filter_length (λ a. eqb (get_or ws a 0) w) (from 0 (length ws)), length_from 0 (length ws))
@@ -59,12 +59,12 @@ module _ (p : Program) (names : List (List ℕ)) (short : Short names) where
   class_line_length : (word : List ℕ) → length word ≤ 4 → (w : ℕ) → length (class_line p names word w) ≤ 7 + longest_entry * length p.words
   unfolding list_line open_text
   class_line_length word h w =
-      simp length_append (omega (arith, h, named_length names short (of_class p.words w), class_length p.words w))
+      simp length-append (omega (arith, h, named_length names short (of_class p.words w), class_length p.words w))
 
   min_lines_length : (s c : ℕ) → length (flat (class_line p names min_word) (from s c)) ≤ c * (7 + longest_entry * length p.words)
   min_lines_length s zero = omega arith
   min_lines_length s (suc c) =
-      omega (arith, length_append (class_line p names min_word s) (flat (class_line p names min_word) (from (suc s) c)), class_line_length min_word (omega arith) s, min_lines_length (suc s) c)
+      omega (arith, length-append (class_line p names min_word s) (flat (class_line p names min_word) (from (suc s) c)), class_line_length min_word (omega arith) s, min_lines_length (suc s) c)
 
   declared_bytes : Kind → ℕ
   declared_bytes Plain = 8 + longest_entry * atom_limit Plain
@@ -72,14 +72,14 @@ module _ (p : Program) (names : List (List ℕ)) (short : Short names) where
 
   declarations_length : (kind : Kind) → length names ≡ p.atoms → p.atoms ≤ atom_limit kind → ClassesForm kind p.atoms p.classes p.words → length (declarations kind p names) ≤ declared_bytes kind
   unfolding list_line open_text declared_bytes
-  declarations_length Plain e l c = simp length_append (omega (arith, items_short names short))
+  declarations_length Plain e l c = simp length-append (omega (arith, items_short names short))
   declarations_length Preference e l c =
       let line : 7 + longest_entry * length p.words ≤ 7 + longest_entry * atom_limit Preference = omega (arith, c.1) in
       let all : p.classes * (7 + longest_entry * length p.words) ≤ class_limit * (7 + longest_entry * atom_limit Preference) = mul-le-mul c.0 line in
       omega (
         arith,
-        length_append (flat (class_line p names min_word) (from 1 p.classes)) (class_line p names vary_word varying ++ class_line p names fix_word fixed),
-        length_append (class_line p names vary_word varying) (class_line p names fix_word fixed),
+        length-append (flat (class_line p names min_word) (from 1 p.classes)) (class_line p names vary_word varying ++ class_line p names fix_word fixed),
+        length-append (class_line p names vary_word varying) (class_line p names fix_word fixed),
         min_lines_length 1 p.classes,
         class_line_length vary_word (omega arith) varying,
         class_line_length fix_word (omega arith) fixed,
@@ -96,7 +96,7 @@ text_fits {p} {names} f g =
     let short = all_imp (λ x. T (allowed p.kind x)) (λ x. length x ≤ longest_name) (allowed_short p.kind) names g.all_allowed in
     omega (
       arith,
-      length_append (declarations p.kind p names) (flat (rule_text names) p.rules),
+      length-append (declarations p.kind p names) (flat (rule_text names) p.rules),
       declarations_length p names short p.kind g.count f.atoms_fit f.classes_form,
       rules_fit_in p names short p.kind f.rules_fit_lem f.occurrences_fit,
     )

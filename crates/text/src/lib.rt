@@ -1,3 +1,4 @@
+#![tactic(auto)]
 // The lines of a program written from its stores (document 01, "The two kinds of file").
 pub mod atoms;
 pub mod classes;

@@ -3,7 +3,7 @@ use Prim.Native.Nat.{ℕ, ◌+◌, ◌-◌, ◌≤◌}
 use mathlib.Core.Path.{◌≡◌, refl, sym, ap, ap₂, ◌∙◌}
 use mathlib.Core.List.{List, [], ◌∷◌, ◌++◌, append_assoc}
 use native.Mathlib.Omega.{arith}
-use lib.ListN.{length, get_or, take, drop, length_append}
+use lib.ListN.{length, get_or, take, drop, length-append}
 use lib.Seq.{take_at, drop_at}
 use borrow.Rule.Slice.PartMut.{mid_of, put_mid}
 use Rattle.kinds.specs.Limits.{occurrence_limit}
@@ -45,7 +45,7 @@ module _ {ws : List ℕ} {a e : ℕ} {front list rest : List ℕ} (p : Part ws a
   pub next_part : (new : List ℕ) {list' rest' : List ℕ} {e' : ℕ} → length new ≡ length list → rest ≡ list' ++ rest' → e + length list' ≡ e' → Part (put_mid a (e - a) ws new) e e' (front ++ new) list' rest'
   next_part new {list'} {rest'} l r f = record {
     is = put_list new ∙ ap (λ (t : List ℕ). front ++ (new ++ t)) r ∙ sym (append_assoc front new (list' ++ rest'));
-    start = length_append front new ∙ (let s = p.start in let n = p.end in omega arith);
+    start = length-append front new ∙ (let s = p.start in let n = p.end in omega arith);
     end = f;
   }
 

@@ -5,7 +5,7 @@ use mathlib.Core.Path.{◌≡◌, refl, sym, ap, ◌∙◌, subst}
 use mathlib.Core.Bool.{not}
 use mathlib.Core.List.{List, [], ◌∷◌}
 use lib.Dec.{leb→le, lt→ltb}
-use lib.ListN.{length, get_or, take, drop, length_append}
+use lib.ListN.{length, get_or, take, drop, length-append}
 use Rattle.kinds.specs.Sizes.{store_words}
 use Rattle.kinds.specs.Limits.{class_limit}
 use Rattle.kinds.specs.declared.limits.Kind.{Kind}
@@ -63,7 +63,7 @@ module _ {ws : List ℕ} (h : PreferenceStore ws) where
 
   size : length ws ≡ 4 + (length p.words + length (flat rule_words p.rules))
   unfolding encode
-  size = sym (ap length h.store.words) ∙ omega (arith, length_append p.words (flat rule_words p.rules))
+  size = sym (ap length h.store.words) ∙ omega (arith, length-append p.words (flat rule_words p.rules))
 
   pub few_atoms : get_or ws 1 0 ≤ 256
   few_atoms = omega (arith, atoms_at, fit.atoms_fit)

@@ -6,7 +6,7 @@ use mathlib.Core.Path.{◌≡◌, refl, sym, ap, ap₂, ◌∙◌, subst}
 use mathlib.Core.Bool.{Bool, cond}
 use mathlib.Core.List.{List, [], ◌∷◌, ◌++◌, map}
 use lib.Dec.{T}
-use lib.ListN.{length, get_or, take, drop, length_append, length-drop}
+use lib.ListN.{length, get_or, take, drop, length-append, length-drop}
 use lib.Seq.{take_all, drop-drop, length-take-le, get_or-drop, take-append_seam, drop-append_seam}
 use borrow.Author.Tests.{lt-ltb, le-ltb}
 use Rattle.kinds.specs.Words.{decimal}
@@ -120,7 +120,7 @@ unfolding encode_names
 first_names names h zero l = tt
 first_names [] h (suc c) l = absurd (omega arith)
 first_names (x ∷ names) h (suc c) l = (
-  record { inside = omega (arith, length_append x (flat name_bytes names)); short = h.0 },
+  record { inside = omega (arith, length-append x (flat name_bytes names)); short = h.0 },
   subst (FileNames c) (sym (rest_bytes x (flat name_bytes names))) (first_names names h.1 c (omega arith)),
 )
 

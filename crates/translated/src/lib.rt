@@ -1,3 +1,4 @@
+#![tactic(auto)]
 // The rule store and the name store of a translation.
 pub mod translated_names;
 pub mod translated_rules;

@@ -1,3 +1,4 @@
+#![tactic(auto)]
 // The stores of a preference file to the text of its plain program (document 01, "The translation").
 ghost use Rattle.std.specs.Prelude.{◌≡◌, ◌≤◌, length};
 ghost use Rattle.kinds.specs.Sizes.{store_words, store_bytes};

@@ -6,7 +6,7 @@ use native.Mathlib.Omega.{arith}
 use mathlib.Core.Path.{◌≡◌, refl, sym, ap, ◌∙◌}
 use mathlib.Core.Bool.{Bool, true, false, cond}
 use mathlib.Core.List.{List, []}
-use lib.ListN.{length, get_or, set, length-set, length_append}
+use lib.ListN.{length, get_or, set, length-set, length-append}
 use lib.Seq.{get_or-set_same, get_or-set_other}
 use Rattle.rules.specs.Lists.{keep, filter, from}
 use Rattle.restriction.proofs.Places.{filter_last}
@@ -18,7 +18,7 @@ one_more marks i =
     let t : ℕ → Bool = λ a. get_or marks a false in
     let e : i + 1 ≡ suc i = add-one i in
     ap (λ (k : ℕ). length (filter t (from 0 k))) e ∙ ap length (filter_last t i)
-    ∙ length_append (filter t (from 0 i)) (keep (t i) i []) ∙ ap (λ (k : ℕ). length (filter t (from 0 i)) + k) (kept (t i))
+    ∙ length-append (filter t (from 0 i)) (keep (t i) i []) ∙ ap (λ (k : ℕ). length (filter t (from 0 i)) + k) (kept (t i))
   where
     kept : (b : Bool) → length (keep b i []) ≡ cond b 1 0
     kept true = refl

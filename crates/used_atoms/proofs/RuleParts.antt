@@ -4,7 +4,7 @@ use native.Mathlib.Omega.{arith}
 use mathlib.Core.Path.{◌≡◌, sym, ap, ap₂, ◌∙◌, subst}
 use mathlib.Core.Bool.{Bool}
 use mathlib.Core.List.{List, ◌∷◌, ◌++◌, map}
-use lib.ListN.{length, get_or, take, drop, length_append, length_map}
+use lib.ListN.{length, get_or, take, drop, length-append, length-map}
 use Rattle.rules.specs.Lists.{All}
 use Rattle.rules.specs.Rules.{Rule, rename}
 use Rattle.stores.specs.RuleStore.{places, rule_at, rule_words}
@@ -38,7 +38,7 @@ module _ {n : ℕ} {ws : List ℕ} (s : StoredRule n ws) {size : ℕ} (e : size 
   moved_parts : (f : ℕ → ℕ) → rule_words (rename f (rule_at ws)) ≡ take 3 ws ++ map f (atom_part ws size)
   moved_parts f =
       let r = rule_at ws in
-      (λ i. length_map r.head f i ∷ length_map r.body f i ∷ length_map r.nots f i ∷ sym (atoms_renamed f r) i)
+      (λ i. length-map r.head f i ∷ length-map r.body f i ∷ length-map r.nots f i ∷ sym (atoms_renamed f r) i)
       ∙ ap₂ (λ (u v : List ℕ). u ++ map f v) (ap (take 3) (rule_words_lem ws s.inside)) (sym atom_part_lem)
 
   module _ (numbers : List ℕ) {at : ℕ} (range : InRange at (moved_words numbers (rule_at ws))) where
@@ -47,7 +47,7 @@ module _ {n : ℕ} {ws : List ℕ} (s : StoredRule n ws) {size : ℕ} (e : size 
 
     module _ {d d' : List ℕ} {next : ℕ} (p : Emitted d at (take 3 ws) d' next) where
       pub atoms_range : InRange next (entries 0 numbers (atom_part ws size))
-      atoms_range = record { below = omega (arith, p.place, range.below, ap length parts_ahead.is ∙ length_append (take 3 ws) (entries 0 numbers (atom_part ws size))) }
+      atoms_range = record { below = omega (arith, p.place, range.below, ap length parts_ahead.is ∙ length-append (take 3 ws) (entries 0 numbers (atom_part ws size))) }
 
       pub rule_moved : {d'' : List ℕ} {end : ℕ} → Emitted d' next (entries 0 numbers (atom_part ws size)) d'' end → Emitted d at (moved_words numbers (rule_at ws)) d'' end
       rule_moved q = renamed (then p q) (sym parts_ahead.is)

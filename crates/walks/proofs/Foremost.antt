@@ -6,7 +6,7 @@ use mathlib.Core.Bool.{true}
 use mathlib.Core.List.{List, [], ◌∷◌, map}
 use native.Mathlib.Omega.{arith}
 use lib.Dec.{T}
-use lib.ListN.{length, take, drop, length_map}
+use lib.ListN.{length, take, drop, length-map}
 use Rattle.rules.specs.Lists.{All, from}
 use Rattle.rules.specs.Rules.{Rule}
 use Rattle.rules.specs.Preferred.{Preferred}
@@ -53,7 +53,7 @@ module _ (P : ℕ → Type 0) (n : ℕ) (at place : ℕ → ℕ) (b : Bijection 
   pub first_found_lem : (s k : ℕ) → First 0 P (drop a (sets_by n at place b)) s k → Foremost P n place a s
   first_found_lem s k f₀ =
       let f : First 0 P later s k = subst (λ (l : List ℕ). First 0 P l s k) (sets_from n at place b a) f₀ in
-      let i : k < 2 ^ n - a = omega (arith, f.inside, length_map (from a (2 ^ n - a)) at, length_from a (2 ^ n - a)) in
+      let i : k < 2 ^ n - a = omega (arith, f.inside, length-map (from a (2 ^ n - a)) at, length_from a (2 ^ n - a)) in
       let e : s ≡ at (a + k) = sym f.place ∙ map_from_at at 0 a (2 ^ n - a) k i in
       let p : place s ≡ a + k = ap place e ∙ b.there_back (a + k) (omega arith) in
       let before = subst (All None) (take_map at k (from a (2 ^ n - a)) ∙ ap (map at) (take_from a (2 ^ n - a) k (omega arith))) f.earlier in

@@ -6,7 +6,7 @@ use mathlib.Core.Bool.{Bool, true, false, not}
 use mathlib.Core.List.{List, [], ◌∷◌, map}
 use native.Mathlib.Omega.{arith}
 use lib.Dec.{T, eqb, eqb→eq}
-use lib.ListN.{length, get_or, drop, length_map}
+use lib.ListN.{length, get_or, drop, length-map}
 use Rattle.rules.specs.Lists.{All, Any, keep, filter, from}
 use Rattle.rules.specs.Sets.{ProperSubset, Agree}
 use Rattle.rules.specs.Stable.{is_subset}
@@ -71,7 +71,7 @@ unfolding walk_order
 ordered n = record {
   each_once = sets_once n (set_at n) (place n) (by_place n);
   earlier_first = λ i j l h. ((in_places n).order (get_or (walk_order n) i 0) (get_or (walk_order n) j 0)).0 (
-      let k : j < 2 ^ n = omega (arith, h, length_map (from 0 (2 ^ n)) (set_at n), length_from 0 (2 ^ n)) in
+      let k : j < 2 ^ n = omega (arith, h, length-map (from 0 (2 ^ n)) (set_at n), length_from 0 (2 ^ n)) in
       omega (arith, l, at_place i (omega arith), at_place j k));
 }
   where

@@ -1,7 +1,7 @@
 // What a verdict and the next state answer.
 use kinds::refusals::Refusal;
 
-#[derive(Drop)]
+#[derive(Clone, Copy)]
 pub enum Verdict {
     Yes { units: u64 },
     // The number, from 0, of the first rule that does not hold.
@@ -13,7 +13,7 @@ pub enum Verdict {
     Refused { refusal: Refusal },
 }
 
-#[derive(Drop)]
+#[derive(Clone, Copy)]
 pub enum NextState {
     State { set: u64, units: u64 },
     Nothing { units: u64 },
@@ -22,7 +22,7 @@ pub enum NextState {
 }
 
 // Where a set stands in the order of the walks.
-#[derive(Drop)]
+#[derive(Clone, Copy)]
 pub enum Place {
     At { place: u64 },
     Refused { refusal: Refusal },

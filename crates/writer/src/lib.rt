@@ -1,3 +1,4 @@
+#![tactic(auto)]
 // Stores to text (document 01, "The two kinds of file").
 ghost use Rattle.std.specs.Prelude.{◌≡◌, ◌≤◌, length};
 ghost use Rattle.kinds.specs.Limits.{atom_limit};
