@@ -1,0 +1,8 @@
+use borrow.Author.Tests.{le-leb, lt-leb}
+use Rattle.names.proofs.forms.is_letter.Goals as goal
+
+pub returns-then-b-ge97 : goal.returns-then-b-ge97
+returns-then-b-ge97 c = simp (le-leb _ _ c.if-b-ge97.true)
+
+pub returns-else-b-ge97 : goal.returns-else-b-ge97
+returns-else-b-ge97 c = simp (lt-leb _ _ c.if-b-ge97.false)
