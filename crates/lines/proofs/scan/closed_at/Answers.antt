@@ -1,0 +1,15 @@
+use native.Mathlib.Omega.{arith}
+use Rattle.lines.proofs.BracketPlaces.{gap_inside, closing_out, closing_here, no_closing}
+use Rattle.lines.proofs.scan.closed_at.Goals as goal
+
+pub overflow_add-i : goal.overflow_add-i
+overflow_add-i c = omega (arith, gap_inside c.args.s.now c.args.at c.gap_at.ensures c.requires)
+
+pub returns-then-s-i : goal.returns-then-s-i
+returns-then-s-i c = closing_out c.args.s.now c.args.at c.gap_at.ensures c.if-s-i.true
+
+pub returns-then-s-i-eq41 : goal.returns-then-s-i-eq41
+returns-then-s-i-eq41 c = closing_here c.args.s.now c.args.at c.gap_at.ensures (omega (arith, c.if-s-i.false)) c.if-s-i-eq41.true
+
+pub returns : goal.returns
+returns c = no_closing c.args.s.now c.args.at c.gap_at.ensures (omega (arith, c.if-s-i.false)) c.if-s-i-eq41.false
