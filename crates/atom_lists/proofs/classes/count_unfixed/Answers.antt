@@ -11,7 +11,7 @@ pub loop-i-init : goal.loop-i-init
 loop-i-init c = count_begins _ _
 
 pub loop-i-preserved : goal.loop-i-preserved
-loop-i-preserved c = elim c.if-not-is_fixed.branch [ then-not-is_fixed w ↦ count_more c.loop-i.invariant c.loop-i-test.true (sym (ap not c.is_fixed.ensures) ∙ ap not w.if-not-is_fixed.true) (omega arith) | else-not-is_fixed w ↦ count_same c.loop-i.invariant c.loop-i-test.true (sym (ap not c.is_fixed.ensures) ∙ w.if-not-is_fixed.false) (omega arith) ]
+loop-i-preserved c = elim c.if-not-is_fixed.branch [ then-not-is_fixed w ↦ count_more c.loop-i.invariant c.loop-i-test.true (sym (ap not c.is_fixed.ensures) ∙ ap not w.if-not-is_fixed.true) (omega arith) | else-not-is_fixed w ↦ count_same c.loop-i.invariant c.loop-i-test.true (sym (ap not c.is_fixed.ensures) ∙ ap not w.if-not-is_fixed.false) (omega arith) ]
 
 pub returns : goal.returns
 unfolding unfixed_count

@@ -29,7 +29,7 @@ returns-then-not-listed c =
 
 pub returns : goal.returns
 returns c =
-    let r = all_decided c.args.words.now c.args.count c.args.index.now c.args.next.now c.next-1.given c.next-2-1.given (ap not c.if-not-found.false) c.find_lists-found.ensures.lists (ap not c.if-not-listed.false) c.rules_listed-listed.ensures.value c.rules_listed-listed.ensures.1 c.all_read.ensures in
+    let r = all_decided c.args.words.now c.args.count c.args.index.now c.args.next.now c.next-1.given c.next-2-1.given (ap not c.if-not-found.false) c.find_lists-found.ensures.lists (ap not c.if-not-listed.false) c.rules_listed-listed.ensures.value (c.rules_listed-listed.ensures.read, c.rules_listed-listed.ensures.placed) c.all_read.ensures in
     record {
       value = r.0;
       placed = r.1;

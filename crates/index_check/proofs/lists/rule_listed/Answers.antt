@@ -2,7 +2,7 @@ use Rattle.index_check.proofs.Reading.{read_begin, read_end, atom_next, atom_end
 use native.Mathlib.Omega.{arith}
 use Prim.Native.Nat.{◌-◌}
 use Rattle.index_check.proofs.lists.rule_listed.Goals as goal
-use Rattle.index_check.proofs.lists.rule_listed.Goals.{else-first, then-first}
+use Rattle.index_check.proofs.lists.rule_listed.Goals.{else-first, then-first+else-ends-a+else-index-at}
 
 pub overflow_add-stamp : goal.overflow_add-stamp
 overflow_add-stamp c = omega (arith, c.requires.rule_bound.0)
@@ -74,7 +74,7 @@ pub bounds-next-a-then-first : goal.bounds-next-a-then-first
 bounds-next-a-then-first c = atom_next c.loop-i.invariant c.loop-i-test.true
 
 pub loop-i-preserved : goal.loop-i-preserved
-loop-i-preserved c = elim c.if-first.branch [ then-first w ↦ read_entry c.loop-i.invariant c.loop-i-test.true c.first_here-first.ensures.marks_after c.first_here-first.ensures.value w.if-first.true w.3.left w.5.left w.6 | else-first w ↦ read_before c.loop-i.invariant c.loop-i-test.true c.first_here-first.ensures.marks_after c.first_here-first.ensures.value w.if-first.false w.1 ]
+loop-i-preserved c = elim c.if-first.branch [ then-first+else-ends-a+else-index-at w ↦ read_entry c.loop-i.invariant c.loop-i-test.true c.first_here-first.ensures.marks_after c.first_here-first.ensures.value w.if-first.true w.if-ends-a.false w.if-index-at.false w.next-is | else-first w ↦ read_before c.loop-i.invariant c.loop-i-test.true c.first_here-first.ensures.marks_after c.first_here-first.ensures.value w.if-first.false w.next-is ]
 
 pub shape_of-next : goal.shape_of-next
 shape_of-next c = c.loop-i.invariant.raised.size

@@ -1,0 +1,87 @@
+use Prim.Native.Nat.{◌-◌}
+use mathlib.Core.Path.{refl, ap, ◌∙◌}
+use lib.ListN.{length, length-set}
+use Rattle.name_store.proofs.NamePlaces.{length_decode}
+use Rattle.output.proofs.Emitting.{same_length as same-length-of}
+use Rattle.numbering.proofs.HashedNames.{hashed_end, hashed_item_lem, hashed_name}
+use Rattle.numbering.proofs.NameNumbers.{numbering, numbers_closed, numbers_unclosed, number_inside, number_long, not_declared, known_name, atom_marked, word_range, number_again, number_new}
+use native.Mathlib.Omega.{arith}
+use Rattle.numbering.proofs.numbers.numbers_at.Goals as goal
+use Rattle.numbering.proofs.numbers.numbers_at.Goals.{else-mark, then-mark}
+
+pub loop-gap-init : goal.loop-gap-init
+loop-gap-init c = (refl, refl, numbering _ _ _ _ _ _ _ c.requires.from_in_bounds.0 (omega (arith, c.requires.from_in_bounds.2, length_decode (length c.args.starts.now) c.args.bytes.now)) c.requires.from_in_bounds.3 c.requires.below)
+
+pub hashed_item_at-requires : goal.hashed_item_at-requires
+hashed_item_at-requires c = c.loop-gap.invariant.2.inside
+
+pub closed_at-requires : goal.closed_at-requires
+closed_at-requires c = c.loop-gap.invariant.2.inside
+
+pub shape_of-marks-in_default-closed_at : goal.shape_of-marks-in_default-closed_at
+shape_of-marks-in_default-closed_at c = c.loop-gap.invariant.0
+
+pub shape_of-out-in_default-closed_at : goal.shape_of-out-in_default-closed_at
+shape_of-out-in_default-closed_at c = c.loop-gap.invariant.1
+
+pub returns-in_default-closed_at : goal.returns-in_default-closed_at
+returns-in_default-closed_at c = numbers_unclosed c.loop-gap.invariant.2 refl (hashed_end c.args.line.now c.loop-gap.i c.hashed_item_at.ensures c.in_default.is) c.closed_at.ensures c.in_default-closed_at.is
+
+pub shape_of-marks-in_default : goal.shape_of-marks-in_default
+shape_of-marks-in_default c = c.loop-gap.invariant.0
+
+pub shape_of-out-in_default : goal.shape_of-out-in_default
+shape_of-out-in_default c = c.loop-gap.invariant.1
+
+pub returns-in_default : goal.returns-in_default
+returns-in_default c = numbers_closed c.loop-gap.invariant.2 refl (hashed_end c.args.line.now c.loop-gap.i c.hashed_item_at.ensures c.in_default.is) c.closed_at.ensures c.in-At-closed_at.is
+
+pub overflow_add-start : goal.overflow_add-start
+overflow_add-start c = omega (arith, number_inside c.loop-gap.invariant.2 refl (hashed_item_lem c.args.line.now c.loop-gap.i c.hashed_item_at.ensures c.in-At.is))
+
+pub overflow_add-to : goal.overflow_add-to
+overflow_add-to c = omega (arith, number_inside c.loop-gap.invariant.2 refl (hashed_item_lem c.args.line.now c.loop-gap.i c.hashed_item_at.ensures c.in-At.is))
+
+pub slice_bounds-find_hashed-end : goal.slice_bounds-find_hashed-end
+slice_bounds-find_hashed-end c = omega (arith, number_inside c.loop-gap.invariant.2 refl (hashed_item_lem c.args.line.now c.loop-gap.i c.hashed_item_at.ensures c.in-At.is))
+
+pub find_hashed-requires : goal.find_hashed-requires
+find_hashed-requires c =
+    record {
+      indexed = c.requires.indexed;
+      h_value = hashed_name c.args.line.now c.loop-gap.i c.hashed_item_at.ensures c.in-At.is;
+    }
+
+pub shape_of-marks-in_default-find_hashed : goal.shape_of-marks-in_default-find_hashed
+shape_of-marks-in_default-find_hashed c = c.loop-gap.invariant.0
+
+pub shape_of-out-in_default-find_hashed : goal.shape_of-out-in_default-find_hashed
+shape_of-out-in_default-find_hashed c = c.loop-gap.invariant.1
+
+pub returns-in_default-find_hashed : goal.returns-in_default-find_hashed
+returns-in_default-find_hashed c = not_declared c.loop-gap.invariant.2 refl (hashed_item_lem c.args.line.now c.loop-gap.i c.hashed_item_at.ensures c.in-At.is) c.find_hashed.ensures c.in_default-find_hashed.is
+
+pub mark-requires : goal.mark-requires
+mark-requires c = atom_marked c.loop-gap.invariant.2 refl (hashed_item_lem c.args.line.now c.loop-gap.i c.hashed_item_at.ensures c.in-At.is) c.find_hashed.ensures c.in-At-find_hashed.is
+
+pub overflow_cast-atom : goal.overflow_cast-atom
+overflow_cast-atom c = omega (arith, (known_name c.loop-gap.invariant.2 refl (hashed_item_lem c.args.line.now c.loop-gap.i c.hashed_item_at.ensures c.in-At.is) c.find_hashed.ensures c.in-At-find_hashed.is).below, c.requires.from_in_bounds.1, length_decode (length c.args.starts.now) c.args.bytes.now)
+
+pub push-end-requires : goal.push-end-requires
+push-end-requires c = word_range c.loop-gap.invariant.2 refl (hashed_item_lem c.args.line.now c.loop-gap.i c.hashed_item_at.ensures c.in-At.is) c.find_hashed.ensures c.in-At-find_hashed.is _
+
+pub loop-gap-smaller : goal.loop-gap-smaller
+loop-gap-smaller c = omega (arith, number_inside c.loop-gap.invariant.2 refl (hashed_item_lem c.args.line.now c.loop-gap.i c.hashed_item_at.ensures c.in-At.is), number_long c.loop-gap.invariant.2 refl (hashed_item_lem c.args.line.now c.loop-gap.i c.hashed_item_at.ensures c.in-At.is))
+
+pub loop-gap-preserved : goal.loop-gap-preserved
+loop-gap-preserved c =
+    let h = c.loop-gap.invariant in
+    let d = (hashed_item_lem c.args.line.now c.loop-gap.i c.hashed_item_at.ensures c.in-At.is) in
+    let f = c.find_hashed.ensures in
+    let g = c.in-At-find_hashed.is in
+    let m = c.mark.ensures in
+    let w = c.push-end.ensures in (
+      ap length m.1 ∙ (length-set c.loop-gap.marks _ _ ∙ h.0),
+      same-length-of w ∙ h.1,
+      elim c.if-mark.branch [ then-mark t ↦ number_again h.2 refl d f g m.0 m.1 w t.if-mark.true t.twice-is | else-mark t ↦ number_new h.2 refl d f g m.0 m.1 w t.if-mark.false t.twice-is ],
+    )

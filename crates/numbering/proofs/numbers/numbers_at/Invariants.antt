@@ -1,0 +1,12 @@
+use Prim.Native.Nat.{◌-◌}
+use mathlib.Core.Path.{◌≡◌}
+use lib.ListN.{length}
+use Rattle.name_store.specs.NameStore.{decode_names}
+use Rattle.numbering.proofs.NameNumbers.{Numbering}
+use Rattle.numbering.proofs.numbers.numbers_at.Given as goal
+
+abbrev pub invariant-loop-gap : goal.invariant-loop-gap
+invariant-loop-gap l = (length l.marks ≡ length l.initial.marks) × (length l.out ≡ length l.initial.out) × Numbering (decode_names (length l.starts) l.bytes) l.line l.from l.stamp l.initial.out l.at l.i l.end l.twice l.marks l.out
+
+abbrev pub decreases-loop-gap : goal.decreases-loop-gap
+decreases-loop-gap l = length l.line - l.i
