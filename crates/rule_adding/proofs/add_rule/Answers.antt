@@ -22,7 +22,7 @@ fits-requires c = checked _ _ (sym c.check_rules-store.ensures ∙ c.in-Of.is) c
 
 pub returns-then-not-fits : goal.returns-then-not-fits
 returns-then-not-fits c =
-    let r = no_fit (checked _ _ (sym c.check_rules-store.ensures ∙ c.in-Of.is) c.header_of-header.ensures) _ _ c.fits2.ensures _ _ (ap not c.if-not-fits.true) in
+    let r = no_fit (checked _ _ (sym c.check_rules-store.ensures ∙ c.in-Of.is) c.header_of-header.ensures) _ _ c.fits.ensures _ _ (ap not c.if-not-fits.true) in
     record {
       answer = r.0;
       store = r.1.0;
@@ -31,7 +31,7 @@ returns-then-not-fits c =
 
 pub returns-then-not-is_store_index : goal.returns-then-not-is_store_index
 returns-then-not-is_store_index c =
-    let r = no_index (checked _ _ (sym c.check_rules-store.ensures ∙ c.in-Of.is) c.header_of-header.ensures) _ _ c.fits2.ensures (ap not c.if-not-fits.false) c.is_store_index.ensures _ _ (ap not c.if-not-is_store_index.true) in
+    let r = no_index (checked _ _ (sym c.check_rules-store.ensures ∙ c.in-Of.is) c.header_of-header.ensures) _ _ c.fits.ensures (ap not c.if-not-fits.false) c.is_store_index.ensures _ _ (ap not c.if-not-is_store_index.true) in
     record {
       answer = r.0;
       store = r.1.0;
@@ -39,11 +39,11 @@ returns-then-not-is_store_index c =
     }
 
 pub add_checked-requires : goal.add_checked-requires
-add_checked-requires c = addable (checked _ _ (sym c.check_rules-store.ensures ∙ c.in-Of.is) c.header_of-header.ensures) _ _ c.fits2.ensures (ap not c.if-not-fits.false) c.is_store_index.ensures (ap not c.if-not-is_store_index.false)
+add_checked-requires c = addable (checked _ _ (sym c.check_rules-store.ensures ∙ c.in-Of.is) c.header_of-header.ensures) _ _ c.fits.ensures (ap not c.if-not-fits.false) c.is_store_index.ensures (ap not c.if-not-is_store_index.false)
 
 pub returns : goal.returns
 returns c =
-    let r = added (checked _ _ (sym c.check_rules-store.ensures ∙ c.in-Of.is) c.header_of-header.ensures) _ _ c.fits2.ensures (ap not c.if-not-fits.false) c.is_store_index.ensures (ap not c.if-not-is_store_index.false) c.add_checked.ensures in
+    let r = added (checked _ _ (sym c.check_rules-store.ensures ∙ c.in-Of.is) c.header_of-header.ensures) _ _ c.fits.ensures (ap not c.if-not-fits.false) c.is_store_index.ensures (ap not c.if-not-is_store_index.false) c.add_checked.ensures in
     record {
       answer = r.0;
       store = r.1.0;

@@ -14,19 +14,19 @@ pub is_word-requires : goal.is_word-requires
 is_word-requires c = (from_inside _ 0 c.skip-first.ensures zero-le, refl)
 
 pub returns-then-not-is_word : goal.returns-then-not-is_word
-returns-then-not-is_word c = no_p _ (first_fails _ 0 c.skip-first.ensures (λ x. same_bytes x (bytes "p")) (sym c.is_IsWord.ensures ∙ c.if-not-is_word.true))
+returns-then-not-is_word c = no_p _ (first_fails _ 0 c.skip-first.ensures (λ x. same_bytes x (bytes "p")) (sym c.is_word.ensures ∙ c.if-not-is_word.true))
 
 pub overflow_add-first : goal.overflow_add-first
-overflow_add-first c = omega (arith, (first_word _ 0 c.skip-first.ensures (bytes "p") (omega arith) c.is_IsWord.ensures c.if-not-is_word.false).inside)
+overflow_add-first c = omega (arith, (first_word _ 0 c.skip-first.ensures (bytes "p") (omega arith) c.is_word.ensures c.if-not-is_word.false).inside)
 
 pub skip-second-requires : goal.skip-second-requires
-skip-second-requires c = (first_word _ 0 c.skip-first.ensures (bytes "p") (omega arith) c.is_IsWord.ensures c.if-not-is_word.false).inside
+skip-second-requires c = (first_word _ 0 c.skip-first.ensures (bytes "p") (omega arith) c.is_word.ensures c.if-not-is_word.false).inside
 
 pub is_word-requires-2 : goal.is_word-requires-2
-is_word-requires-2 c = (from_inside _ _ c.skip-second.ensures (first_word _ 0 c.skip-first.ensures (bytes "p") (omega arith) c.is_IsWord.ensures c.if-not-is_word.false).inside, refl)
+is_word-requires-2 c = (from_inside _ _ c.skip-second.ensures (first_word _ 0 c.skip-first.ensures (bytes "p") (omega arith) c.is_word.ensures c.if-not-is_word.false).inside, refl)
 
 pub returns-then-not-is_word-2 : goal.returns-then-not-is_word-2
-returns-then-not-is_word-2 c = let p = first_word _ 0 c.skip-first.ensures (bytes "p") (omega arith) c.is_IsWord.ensures c.if-not-is_word.false in ap header_line p.items_are ∙ no_cnf _ (first_fails _ _ c.skip-second.ensures (λ x. same_bytes x (bytes "cnf")) (sym c.is_word-2.ensures ∙ c.if-not-is_word-2.true))
+returns-then-not-is_word-2 c = let p = first_word _ 0 c.skip-first.ensures (bytes "p") (omega arith) c.is_word.ensures c.if-not-is_word.false in ap header_line p.items_are ∙ no_cnf _ (first_fails _ _ c.skip-second.ensures (λ x. same_bytes x (bytes "cnf")) (sym c.is_word-2.ensures ∙ c.if-not-is_word-2.true))
 
 pub overflow_add-second : goal.overflow_add-second
 overflow_add-second c = omega (arith, (first_word _ _ c.skip-second.ensures (bytes "cnf") (omega arith) c.is_word-2.ensures c.if-not-is_word-2.false).inside)
@@ -35,4 +35,4 @@ pub header_numbers-requires : goal.header_numbers-requires
 header_numbers-requires c = (first_word _ _ c.skip-second.ensures (bytes "cnf") (omega arith) c.is_word-2.ensures c.if-not-is_word-2.false).inside
 
 pub returns : goal.returns
-returns c = let p = first_word _ 0 c.skip-first.ensures (bytes "p") (omega arith) c.is_IsWord.ensures c.if-not-is_word.false in ap header_line (p.items_are ∙ ap (λ (xs : List (List ℕ)). bytes "p" ∷ xs) (first_word _ _ c.skip-second.ensures (bytes "cnf") (omega arith) c.is_word-2.ensures c.if-not-is_word-2.false).items_are) ∙ c.header_numbers.ensures
+returns c = let p = first_word _ 0 c.skip-first.ensures (bytes "p") (omega arith) c.is_word.ensures c.if-not-is_word.false in ap header_line (p.items_are ∙ ap (λ (xs : List (List ℕ)). bytes "p" ∷ xs) (first_word _ _ c.skip-second.ensures (bytes "cnf") (omega arith) c.is_word-2.ensures c.if-not-is_word-2.false).items_are) ∙ c.header_numbers.ensures

@@ -1,0 +1,36 @@
+use Rattle.lines.specs.Tokens.{tokens}
+use Prim.Native.Nat.{ℕ, ◌-◌, ◌+◌, ◌*◌}
+use lib.ListN.{length, drop}
+use mathlib.Core.List.{List}
+use Rattle.condition_parts.specs.Parts.{Behind, PartAt}
+use Rattle.condition_parts.proofs.JoinedParts.{disj, level, lower, conj}
+use Rattle.name_store.specs.NameStore.{decode_names}
+use Rattle.condition_parts.proofs.parts.+and_level_bracket_not_level_or_level.Given as goal
+
+abbrev pub decreases-and_level : goal.decreases-and_level
+decreases-and_level l = 4 * (length l.s.now - l.at) + 2
+
+abbrev pub invariant-and_level-loop-to : goal.invariant-and_level-loop-to
+invariant-and_level-loop-to l =
+    ((before : List ℕ) → PartAt (level conj) (decode_names (length l.starts) l.bytes) l.s l.at l.made l.next before l.initial.table l.initial.place l.initial.atom l.initial.row → PartAt (level conj) (decode_names (length l.starts) l.bytes) l.s l.at l.made l.next before l.table l.place l.atom l.row) × Behind (lower conj) (tokens (drop l.place l.s))
+
+abbrev pub decreases-and_level-loop-to : goal.decreases-and_level-loop-to
+decreases-and_level-loop-to l =
+    length l.s - l.place
+
+abbrev pub decreases-bracket : goal.decreases-bracket
+decreases-bracket l = 4 * (length l.s.now - l.at) + 0
+
+abbrev pub decreases-not_level : goal.decreases-not_level
+decreases-not_level l = 4 * (length l.s.now - l.at) + 1
+
+abbrev pub decreases-or_level : goal.decreases-or_level
+decreases-or_level l = 4 * (length l.s.now - l.at) + 3
+
+abbrev pub invariant-or_level-loop-to : goal.invariant-or_level-loop-to
+invariant-or_level-loop-to l =
+    ((before : List ℕ) → PartAt (level disj) (decode_names (length l.starts) l.bytes) l.s l.at l.made l.next before l.initial.table l.initial.place l.initial.atom l.initial.row → PartAt (level disj) (decode_names (length l.starts) l.bytes) l.s l.at l.made l.next before l.table l.place l.atom l.row) × Behind (lower disj) (tokens (drop l.place l.s))
+
+abbrev pub decreases-or_level-loop-to : goal.decreases-or_level-loop-to
+decreases-or_level-loop-to l =
+    length l.s - l.place
