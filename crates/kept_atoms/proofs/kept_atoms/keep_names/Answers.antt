@@ -1,0 +1,14 @@
+use Rattle.lines.specs.Shapes.{word_of}
+use Rattle.kept_atoms.proofs.KeptAtoms.{atoms_over, classes_over, names_kept}
+use mathlib.Core.Path.{ap}
+use mathlib.Core.Bool.{not}
+use Rattle.kept_atoms.proofs.kept_atoms.keep_names.Goals as goal
+
+pub returns-then-not-fits : goal.returns-then-not-fits
+returns-then-not-fits c = atoms_over c.args.kind c.args.gathered (word_of c.args.word) c.args.count _ _ _ c.classes_after-classes.ensures c.within-fits.ensures (ap not c.if-not-fits.true)
+
+pub returns-then-classes-gt-CLASSES : goal.returns-then-classes-gt-CLASSES
+returns-then-classes-gt-CLASSES c = classes_over c.args.kind c.args.gathered (word_of c.args.word) c.args.count _ _ _ c.classes_after-classes.ensures c.within-fits.ensures (ap not c.if-not-fits.false) c.if-classes-gt-CLASSES.true
+
+pub returns : goal.returns
+returns c = names_kept c.args.kind c.args.gathered (word_of c.args.word) c.args.count _ _ _ c.classes_after-classes.ensures c.within-fits.ensures (ap not c.if-not-fits.false) c.if-classes-gt-CLASSES.false c.stage_after-stage.ensures c.put_class_words-end.ensures
