@@ -1,0 +1,27 @@
+use Prim.Native.Nat.{◌-◌}
+use native.Mathlib.Omega.{arith}
+use Rattle.output.proofs.Emitting.{turn, finish, range_here, length_kept}
+use Rattle.name_store.proofs.NumberedNames.{numbered_none}
+use Rattle.clause_rules.proofs.ClauseNames.{names_begin, names_next}
+use Rattle.clause_rules.proofs.atom_names.put_names.Goals as goal
+
+pub loop-atom-init : goal.loop-atom-init
+loop-atom-init c = names_begin _ _ c.requires
+
+pub put_name-at-requires : goal.put_name-at-requires
+put_name-at-requires c = (omega (arith, c.loop-atom-test.true, c.requires), range_here c.loop-atom.invariant (names_next _ _ c.loop-atom-test.true))
+
+pub overflow_add-atom : goal.overflow_add-atom
+overflow_add-atom c = omega arith
+
+pub loop-atom-smaller : goal.loop-atom-smaller
+loop-atom-smaller c = omega arith
+
+pub loop-atom-preserved : goal.loop-atom-preserved
+loop-atom-preserved c = turn c.loop-atom.invariant (names_next _ _ c.loop-atom-test.true) c.put_name-at.ensures
+
+pub shape_of-bytes : goal.shape_of-bytes
+shape_of-bytes c = length_kept c.loop-atom.invariant
+
+pub returns : goal.returns
+returns c = finish c.loop-atom.invariant (numbered_none _ _ _ c.loop-atom-test.false)
