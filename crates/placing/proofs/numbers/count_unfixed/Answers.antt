@@ -20,7 +20,7 @@ pub loop-i-smaller : goal.loop-i-smaller
 loop-i-smaller c = omega arith
 
 pub loop-i-preserved : goal.loop-i-preserved
-loop-i-preserved c = elim c.if-words-i-ne-FIXED.branch [ then-words-i-ne-FIXED w ↦ count_more c.loop-i.invariant c.loop-i-test.true w.if-words-i-ne-FIXED.true w.count-is | else-words-i-ne-FIXED w ↦ count_same c.loop-i.invariant c.loop-i-test.true w.if-words-i-ne-FIXED.false w.1 ]
+loop-i-preserved c = elim c.if-words-i-ne-FIXED.branch [ then-words-i-ne-FIXED w ↦ count_more c.loop-i.invariant c.loop-i-test.true w.if-words-i-ne-FIXED.true w.count-is | else-words-i-ne-FIXED w ↦ count_same c.loop-i.invariant c.loop-i-test.true w.if-words-i-ne-FIXED.false w.count-is ]
 
 pub returns : goal.returns
 returns c = count_ends c.loop-i.invariant c.loop-i-test.false

@@ -63,7 +63,7 @@ pub overflow_add-from : goal.overflow_add-from
 overflow_add-from c = omega (arith, fill_place _ _ _ _ _ _ _ _ _ c.loop-j.invariant.walk c.loop-j-test.true, c.rule_size-size.ensures)
 
 pub loop-j-preserved : goal.loop-j-preserved
-loop-j-preserved c = elim c.if-marks-j.branch [ then-marks-j w ↦ reduct_keeps _ _ _ _ _ _ _ _ _ _ _ _ c.loop-j.invariant c.loop-j-test.true _ c.is_kept.ensures _ c.rule_size-size.ensures w.if-marks-j.true (w.care-is ∙ w.put_rule.ensures.0) (w.10 ∙ w.4.ensures.1) w.11 | else-marks-j w ↦ reduct_drops _ _ _ _ _ _ _ _ _ _ _ _ c.loop-j.invariant c.loop-j-test.true _ c.is_kept.ensures _ c.rule_size-size.ensures w.if-marks-j.false w.1 w.2 w.3 ]
+loop-j-preserved c = elim c.if-marks-j.branch [ then-marks-j w ↦ reduct_keeps _ _ _ _ _ _ _ _ _ _ _ _ c.loop-j.invariant c.loop-j-test.true _ c.is_kept.ensures _ c.rule_size-size.ensures w.if-marks-j.true (w.care-is ∙ w.put_rule.ensures.care_after) (w.want-is ∙ w.put_rule.ensures.want_after) w.kept-is | else-marks-j w ↦ reduct_drops _ _ _ _ _ _ _ _ _ _ _ _ c.loop-j.invariant c.loop-j-test.true _ c.is_kept.ensures _ c.rule_size-size.ensures w.if-marks-j.false w.care-is w.want-is w.kept-is ]
 
 pub shape_of-marks : goal.shape_of-marks
 shape_of-marks c = c.loop-j.invariant.mark_room.1 ∙ sym (ap length c.requires.marks_value ∙ length-replicate (rule_limit Plain) false)

@@ -1,13 +1,13 @@
 use Prim.Native.Nat.{◌-◌}
 use Rattle.stable_verdict.proofs.MarkLoops.{marked_found, marked_more, marked_skips, marked_none}
 use Rattle.stable_verdict.proofs.reduct.marked_at.Goals as goal
-use Rattle.stable_verdict.proofs.reduct.marked_at.Goals.{else-marks-place, then-marks-place}
+use Rattle.stable_verdict.proofs.reduct.marked_at.Goals.{else-marks-place, then-marks-place+else-left-eq0}
 
 pub returns-then-left-eq0 : goal.returns-then-left-eq0
 returns-then-left-eq0 c = marked_found _ _ _ _ c.loop-place.invariant c.loop-place-test.true c.if-marks-place.true c.if-left-eq0.true
 
 pub loop-place-preserved : goal.loop-place-preserved
-loop-place-preserved c = elim c.if-marks-place.branch [ then-marks-place w ↦ marked_more _ _ _ _ c.loop-place.invariant c.loop-place-test.true w.if-marks-place.true w.1.left w.2 | else-marks-place w ↦ marked_skips _ _ _ _ c.loop-place.invariant c.loop-place-test.true w.if-marks-place.false w.1 ]
+loop-place-preserved c = elim c.if-marks-place.branch [ then-marks-place+else-left-eq0 w ↦ marked_more _ _ _ _ c.loop-place.invariant c.loop-place-test.true w.if-marks-place.true w.if-left-eq0.false w.left-is | else-marks-place w ↦ marked_skips _ _ _ _ c.loop-place.invariant c.loop-place-test.true w.if-marks-place.false w.left-is ]
 
 pub returns : goal.returns
 returns c = marked_none _ _ _ _ c.loop-place.invariant c.loop-place-test.false
