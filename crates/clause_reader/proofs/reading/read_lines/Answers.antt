@@ -12,10 +12,10 @@ pub line_at-requires : goal.line_at-requires
 line_at-requires c = c.loop-at.invariant.3.inside
 
 pub overflow_add-to : goal.overflow_add-to
-overflow_add-to c = omega (arith, (line_inside c.args.text.now c.loop-at.at c.loop-at-test.true c.line_at_lem.ensures).0)
+overflow_add-to c = omega (arith, (line_inside c.args.text.now c.loop-at.at c.loop-at-test.true c.line_at.ensures).0)
 
 pub slice_bounds-read_line-end : goal.slice_bounds-read_line-end
-slice_bounds-read_line-end c = (line_inside c.args.text.now c.loop-at.at c.loop-at-test.true c.line_at_lem.ensures).0
+slice_bounds-read_line-end c = (line_inside c.args.text.now c.loop-at.at c.loop-at-test.true c.line_at.ensures).0
 
 pub read_line-answer-requires : goal.read_line-answer-requires
 read_line-answer-requires c = c.loop-at.invariant.3.holds
@@ -30,16 +30,16 @@ pub shape_of-marks-in_default : goal.shape_of-marks-in_default
 shape_of-marks-in_default c = c.read_line-answer.auto.marks ∙ c.loop-at.invariant.2
 
 pub returns-in_default : goal.returns-in_default
-returns-in_default c = line_refused c.loop-at.invariant.3 c.loop-at-test.true c.line_at_lem.ensures c.read_line-answer.ensures c.in_default.is c.passed_on.ensures
+returns-in_default c = line_refused c.loop-at.invariant.3 c.loop-at-test.true c.line_at.ensures c.read_line-answer.ensures c.in_default.is c.passed_on.ensures
 
 pub overflow_add-number : goal.overflow_add-number
 overflow_add-number c = omega (arith, c.loop-at.invariant.3.few, c.loop-at.invariant.3.inside, c.requires.text_len_bound)
 
 pub loop-at-smaller : goal.loop-at-smaller
-loop-at-smaller c = let i = line_inside c.args.text.now c.loop-at.at c.loop-at-test.true c.line_at_lem.ensures in omega (arith, i.0, i.1)
+loop-at-smaller c = let i = line_inside c.args.text.now c.loop-at.at c.loop-at-test.true c.line_at.ensures in omega (arith, i.0, i.1)
 
 pub loop-at-preserved : goal.loop-at-preserved
-loop-at-preserved c = (c.read_line-answer.auto.words ∙ c.loop-at.invariant.0, c.read_line-answer.auto.bodies ∙ c.loop-at.invariant.1, c.read_line-answer.auto.marks ∙ c.loop-at.invariant.2, line_read c.loop-at.invariant.3 c.loop-at-test.true c.line_at_lem.ensures c.read_line-answer.ensures c.in-Next.is)
+loop-at-preserved c = (c.read_line-answer.auto.words ∙ c.loop-at.invariant.0, c.read_line-answer.auto.bodies ∙ c.loop-at.invariant.1, c.read_line-answer.auto.marks ∙ c.loop-at.invariant.2, line_read c.loop-at.invariant.3 c.loop-at-test.true c.line_at.ensures c.read_line-answer.ensures c.in-Next.is)
 
 pub shape_of-words : goal.shape_of-words
 shape_of-words c = c.loop-at.invariant.0
