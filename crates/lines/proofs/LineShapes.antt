@@ -11,7 +11,6 @@ use Rattle.kinds.specs.declared.limits.Kind.{Kind}
 use Rattle.rules.specs.Lists.{is_empty}
 use Rattle.name_store.specs.NameStore.{same_bytes}
 use Rattle.lines.specs.declared.scan.Place.{Place}
-use Rattle.lines.specs.declared.scan.Place.TheVariants as Place
 use Rattle.lines.specs.declared.forms.Keyword.{Keyword}
 use Rattle.lines.specs.declared.forms.Keyword.TheVariants as Key
 use Rattle.lines.specs.declared.forms.Shape.{Shape}

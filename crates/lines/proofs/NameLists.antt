@@ -18,7 +18,6 @@ use Rattle.rules.proofs.Booleans.{or_assoc, or-true, or-false, is_true_lem}
 use Rattle.lines.specs.declared.scan.Item.{Item}
 use Rattle.lines.specs.declared.scan.Item.TheVariants.{At, Stop}
 use Rattle.lines.specs.declared.scan.Place.{Place}
-use Rattle.lines.specs.declared.scan.Place.TheVariants as Place
 use Rattle.lines.specs.declared.forms.NameFit.{NameFit}
 use Rattle.lines.specs.declared.forms.NameFit.TheVariants as Fit
 use Rattle.lines.specs.declared.forms.Names.{Names}

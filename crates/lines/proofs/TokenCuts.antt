@@ -13,7 +13,6 @@ use Rattle.kinds.specs.Words.{space, open_bracket, close_bracket}
 use Rattle.lines.specs.declared.scan.Item.{Item}
 use Rattle.lines.specs.declared.scan.Item.TheVariants.{At, Stop}
 use Rattle.lines.specs.declared.scan.Bracket.{Bracket}
-use Rattle.lines.specs.declared.scan.Bracket.TheVariants as Bracket
 use Rattle.lines.specs.Tokens.{Token, opening, closing, word, is_ending, is_delimiter, run, tokens_from, tokens, leading, items}
 use Rattle.lines.specs.Shapes.{gap, word_behind, item_of, ByteBehind, is_bracket, BracketSays, BracketIs}
 use Rattle.lines.proofs.Scanning.{run_ends}

@@ -1,6 +1,5 @@
 #![tactic(auto)]
 // The public entry points (documents 01 and 02). None asks anything of its caller.
-pub mod capi;
 
 ghost use Rattle.std.specs.Prelude.{◌≡◌, length};
 ghost use Rattle.answers.specs.Writing.{write_answer, write_output};

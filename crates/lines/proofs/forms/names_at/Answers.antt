@@ -1,4 +1,3 @@
-use Prim.Native.Nat.{◌-◌}
 use native.Mathlib.Omega.{arith}
 use Rattle.lines.proofs.NameLists.{begins_naming, names_closed, names_unclosed, name_inside, name_long, name_wrong, name_taken, name_refused}
 use Rattle.lines.proofs.forms.names_at.Goals as goal

@@ -1,4 +1,3 @@
-use Prim.Native.Nat.{◌-◌}
 use Rattle.lines.proofs.Tags.{tag_short, tag_begins, tag_passed, tag_differs, tag_again}
 use Rattle.lines.proofs.scan.begins_at.Goals as goal
 

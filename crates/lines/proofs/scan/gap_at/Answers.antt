@@ -1,4 +1,3 @@
-use Prim.Native.Nat.{◌-◌}
 use Rattle.lines.proofs.Scanning.{gap_goes_on, gap_ends, gap_out}
 use native.Mathlib.Omega.{arith}
 use Rattle.lines.proofs.scan.gap_at.Goals as goal

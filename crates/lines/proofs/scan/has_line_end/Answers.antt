@@ -1,4 +1,3 @@
-use Prim.Native.Nat.{◌-◌}
 use Rattle.lines.proofs.LineBlocks.{ends, ends_passed, ends_here, ends_later}
 use Rattle.lines.proofs.scan.has_line_end.Goals as goal
 use Rattle.lines.proofs.scan.has_line_end.Goals.{else-bytes-i-eq10, then-bytes-i-eq10}

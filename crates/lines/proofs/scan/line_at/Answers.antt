@@ -1,4 +1,3 @@
-use Prim.Native.Nat.{◌-◌}
 use native.Mathlib.Omega.{arith}
 use Rattle.lines.proofs.LineBlocks.{block_passed, line_fits}
 use Rattle.lines.proofs.scan.line_at.Goals as goal

@@ -1,4 +1,3 @@
-use Prim.Native.Nat.{◌-◌}
 use native.Mathlib.Omega.{arith}
 use Rattle.lines.proofs.Scanning.{line_ends, line_goes_on, line_out}
 use Rattle.lines.proofs.scan.line_by_bytes.Goals as goal

@@ -1,4 +1,3 @@
-use Prim.Native.Nat.{◌-◌}
 use mathlib.Core.Path.{sym, ◌∙◌}
 use Rattle.lines.proofs.Scanning.{run_goes_on, run_ends, run_out}
 use native.Mathlib.Omega.{arith}

@@ -1,7 +1,4 @@
-use borrow.Author.Tests.{not-true, not-false}
-use Prim.Native.Nat.{◌-◌}
 use mathlib.Core.Path.{sym, ◌∙◌}
-use Rattle.names.specs.Names.{is_name_byte}
 use Rattle.names.proofs.NameForms.{begins, passed, fails, again}
 use Rattle.names.proofs.forms.all_name_bytes.Goals as goal
 

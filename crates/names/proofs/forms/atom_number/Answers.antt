@@ -1,6 +1,4 @@
-use borrow.Author.Tests.{not-true, not-false}
 use native.Mathlib.Omega.{arith}
-use Prim.Native.Nat.{◌-◌}
 use mathlib.Core.Path.{sym, ◌∙◌}
 use Rattle.names.proofs.Numerals.{digit_range}
 use Rattle.names.proofs.MadeNumbers.{digits_begin, digits_small, digits_fail, digits_again, number_empty, number_long, number_led, number_past, number_said}

@@ -1,5 +1,4 @@
 use Rattle.output.proofs.Copying.{start, turn, finish}
-use Prim.Native.Nat.{◌-◌}
 use Rattle.output.proofs.bytes.copy.Goals as goal
 
 pub loop-i-init : goal.loop-i-init

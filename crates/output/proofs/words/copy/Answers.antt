@@ -1,4 +1,3 @@
-use Prim.Native.Nat.{◌-◌}
 use Rattle.output.proofs.Copying.{start, turn, finish}
 use Rattle.output.proofs.words.copy.Goals as goal
 

@@ -1,4 +1,3 @@
-use Prim.Native.Nat.{◌-◌}
 use mathlib.Core.Path.{refl, ◌∙◌}
 use Rattle.output.proofs.Copies.{copying, copy_range, copied, copy_again}
 use native.Mathlib.Omega.{arith}

@@ -1,6 +1,5 @@
 use Rattle.output.proofs.Emitting.{start, turn, finish, range_here, length_kept, byte_next}
 use lib.ListN.{drop_of_length-le}
-use Prim.Native.Nat.{◌-◌}
 use borrow.Author.Rules.{rules}
 use Rattle.output.proofs.words.emit_each.Goals as goal
 

@@ -1,0 +1,51 @@
+use Prim.Native.Nat.{ℕ}
+use native.Mathlib.Omega.{arith}
+use mathlib.Core.Path.{sym, ◌∙◌}
+use lib.ListN.{length-replicate}
+use Rattle.gathering.proofs.HeldState.{held_small, known_starts, known_index}
+use Rattle.condition_line.proofs.AddedCondition.{unknown_line, full_line, readable, faulty_line, put_fits, keep_fits, added_line}
+use Rattle.condition_line.proofs.condition_line.keep_condition.Reads as keep-condition-reads
+use Rattle.condition_parts.proofs.parts.parse_condition.Reads as parse-condition-reads
+use Rattle.condition_rules.proofs.put_condition.Reads as put-condition-reads
+use Rattle.name_store.proofs.index.find.Reads as find-reads
+use Rattle.condition_line.proofs.condition_line.add_condition.Goals as goal
+
+pub slice_bounds-find-end : goal.slice_bounds-find-end
+slice_bounds-find-end c = sym (known_starts c.requires.held_index)
+
+pub find-requires : goal.find-requires
+find-requires c = known_index c.requires.held_index
+
+pub returns-in_default : goal.returns-in_default
+returns-in_default c = record { says = unknown_line c.requires.held c.requires.held_index c.args.spoken.now c.args.name.now c.requires.tested c.find.ensures c.in_default.is }
+
+pub overflow_add-atoms : goal.overflow_add-atoms
+overflow_add-atoms c = let s = held_small c.requires.held in omega (arith, s.atoms, c.requires.held.made_fits, c.requires.tested.few)
+
+pub overflow_add-atoms-2 : goal.overflow_add-atoms-2
+overflow_add-atoms-2 c = let s = held_small c.requires.held in omega (arith, s.atoms, c.requires.held.made_fits, c.requires.tested.few)
+
+pub returns-then-atoms-made-gt-ATOMS : goal.returns-then-atoms-made-gt-ATOMS
+returns-then-atoms-made-gt-ATOMS c = record { says = full_line c.requires.held c.requires.held_index c.args.spoken.now c.args.name.now c.requires.tested c.find.ensures c.in-At.is c.if-atoms-made-gt-ATOMS.true }
+
+pub slice_bounds-parse_condition-end : goal.slice_bounds-parse_condition-end
+slice_bounds-parse_condition-end c = sym (known_starts c.requires.held_index)
+
+pub parse_condition-requires : goal.parse_condition-requires
+parse_condition-requires c =
+    record {
+      readable = readable c.requires.held c.requires.held_index c.args.spoken.now c.args.name.now c.requires.tested c.find.ensures c.in-At.is c.if-atoms-made-gt-ATOMS.false (length-replicate {A = ℕ} 768 0);
+      indexed = known_index c.requires.held_index;
+    }
+
+pub returns-in_default-parse_condition : goal.returns-in_default-parse_condition
+returns-in_default-parse_condition c = record { says = faulty_line c.requires.held c.requires.held_index c.args.spoken.now c.args.name.now c.requires.tested c.find.ensures c.in-At.is c.if-atoms-made-gt-ATOMS.false (length-replicate {A = ℕ} 768 0) c.parse_condition.ensures c.in_default-parse_condition.is }
+
+pub put_condition-put-requires : goal.put_condition-put-requires
+put_condition-put-requires c = put_fits c.requires.held c.requires.held_index c.args.spoken.now c.args.name.now c.requires.tested c.find.ensures c.in-At.is c.if-atoms-made-gt-ATOMS.false (length-replicate {A = ℕ} 768 0) c.parse_condition.ensures c.in-Condition.is (c.parse_condition.auto.table ∙ length-replicate {A = ℕ} 768 0)
+
+pub keep_condition-requires : goal.keep_condition-requires
+keep_condition-requires c = keep_fits c.requires.held c.requires.held_index c.args.spoken.now c.args.name.now c.requires.tested c.find.ensures c.in-At.is c.if-atoms-made-gt-ATOMS.false (length-replicate {A = ℕ} 768 0) c.parse_condition.ensures c.in-Condition.is c.put_condition-put.ensures
+
+pub returns : goal.returns
+returns c = added_line c.requires.held c.requires.held_index c.args.spoken.now c.args.name.now c.requires.tested c.find.ensures c.in-At.is c.if-atoms-made-gt-ATOMS.false (length-replicate {A = ℕ} 768 0) c.parse_condition.ensures c.in-Condition.is c.put_condition-put.ensures c.keep_condition.ensures

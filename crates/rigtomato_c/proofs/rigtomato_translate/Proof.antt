@@ -1,0 +1,21 @@
+use mathlib.Core.Path.{ap, ◌∙◌}
+use Rattle.fields.specs.Fields.{written_fields}
+use borrow.Author.Rules.{rules}
+use Rattle.rigtomato_c.proofs.rigtomato_translate.Statement.{statement}
+use Rattle.rigtomato_c.proofs.rigtomato_translate.Tie as tie
+
+translate-requires : tie.Need-translate-requires
+translate-requires c κs = search rules
+
+written-fields-requires : tie.Need-written-fields-requires
+written-fields-requires c κs = search rules
+
+same_length : tie.Need-same-length
+same_length c = search rules
+
+returns : tie.Need-returns
+returns c = (c.written-fields.ensures ∙ ap written_fields c.before.before.before.translate.ensures.0, c.before.before.before.translate.ensures.1)
+
+pub rigtomato-translate-spec : {M : Type 1} → statement M
+rigtomato-translate-spec =
+    tie.close (tie.spec translate-requires written-fields-requires same_length returns)
