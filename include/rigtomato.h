@@ -1,8 +1,8 @@
 /*
  * Rigtomato for C programs.
  *
- * Link with target/staticlib/librigtomato.a, which `rt staticlib rigtomato` makes at the
- * repository's root:
+ * Link with target/staticlib/librigtomato.a, which `tools/build` makes at the repository's
+ * root:
  *
  *     gcc -Iinclude program.c target/staticlib/librigtomato.a -o program
  *

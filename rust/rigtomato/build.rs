@@ -1,4 +1,4 @@
-//! Points the linker to the proved library, which `rt staticlib rigtomato` makes.
+//! Points the linker to the proved library, which `tools/build` makes.
 
 use std::path::{Path, PathBuf};
 use std::process::Command;
@@ -26,7 +26,7 @@ fn main() {
     println!("cargo:rerun-if-changed={}", library.display());
     if !library.exists() {
         eprintln!("target/staticlib/librigtomato.a is missing.");
-        eprintln!("Run `rt staticlib rigtomato` at the repository's root first, or set");
+        eprintln!("Run `tools/build` at the repository's root first, or set");
         eprintln!("RIGTOMATO_STATICLIB_DIR to the directory that has the library.");
         std::process::exit(1);
     }

@@ -1,97 +1,99 @@
 #![tactic(auto)]
 // Runs the two programs' functions on each file of data/: every refusal that a file can meet is seen printed.
 use kinds::limits::Kind;
+use std::fs::File;
+use std::io;
+use std::io::Read;
+use std::rt::Runtime;
 
-fn put(out: &[u8], size: usize) {
+fn put(rt: &impl Print, out: &[u8], size: usize) -> io::Result<()> {
     if size <= out.len() {
-        io::write_all(1, &out[0..size]);
+        rt.write_all(&out[0..size])?;
     }
+    Ok(())
 }
 
-fn show_states(text: &[u8]) {
+fn show_states(rt: &impl Print, text: &[u8]) -> io::Result<()> {
     let mut out = [0u8; Kind::STREAM];
     let size = programs::states_text(text, &mut out);
-    put(&out, size);
+    put(rt, &out, size)
 }
 
-fn show_translation(text: &[u8]) {
+fn show_translation(rt: &impl Print, text: &[u8]) -> io::Result<()> {
     let mut out = [0u8; Kind::STREAM];
     let size = programs::translate_text(text, &mut out);
-    put(&out, size);
+    put(rt, &out, size)
 }
 
 // What the lister prints on a file, or the translator.
-fn print(path: &[u8], listed: bool) {
-    io::write_all(1, path);
-    io::write_all(1, b"\n");
-    let file = os::open_read(path);
-    if file < 0 {
-        os::fail(path);
-        return;
-    }
-    let mut text = [0u8; 65537];
-    let size = io::read_full(file, &mut text);
-    libc::close(file);
+fn print(rt: &impl Runtime, path: &str, listed: bool) -> io::Result<()> {
+    println!(rt; "{path}")?;
+    let file = match File::open(rt, path) {
+        Ok(file) => file,
+        Err(error) => return eprintln!(rt; "{path}: {error}"),
+    };
+    let mut text = Vec::new(rt.alloc());
+    file.take(65537).read_to_end(&mut text)?;
     if listed {
-        show_states(&text[..size]);
+        show_states(rt, &text)
     } else {
-        show_translation(&text[..size]);
+        show_translation(rt, &text)
     }
 }
 
-fn states(path: &[u8]) {
-    print(path, true);
+fn states(rt: &impl Runtime, path: &str) -> io::Result<()> {
+    print(rt, path, true)
 }
 
-fn translation(path: &[u8]) {
-    print(path, false);
+fn translation(rt: &impl Runtime, path: &str) -> io::Result<()> {
+    print(rt, path, false)
 }
 
-fn first_states() {
-    states(b"inverters.pref");
-    states(b"catalogue.pref");
-    states(b"no_state.pref");
-    states(b"too_long.pref");
-    states(b"two_forms.pref");
-    states(b"missing_line.pref");
-    states(b"generated_name.pref");
-    states(b"long_name.pref");
-    states(b"declared_twice.pref");
+fn first_states(rt: &impl Runtime) -> io::Result<()> {
+    states(rt, "inverters.pref")?;
+    states(rt, "catalogue.pref")?;
+    states(rt, "no_state.pref")?;
+    states(rt, "too_long.pref")?;
+    states(rt, "two_forms.pref")?;
+    states(rt, "missing_line.pref")?;
+    states(rt, "generated_name.pref")?;
+    states(rt, "long_name.pref")?;
+    states(rt, "declared_twice.pref")
 }
 
-fn other_states() {
-    states(b"undeclared.pref");
-    states(b"twice_in_list.pref");
-    states(b"classes.pref");
-    states(b"filled_not.pref");
-    states(b"many_states.pref");
-    states(b"plain.plain");
-    states(b"atoms_61.pref");
-    states(b"unused.pref");
-    states(b"hand_typed.pref");
+fn other_states(rt: &impl Runtime) -> io::Result<()> {
+    states(rt, "undeclared.pref")?;
+    states(rt, "twice_in_list.pref")?;
+    states(rt, "classes.pref")?;
+    states(rt, "filled_not.pref")?;
+    states(rt, "many_states.pref")?;
+    states(rt, "plain.plain")?;
+    states(rt, "atoms_61.pref")?;
+    states(rt, "unused.pref")?;
+    states(rt, "hand_typed.pref")
 }
 
-fn condition_states() {
-    states(b"conditions.pref");
-    states(b"broken_condition.pref");
-    states(b"deep_brackets.pref");
-    states(b"made_declared.pref");
-    states(b"made_undeclared.pref");
+fn condition_states(rt: &impl Runtime) -> io::Result<()> {
+    states(rt, "conditions.pref")?;
+    states(rt, "broken_condition.pref")?;
+    states(rt, "deep_brackets.pref")?;
+    states(rt, "made_declared.pref")?;
+    states(rt, "made_undeclared.pref")
 }
 
-fn translations() {
-    translation(b"no_state.pref");
-    translation(b"too_long.pref");
-    translation(b"declared_twice.pref");
-    translation(b"filled_not.pref");
-    translation(b"plain.plain");
-    translation(b"long_translation.pref");
-    translation(b"conditions.pref");
+fn translations(rt: &impl Runtime) -> io::Result<()> {
+    translation(rt, "no_state.pref")?;
+    translation(rt, "too_long.pref")?;
+    translation(rt, "declared_twice.pref")?;
+    translation(rt, "filled_not.pref")?;
+    translation(rt, "plain.plain")?;
+    translation(rt, "long_translation.pref")?;
+    translation(rt, "conditions.pref")
 }
 
-fn main() {
-    first_states();
-    other_states();
-    condition_states();
-    translations();
+fn main(rt: HostRuntime) -> io::Result<()> {
+    first_states(&rt)?;
+    other_states(&rt)?;
+    condition_states(&rt)?;
+    translations(&rt)
 }

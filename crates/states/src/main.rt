@@ -1,22 +1,25 @@
 #![tactic(auto)]
 // Lists the preferred states of the preference file on standard input (document 01).
 use kinds::limits::Kind;
+use std::io;
+use std::io::Read;
 
-fn put(out: &[u8], size: usize) {
+fn put(rt: &impl Print, out: &[u8], size: usize) -> io::Result<()> {
     if size <= out.len() {
-        io::write_all(1, &out[0..size]);
+        rt.write_all(&out[0..size])?;
     }
+    Ok(())
 }
 
-fn answer(text: &[u8]) {
+fn answer(rt: &impl Print, text: &[u8]) -> io::Result<()> {
     let mut out = [0u8; Kind::STREAM];
     let size = programs::states_text(text, &mut out);
-    put(&out, size);
+    put(rt, &out, size)
 }
 
 // One byte more than a text may have tells that it is too long.
-fn main() {
-    let mut text = [0u8; 65537];
-    let size = io::read_full(0, &mut text);
-    answer(&text[..size]);
+fn main(rt: HostRuntime) -> io::Result<()> {
+    let mut text = Vec::new(rt.alloc());
+    rt.reader().take(65537).read_to_end(&mut text)?;
+    answer(&rt, &text)
 }

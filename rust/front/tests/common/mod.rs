@@ -149,7 +149,7 @@ pub fn ran(status: i32, out: &str, err: &str) -> Ran {
 /// The two proved programs.
 pub fn proved(name: &str) -> PathBuf {
     let path = compare::programs::directory().join(name);
-    let built = "`rt check states translate` at the repository's root builds it";
+    let built = "`tools/build` at the repository's root builds it";
     assert!(
         Path::new(&path).is_file(),
         "{} is missing: {built}",
