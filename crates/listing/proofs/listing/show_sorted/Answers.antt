@@ -1,3 +1,4 @@
+use borrow.Author.Rules.{rules}
 use mathlib.Core.Path.{refl}
 use Rattle.listing.proofs.StoredStates.{listing_sorted}
 use Rattle.listing.proofs.listing.show_sorted.Goals as goal
@@ -6,9 +7,9 @@ pub fill_tables-requires : goal.fill_tables-requires
 fill_tables-requires c =
     record {
       want_len = c.requires.sortable_masks.same_length;
-      care_len_bound = c.requires.sortable_masks.rules-fit;
+      care_len_bound = c.requires.sortable_masks.rules_fit_lem;
       all = c.requires.sortable_masks.small;
-      classes_len = c.fill_tables-arg-1.given.0;
+      classes_len = search rules;
       plan_value = refl;
     }
 
