@@ -10,7 +10,6 @@ use Rattle.stores.proofs.StoredRules.{has_header}
 use Rattle.masks.proofs.CheckedStore.{PreferenceHeader, preference_atoms, preference_room, preference_rules, class_words_few, preference_stored, masks_filled}
 use Rattle.masks.proofs.masks.fill_masks.Goals as goal
 
-
 header : (ws : List ℕ) (n r : ℕ) → StoreOf ws (decode ws) → (decode ws).atoms ≤ walk_atoms → (decode ws).kind ≡ Preference → n ≡ get_or ws 1 0 → r ≡ get_or ws 3 0 → PreferenceHeader ws n r
 header ws n r s f k a q = record { store = s; few = f; is_preference = k; atoms_read = a; rules_read = q }
 

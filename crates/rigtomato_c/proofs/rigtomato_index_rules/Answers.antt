@@ -1,0 +1,10 @@
+use mathlib.Core.Path.{ap, ◌∙◌}
+use Rattle.fields.specs.Fields.{filled_fields}
+use Rattle.rigtomato_c.proofs.rigtomato_index_rules.Goals as goal
+
+pub returns : goal.returns
+returns c =
+    record {
+      answer = c.filled_fields.ensures ∙ ap filled_fields c.index_rules-answer.ensures.answer;
+      output = c.index_rules-answer.ensures.output;
+    }
