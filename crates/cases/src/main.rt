@@ -1,10 +1,10 @@
 #![tactic(auto)]
 // Runs the two programs' functions on each file of data/: every refusal that a file can meet is seen printed.
 use kinds::limits::Kind;
+use programs::reading::read_full;
 use std::fs::File;
 use std::io;
-use std::io::Read;
-use std::rt::Runtime;
+use std::rt::{Files, Runtime};
 
 fn put(rt: &impl Print, out: &[u8], size: usize) -> io::Result<()> {
     if size <= out.len() {
@@ -26,18 +26,18 @@ fn show_translation(rt: &impl Print, text: &[u8]) -> io::Result<()> {
 }
 
 // What the lister prints on a file, or the translator.
-fn print(rt: &impl Runtime, path: &str, listed: bool) -> io::Result<()> {
+fn print(rt: &(impl Files + Print + Eprint), path: &str, listed: bool) -> io::Result<()> {
     println!(rt; "{path}")?;
-    let file = match File::open(rt, path) {
+    let mut file = match File::open(rt, path) {
         Ok(file) => file,
         Err(error) => return eprintln!(rt; "{path}: {error}"),
     };
-    let mut text = Vec::new(rt.alloc());
-    file.take(65537).read_to_end(&mut text)?;
+    let mut text = [0u8; 65537];
+    let size = read_full(&mut file, &mut text)?;
     if listed {
-        show_states(rt, &text)
+        show_states(rt, &text[..size])
     } else {
-        show_translation(rt, &text)
+        show_translation(rt, &text[..size])
     }
 }
 

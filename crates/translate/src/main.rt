@@ -1,8 +1,8 @@
 #![tactic(auto)]
 // Prints the plain program of the preference file on standard input (document 01).
 use kinds::limits::Kind;
+use programs::reading::read_full;
 use std::io;
-use std::io::Read;
 
 fn put(rt: &impl Print, out: &[u8], size: usize) -> io::Result<()> {
     if size <= out.len() {
@@ -19,7 +19,7 @@ fn answer(rt: &impl Print, text: &[u8]) -> io::Result<()> {
 
 // One byte more than a text may have tells that it is too long.
 fn main(rt: HostRuntime) -> io::Result<()> {
-    let mut text = Vec::new(rt.alloc());
-    rt.reader().take(65537).read_to_end(&mut text)?;
-    answer(&rt, &text)
+    let mut text = [0u8; 65537];
+    let size = read_full(&mut rt.reader(), &mut text)?;
+    answer(&rt, &text[..size])
 }
