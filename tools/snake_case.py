@@ -4,7 +4,7 @@
 usage: python3 tools/snake_case.py [FOLDER]
 
 snake_case.tsv, beside this file, has each old name and its new one. A test, which ended in a question mark, begins with `is_`
-or `are_`. Where two names would fall together the definition has the plain name, a lemma `_lem` and a field `_holds`. Names of
+or `are_`. Where two names would fall together, one has `_lem` behind it, mostly the lemma's, or `_holds`, a field's. Names of
 functions, of exported symbols, strings, inputs and outputs stay, and so do names that begin with a capital letter.
 """
 import os
