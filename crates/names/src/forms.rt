@@ -54,14 +54,7 @@ pub fn is_name_byte(b: u8) -> bool
 pub fn all_name_bytes(bytes: &[u8]) -> bool
     ensures { result ≡ every is_name_byte bytes.now }
 {
-    let mut i: usize = 0;
-    while i < bytes.len() {
-        if !is_name_byte(bytes[i]) {
-            return false;
-        }
-        i += 1;
-    }
-    true
+    bytes.iter().all(|b| is_name_byte(*b))
 }
 
 // A house name but for its length.

@@ -1,4 +1,5 @@
 -- What holds of every entry of a list or of some entry, and lists made from lists.
+use Rattle.std.specs.List.{list_all, list_any}
 use Rattle.std.specs.Prelude.{ℕ, zero, suc, ◌+◌, List, [], ◌∷◌, ◌++◌, Bool, true, false, ◌&&◌, ◌||◌, ◌⊎◌, ◌≢◌, length, drop}
 
 module _ {A : Type 0} where
@@ -17,12 +18,10 @@ module _ {A : Type 0} where
 
   -- the tests
   abbrev pub every : (A → Bool) → List A → Bool
-  every p [] = true
-  every p (x ∷ xs) = p x && every p xs
+  every p xs = list_all p xs
 
   abbrev pub some : (A → Bool) → List A → Bool
-  some p [] = false
-  some p (x ∷ xs) = p x || some p xs
+  some p xs = list_any p xs
 
   abbrev pub is_empty : List A → Bool
   is_empty [] = true
