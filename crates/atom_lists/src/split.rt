@@ -22,12 +22,10 @@ pub fn count_below(end: u16, atoms: &[u16]) -> u16
     ensures { result ≡ count_below end atoms.now }
 {
     let mut count: u16 = 0;
-    let mut i: usize = 0;
-    while i < atoms.len() {
+    for i in 0..atoms.len() {
         if atoms[i] < end {
             count += 1;
         }
-        i += 1;
     }
     count
 }
@@ -61,11 +59,9 @@ pub fn emit_split(atoms: &[u16], split: Split, out: &mut [u16], at: usize, behin
 {
     let mut low = at;
     let mut high = behind;
-    let mut i: usize = 0;
-    while i < atoms.len() {
+    for i in 0..atoms.len() {
         let is_below = put_atom(atoms[i], split, out, low, high);
         low = chosen(is_below, low + 1, low);
         high = chosen(is_below, high, high + 1);
-        i += 1;
     }
 }

@@ -12,10 +12,8 @@ pub fn emit_run(first: u16, end: u16, out: &mut [u16], at: usize) -> usize
     ensures { Emitted out.old at (each single (from first (end - first))) out.new result }
 {
     let mut next = at;
-    let mut word = first;
-    while word < end {
+    for word in first..end {
         next = push(word, out, next);
-        word += 1;
     }
     next
 }

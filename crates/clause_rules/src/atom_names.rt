@@ -25,10 +25,8 @@ pub fn put_names(atoms: usize, bytes: &mut [u8]) -> usize
     ensures { Emitted bytes.old 0 (encode_names (clause_names atoms)) bytes.new result }
 {
     let mut at: usize = 0;
-    let mut atom: usize = 0;
-    while atom < atoms {
+    for atom in 0..atoms {
         at = put_name(atom, bytes, at);
-        atom += 1;
     }
     at
 }

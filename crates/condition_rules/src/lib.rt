@@ -115,8 +115,7 @@ pub fn put_rules(table: &[u16], count: usize, first: usize, words: &mut [u16], a
 {
     let mut end = at;
     let mut rules: usize = 0;
-    let mut i: usize = 0;
-    while i < count {
+    for i in 0..count {
         let row = 3 * i;
         let put = put_row(
             table[row],
@@ -128,7 +127,6 @@ pub fn put_rules(table: &[u16], count: usize, first: usize, words: &mut [u16], a
         );
         end = put.end;
         rules += put.rules;
-        i += 1;
     }
     RowsPut { end, rules }
 }

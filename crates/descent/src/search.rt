@@ -49,8 +49,7 @@ fn spares(plan: &[u64; Plan::WORDS], set: u64) -> bool
     ensures { result ≡ spares_m (of_in plan.now) set (classes_in plan.now) }
 {
     let of = plan[Plan::OF];
-    let mut i = 0;
-    while i < Preference::CLASSES {
+    for i in 0..Preference::CLASSES {
         let c = plan[Plan::CLASSES + i];
         let a = set & c;
         if a != of & c {
@@ -59,7 +58,6 @@ fn spares(plan: &[u64; Plan::WORDS], set: u64) -> bool
         if (set ^ of) & plan[Plan::MINIMISED] == 0 {
             return false;
         }
-        i += 1;
     }
     false
 }

@@ -22,11 +22,9 @@ pub fn breaks(words: &[u16], set: u64) -> bool
     let not = body + words[1] as usize;
     let end = not + words[2] as usize;
     let mut odd: u64 = 0;
-    let mut i: usize = 3;
-    while i < end {
+    for i in 3..end {
         let place = words[i] as u64;
         odd |= (set >> place) ^ in_body(i, body, not);
-        i += 1;
     }
     odd % 2 == 0
 }

@@ -9,10 +9,8 @@ pub fn own_start(index: &[u16], atom: usize) -> usize
     ensures { result ≡ list_at index.now atom }
 {
     let mut at: usize = 0;
-    let mut i: usize = 0;
-    while i < atom {
+    for i in 0..atom {
         at = at + 1 + index[at] as usize;
-        i += 1;
     }
     at
 }

@@ -7,8 +7,7 @@ pub fn is_rising(list: &[u16], rules: usize) -> bool
     ensures { result ≡ is_rising 0 rules list.now }
 {
     let mut bound: usize = 0;
-    let mut i: usize = 0;
-    while i < list.len() {
+    for i in 0..list.len() {
         let rule = list[i] as usize;
         if rule < bound {
             return false;
@@ -17,7 +16,6 @@ pub fn is_rising(list: &[u16], rules: usize) -> bool
             return false;
         }
         bound = rule + 1;
-        i += 1;
     }
     true
 }

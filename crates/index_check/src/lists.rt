@@ -21,8 +21,7 @@ fn find_lists(index: &[u16], next: &mut [usize], ends: &mut [usize]) -> bool
     ensures lists { result ≡ true → Lists index.now next.new ends.new }
 {
     let mut at: usize = 0;
-    let mut a: usize = 0;
-    while a < next.len() {
+    for a in 0..next.len() {
         if index.len() <= at {
             return false;
         }
@@ -34,7 +33,6 @@ fn find_lists(index: &[u16], next: &mut [usize], ends: &mut [usize]) -> bool
         at = first + count;
         next[a] = first;
         ends[a] = at;
-        a += 1;
     }
     at == index.len()
 }
@@ -55,8 +53,7 @@ fn rule_listed(
     ensures below { Below (rule + 2) marks.new }
 {
     let stamp = rule + 1;
-    let mut i: usize = 0;
-    while i < atoms.len() {
+    for i in 0..atoms.len() {
         let a = atoms[i] as usize;
         let first = first_here(marks, a, stamp);
         if first {
@@ -69,7 +66,6 @@ fn rule_listed(
             }
             next[a] = at + 1;
         }
-        i += 1;
     }
     true
 }
@@ -91,8 +87,7 @@ fn rules_listed(
     ensures placed { result ≡ true → Placed (length next.old) count words.now places.new }
 {
     let mut from: usize = 0;
-    let mut i: usize = 0;
-    while i < count {
+    for i in 0..count {
         let size = rule_size(&words[from..]);
         let atoms = from + 3;
         let end = from + size;
@@ -102,7 +97,6 @@ fn rules_listed(
         }
         places[i] = from;
         from = end;
-        i += 1;
     }
     true
 }
@@ -112,12 +106,10 @@ fn all_read(next: &[usize], ends: &[usize]) -> bool
     requires { length next.now ≤ length ends.now }
     ensures { result ≡ is_all_read next.now ends.now }
 {
-    let mut a: usize = 0;
-    while a < next.len() {
+    for a in 0..next.len() {
         if next[a] != ends[a] {
             return false;
         }
-        a += 1;
     }
     true
 }

@@ -47,12 +47,10 @@ fn has_line_end(bytes: &[u8]) -> bool
     ensures { result ≡ some (λ b. eqb b line_end_lem) bytes.now }
 {
     let mut found = false;
-    let mut i: usize = 0;
-    while i < bytes.len() {
+    for i in 0..bytes.len() {
         if bytes[i] == b'\n' {
             found = true;
         }
-        i += 1;
     }
     found
 }
@@ -199,13 +197,11 @@ pub fn begins_at(s: &[u8], at: usize, tag: &[u8]) -> bool
     if s.len() - at < tag.len() {
         return false;
     }
-    let mut i: usize = 0;
-    while i < tag.len() {
+    for i in 0..tag.len() {
         let place = at + i;
         if s[place] != tag[i] {
             return false;
         }
-        i += 1;
     }
     true
 }

@@ -19,8 +19,7 @@ fn list_form(
     ensures { (result ≡ is_list atoms [] (take count (drop at words.now))) × Below (stamp + 1) marks.new }
 {
     let end = at + count;
-    let mut i = at;
-    while i < end {
+    for i in at..end {
         let a = words[i] as usize;
         if atoms <= a {
             return false;
@@ -29,7 +28,6 @@ fn list_form(
             return false;
         }
         marks[a] = stamp;
-        i += 1;
     }
     true
 }

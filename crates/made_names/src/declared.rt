@@ -52,12 +52,10 @@ pub fn any_declared(
     ensures { result ≡ some (λ t. among (decode_names (length starts.now) bytes.now) (made_name t)) (from (suc made) count) }
 {
     let last = last_named(made, count);
-    let mut number = made + 1;
-    while number <= last {
+    for number in made + 1..=last {
         if is_declared(number, bytes, starts, firsts, links) {
             return true;
         }
-        number += 1;
     }
     false
 }

@@ -33,10 +33,8 @@ pub fn put_names(count: usize, out: &mut [u8], at: usize) -> usize
     ensures { Emitted out.old at (encode_names (map made_name (from 1 count))) out.new result }
 {
     let mut next = at;
-    let mut number: usize = 1;
-    while number <= count {
+    for number in 1..=count {
         next = put_name(number, out, next);
-        number += 1;
     }
     next
 }

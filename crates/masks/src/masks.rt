@@ -47,10 +47,8 @@ fn mask_of(atoms: &[u16], n: usize) -> u64
     ensures { result ≡ place_mask n atoms.now }
 {
     let mut m: u64 = 0;
-    let mut i = 0;
-    while i < atoms.len() {
+    for i in 0..atoms.len() {
         m |= bit_of(n - 1 - wide(atoms[i]));
-        i += 1;
     }
     m
 }
@@ -90,14 +88,12 @@ pub fn fill_rules(words: &[u16], rules: usize, n: usize, care: &mut [u64], want:
     ensures want_after { want.new ≡ over (map (want_at n) (rules_from rules words.now)) want.old }
 {
     let mut from = 0;
-    let mut j = 0;
-    while j < rules {
+    for j in 0..rules {
         let size = rule_size(&words[from..]);
         let rule = read_rule(&words[from..], n);
         care[j] = rule.care;
         want[j] = rule.want;
         from += size;
-        j += 1;
     }
 }
 
@@ -143,10 +139,8 @@ fn fill_classes(words: &[u16], classes: &mut [u64]) -> u64
     ensures value { result ≡ place_mask (length words.now) (of_class words.now fixed_word) }
 {
     let mut fixed: u64 = 0;
-    let mut i = 0;
-    while i < words.len() {
+    for i in 0..words.len() {
         fixed |= note_role(words[i], bit_of(words.len() - 1 - i), classes);
-        i += 1;
     }
     fixed
 }

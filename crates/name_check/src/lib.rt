@@ -31,8 +31,7 @@ pub fn index_names(
     ensures indexed { result ≡ true → Indexed (decode_names atoms bytes.now) bytes.now starts.new firsts.new links.new }
 {
     let mut at: usize = 0;
-    let mut atom: usize = 0;
-    while atom < atoms {
+    for atom in 0..atoms {
         let Found::At(to) = index::name_end(bytes, at) else {
             return false;
         };
@@ -45,7 +44,6 @@ pub fn index_names(
             return false;
         }
         at = to;
-        atom += 1;
     }
     at == bytes.len()
 }

@@ -17,12 +17,10 @@ fn same_from(a: &[u8], b: &[u8], from: usize) -> bool
     requires { (length a.now ≡ length b.now) × (from ≤ length a.now) }
     ensures { result ≡ same_bytes (drop from a.now) (drop from b.now) }
 {
-    let mut i = from;
-    while i < a.len() {
+    for i in from..a.len() {
         if a[i] != b[i] {
             return false;
         }
-        i += 1;
     }
     true
 }
@@ -33,12 +31,10 @@ fn same_block(a: &[u8], b: &[u8]) -> bool
     ensures { result ≡ same_bytes a.now b.now }
 {
     let mut same = true;
-    let mut i: usize = 0;
-    while i < a.len() {
+    for i in 0..a.len() {
         if a[i] != b[i] {
             same = false;
         }
-        i += 1;
     }
     same
 }
@@ -73,10 +69,8 @@ pub fn hash(name: &[u8]) -> usize
     ensures { result ≡ name_hash name.now }
 {
     let mut h: usize = 0;
-    let mut i: usize = 0;
-    while i < name.len() {
+    for i in 0..name.len() {
         h = hash_step(h, name[i]);
-        i += 1;
     }
     h
 }

@@ -81,14 +81,12 @@ pub fn atom_number(bytes: &[u8]) -> usize
         return 0;
     }
     let mut value: usize = 0;
-    let mut i: usize = 0;
-    while i < bytes.len() {
+    for i in 0..bytes.len() {
         let b = bytes[i];
         if !is_digit(b) {
             return 0;
         }
         value = 10 * value + (b - b'0') as usize;
-        i += 1;
     }
     if value <= Preference::ATOMS { value } else { 0 }
 }

@@ -120,10 +120,8 @@ pub fn any_known(
 fn clear(firsts: &mut [u16])
     ensures { firsts.new ≡ replicate (length firsts.old) 0 }
 {
-    let mut i: usize = 0;
-    while i < firsts.len() {
+    for i in 0..firsts.len() {
         firsts[i] = 0;
-        i += 1;
     }
 }
 

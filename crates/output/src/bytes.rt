@@ -19,10 +19,8 @@ fn emit_each(bytes: &[u8], out: &mut [u8], at: usize) -> usize
     ensures { Emitted out.old at bytes.now out.new result }
 {
     let mut next = at;
-    let mut i: usize = 0;
-    while i < bytes.len() {
+    for i in 0..bytes.len() {
         next = push(bytes[i], out, next);
-        i += 1;
     }
     next
 }
@@ -32,10 +30,8 @@ fn copy(bytes: &[u8], part: &mut [u8])
     requires { length part.old ≡ length bytes.now }
     ensures { part.new ≡ bytes.now }
 {
-    let mut i: usize = 0;
-    while i < bytes.len() {
+    for i in 0..bytes.len() {
         part[i] = bytes[i];
-        i += 1;
     }
 }
 

@@ -19,10 +19,8 @@ fn emit_each(words: &[u16], out: &mut [u16], at: usize) -> usize
     ensures { Emitted out.old at words.now out.new result }
 {
     let mut next = at;
-    let mut i: usize = 0;
-    while i < words.len() {
+    for i in 0..words.len() {
         next = push(words[i], out, next);
-        i += 1;
     }
     next
 }
@@ -32,10 +30,8 @@ fn copy(words: &[u16], part: &mut [u16])
     requires { length part.old ≡ length words.now }
     ensures { part.new ≡ words.now }
 {
-    let mut i: usize = 0;
-    while i < words.len() {
+    for i in 0..words.len() {
         part[i] = words[i];
-        i += 1;
     }
 }
 
@@ -60,10 +56,8 @@ pub fn emit_copies(word: u16, count: usize, out: &mut [u16], at: usize) -> usize
     ensures { Emitted out.old at (replicate count word) out.new result }
 {
     let mut next = at;
-    let mut i: usize = 0;
-    while i < count {
+    for i in 0..count {
         next = push(word, out, next);
-        i += 1;
     }
     next
 }

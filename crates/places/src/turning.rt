@@ -10,11 +10,9 @@ pub fn turned(number: u64, atoms: usize) -> u64
 {
     let mut left = number;
     let mut r: u64 = 0;
-    let mut i = 0;
-    while i < atoms {
+    for i in 0..atoms {
         r = left % 2 + 2 * r;
         left = left / 2;
-        i += 1;
     }
     r
 }

@@ -10,12 +10,10 @@ pub fn count_unfixed(words: &[u16]) -> usize
     ensures { result ≡ unfixed words.now }
 {
     let mut count: usize = 0;
-    let mut i: usize = 0;
-    while i < words.len() {
+    for i in 0..words.len() {
         if words[i] != ClassWord::FIXED {
             count += 1;
         }
-        i += 1;
     }
     count
 }
@@ -39,9 +37,7 @@ pub fn number_places(first: usize, declared: usize, made: usize, numbers: &mut [
     ensures { (a : ℕ) → a < declared + made → get_or numbers.new a 0 ≡ placing first declared made a }
 {
     let all = declared + made;
-    let mut atom: usize = 0;
-    while atom < all {
+    for atom in 0..all {
         numbers[atom] = place(first, declared, made, atom) as u16;
-        atom += 1;
     }
 }

@@ -26,10 +26,8 @@ fn names_end(bytes: &[u8], count: usize) -> usize
     ensures { result ≡ length (encode_names (decode_names count bytes.now)) }
 {
     let mut at: usize = 0;
-    let mut i: usize = 0;
-    while i < count {
+    for i in 0..count {
         at += 1 + bytes[at] as usize;
-        i += 1;
     }
     at
 }

@@ -67,10 +67,8 @@ fn emit_members(set: u64, names: &[u8], starts: &[u16], out: &mut [u8], at: usiz
     ensures { Emitted out.old at (members (stored_names names.now starts.now) set 0 (length starts.now)) out.new result }
 {
     let mut next = at;
-    let mut atom: usize = 0;
-    while atom < starts.len() {
+    for atom in 0..starts.len() {
         next = emit_member(set, atom, names, starts, out, next);
-        atom += 1;
     }
     next
 }

@@ -29,10 +29,8 @@ pub fn put_classes(words: &[u16], marks: &[bool], out: &mut [u16], at: usize) ->
     ensures { Emitted out.old at (entries 0 words.now (marked (length words.now) marks.now)) out.new result }
 {
     let mut next = at;
-    let mut i: usize = 0;
-    while i < words.len() {
+    for i in 0..words.len() {
         next = put_class(words[i], marks[i], out, next);
-        i += 1;
     }
     next
 }
@@ -43,10 +41,8 @@ fn put_atoms(atoms: &[u16], numbers: &[u16], out: &mut [u16], at: usize) -> usiz
     ensures { Emitted out.old at (entries 0 numbers.now atoms.now) out.new result }
 {
     let mut next = at;
-    let mut i: usize = 0;
-    while i < atoms.len() {
+    for i in 0..atoms.len() {
         next = push(numbers[atoms[i] as usize], out, next);
-        i += 1;
     }
     next
 }
@@ -67,12 +63,10 @@ pub fn put_rules(words: &[u16], count: usize, numbers: &[u16], out: &mut [u16], 
 {
     let mut next = at;
     let mut from: usize = 0;
-    let mut i: usize = 0;
-    while i < count {
+    for i in 0..count {
         let size = rule_size(&words[from..]);
         next = put_rule(&words[from..], numbers, out, next);
         from += size;
-        i += 1;
     }
     next
 }
@@ -94,12 +88,10 @@ pub fn put_names(bytes: &[u8], n: usize, marks: &[bool], out: &mut [u8], at: usi
 {
     let mut next = at;
     let mut from: usize = 0;
-    let mut i: usize = 0;
-    while i < n {
+    for i in 0..n {
         let end = from + 1 + bytes[from] as usize;
         next = put_name(&bytes[from..end], marks[i], out, next);
         from = end;
-        i += 1;
     }
     next
 }

@@ -34,12 +34,10 @@ fn grow_lists(index: &[u16], marks: &[bool], number: u16, out: &mut [u16]) -> us
 {
     let mut from: usize = 0;
     let mut next: usize = 0;
-    let mut a: usize = 0;
-    while a < marks.len() {
+    for a in 0..marks.len() {
         let size = 1 + index[from] as usize;
         next = grow_list(&index[from..], marks[a], number, out, next);
         from += size;
-        a += 1;
     }
     next
 }

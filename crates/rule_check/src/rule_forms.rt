@@ -66,8 +66,7 @@ fn rules_form(
 {
     let mut at = start;
     let mut used: usize = 0;
-    let mut i: usize = 0;
-    while i < rules {
+    for i in 0..rules {
         let stamp = (3 * i + 1) as u16;
         let RuleCheck::Next {
             at: next,
@@ -78,7 +77,6 @@ fn rules_form(
         };
         at = next;
         used = sum;
-        i += 1;
     }
     at == words.len()
 }

@@ -17,12 +17,10 @@ fn some_in(set: u64, atoms: &[u16]) -> bool
     requires { All (λ a. a < walk_atoms) atoms.now }
     ensures { result ≡ some (has set) atoms.now }
 {
-    let mut i = 0;
-    while i < atoms.len() {
+    for i in 0..atoms.len() {
         if set & bit_of(wide(atoms[i])) != 0 {
             return true;
         }
-        i += 1;
     }
     false
 }
@@ -71,8 +69,7 @@ pub fn fill_reduct(
 {
     let mut from = 0;
     let mut kept = 0;
-    let mut j = 0;
-    while j < rules {
+    for j in 0..rules {
         let size = rule_size(&words[from..]);
         marks[j] = is_kept(&words[from..], of);
         if marks[j] {
@@ -80,7 +77,6 @@ pub fn fill_reduct(
             kept += 1;
         }
         from += size;
-        j += 1;
     }
     kept
 }

@@ -31,12 +31,10 @@ pub fn step5(classes: &[u16], count: u16, o: Offsets, out: &mut [u16], at: usize
 {
     let mut next = at;
     let mut first: u16 = 0;
-    let mut class: u16 = 1;
-    while class <= count {
+    for class in 1..=count {
         let end = class_end(classes, first, class);
         next = step5_class(first, end, class, o, out, next);
         first = end;
-        class += 1;
     }
     next
 }

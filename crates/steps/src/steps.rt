@@ -29,10 +29,8 @@ pub fn step1(minimised: u16, n: u16, out: &mut [u16], at: usize) -> usize
     ensures { Emitted out.old at (each (words1 minimised n) (from 0 (n - 0))) out.new result }
 {
     let mut next = at;
-    let mut a: u16 = 0;
-    while a < n {
+    for a in 0..n {
         next = step1_atom(a, minimised, n, out, next);
-        a += 1;
     }
     next
 }
@@ -66,11 +64,9 @@ pub fn step6(classes: &[u16], minimised: u16, o: Offsets, out: &mut [u16], at: u
     ensures { Emitted out.old at (each (words6 classes.now o) (from 0 (minimised - 0))) out.new result }
 {
     let mut next = at;
-    let mut a: u16 = 0;
-    while a < minimised {
+    for a in 0..minimised {
         let class = class_of(classes, a);
         next = step6_atom(a, class, o, out, next);
-        a += 1;
     }
     next
 }
@@ -90,10 +86,8 @@ pub fn step789(first: u16, end: u16, u: u16, out: &mut [u16], at: usize) -> usiz
     ensures { Emitted out.old at (each (words789 u) (from first (end - first))) out.new result }
 {
     let mut next = at;
-    let mut b = first;
-    while b < end {
+    for b in first..end {
         next = step789_atom(b, u, out, next);
-        b += 1;
     }
     next
 }

@@ -27,8 +27,7 @@ fn words_form(words: &[u16], start: usize, count: usize, classes: usize) -> bool
 {
     let end = start + count;
     let mut before: u16 = 0;
-    let mut i = start;
-    while i < end {
+    for i in start..end {
         let word = words[i];
         let role = role_of(word);
         let role_fits = role_form(role, classes);
@@ -39,7 +38,6 @@ fn words_form(words: &[u16], start: usize, count: usize, classes: usize) -> bool
             return false;
         }
         before = word;
-        i += 1;
     }
     true
 }

@@ -14,11 +14,9 @@ pub fn place_names(names: &[u8], starts: &mut [u16])
     ensures { Placed (stored_names names.now starts.old) names.now starts.new }
 {
     let mut at: usize = 0;
-    let mut i: usize = 0;
-    while i < starts.len() {
+    for i in 0..starts.len() {
         starts[i] = at as u16;
         at += 1 + names[at] as usize;
-        i += 1;
     }
 }
 
@@ -37,10 +35,8 @@ pub fn emit_atoms(atoms: &[u16], names: &[u8], starts: &[u16], out: &mut [u8], a
     ensures { Emitted out.old at (atom_items (stored_names names.now starts.now) atoms.now) out.new result }
 {
     let mut next = at;
-    let mut i: usize = 0;
-    while i < atoms.len() {
+    for i in 0..atoms.len() {
         next = emit_atom(atoms[i] as usize, names, starts, out, next);
-        i += 1;
     }
     next
 }
@@ -58,10 +54,8 @@ fn emit_run(
     ensures { Emitted out.old at (atom_items (stored_names names.now starts.now) (from first (end - first))) out.new result }
 {
     let mut next = at;
-    let mut i = first;
-    while i < end {
+    for i in first..end {
         next = emit_atom(i, names, starts, out, next);
-        i += 1;
     }
     next
 }

@@ -54,12 +54,10 @@ fn emit_min_lines(
 {
     let mut next = at;
     let mut first: usize = 0;
-    let mut class: u16 = 1;
-    while class <= classes {
+    for class in 1..=classes {
         let end = class_end(words, first, class);
         next = emit_min_line(first, end, names, starts, out, next);
         first = end;
-        class += 1;
     }
     next
 }

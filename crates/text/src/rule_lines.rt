@@ -54,12 +54,10 @@ pub fn emit_rules(
 {
     let mut next = at;
     let mut from: usize = 0;
-    let mut i: usize = 0;
-    while i < count {
+    for i in 0..count {
         let size = rule_size(&words[from..]);
         next = emit_rule(&words[from..], names, starts, out, next);
         from += size;
-        i += 1;
     }
     next
 }

@@ -28,11 +28,9 @@ pub fn tidy_rules(words: &mut [u16], count: usize, scratch: &mut [u16])
     ensures { words.new ≡ tidy_words count words.old }
 {
     let mut from: usize = 0;
-    let mut i: usize = 0;
-    while i < count {
+    for i in 0..count {
         let size = rule_size(&words[from..]);
         tidy_rule(&mut words[from..], scratch);
         from += size;
-        i += 1;
     }
 }

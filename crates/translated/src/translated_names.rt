@@ -31,11 +31,9 @@ fn dotted_names(letter: u8, bytes: &[u8], count: u16, out: &mut [u8], at: usize)
 {
     let mut next = at;
     let mut from: usize = 0;
-    let mut i: u16 = 0;
-    while i < count {
+    for i in 0..count {
         next = dotted_name(letter, &bytes[from..], out, next);
         from += 1 + bytes[from] as usize;
-        i += 1;
     }
     next
 }
@@ -59,10 +57,8 @@ fn end_names(k: u8, out: &mut [u8], at: usize) -> usize
     ensures { Emitted out.old at (each end_bytes (from 0 (k + 1 - 0))) out.new result }
 {
     let mut next = at;
-    let mut j: u8 = 0;
-    while j <= k {
+    for j in 0..=k {
         next = end_name(j, out, next);
-        j += 1;
     }
     next
 }

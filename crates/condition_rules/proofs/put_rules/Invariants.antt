@@ -4,6 +4,3 @@ use Rattle.condition_rules.proofs.put_rules.Given as goal
 
 abbrev pub invariant-loop-i : goal.invariant-loop-i
 invariant-loop-i l = Putting l.table l.count l.first l.initial.words l.at l.words l.end l.rules l.i
-
-abbrev pub decreases-loop-i : goal.decreases-loop-i
-decreases-loop-i l = l.count - l.i

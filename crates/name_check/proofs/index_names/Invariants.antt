@@ -4,6 +4,3 @@ use Rattle.name_check.proofs.index_names.Given as goal
 
 abbrev pub invariant-loop-atom : goal.invariant-loop-atom
 invariant-loop-atom l = Checking l.kind l.bytes l.atoms l.initial.starts l.initial.firsts l.initial.links l.starts l.firsts l.links l.at l.atom
-
-abbrev pub decreases-loop-atom : goal.decreases-loop-atom
-decreases-loop-atom l = l.atoms - l.atom

@@ -5,6 +5,3 @@ use Rattle.atom_lists.proofs.split.count_below.Given as goal
 
 abbrev pub invariant-loop-i : goal.invariant-loop-i
 invariant-loop-i l = CountingBelow l.end l.atoms l.i l.count
-
-abbrev pub decreases-loop-i : goal.decreases-loop-i
-decreases-loop-i l = length l.atoms - l.i

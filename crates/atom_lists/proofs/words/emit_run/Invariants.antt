@@ -6,6 +6,3 @@ use Rattle.atom_lists.proofs.words.emit_run.Given as goal
 
 abbrev pub invariant-loop-word : goal.invariant-loop-word
 invariant-loop-word l = Emitting (each single (from l.first (l.end - l.first))) l.initial.out l.at (each single (from l.word (l.end - l.word))) l.out l.next
-
-abbrev pub decreases-loop-word : goal.decreases-loop-word
-decreases-loop-word l = l.end - l.word

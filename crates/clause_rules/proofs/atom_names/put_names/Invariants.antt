@@ -7,6 +7,3 @@ use Rattle.clause_rules.proofs.atom_names.put_names.Given as goal
 
 abbrev pub invariant-loop-atom : goal.invariant-loop-atom
 invariant-loop-atom l = Emitting (encode_names (clause_names l.atoms)) l.initial.bytes 0 (numbered_names clause_name l.atom l.atoms) l.bytes l.at
-
-abbrev pub decreases-loop-atom : goal.decreases-loop-atom
-decreases-loop-atom l = l.atoms - l.atom

@@ -8,6 +8,3 @@ use Rattle.descent.proofs.search.spares.Given as goal
 
 abbrev pub invariant-loop-i : goal.invariant-loop-i
 invariant-loop-i l = (l.i ≤ class_limit) × (spares_m l.of l.set (classes_in l.plan) ≡ spares_m l.of l.set (drop l.i (classes_in l.plan)))
-
-abbrev pub decreases-loop-i : goal.decreases-loop-i
-decreases-loop-i l = class_limit - l.i

@@ -6,6 +6,3 @@ use Rattle.flipping.proofs.breaking.breaks.Given as goal
 
 abbrev pub invariant-loop-i : goal.invariant-loop-i
 invariant-loop-i l = Passing l.words l.set l.body l.not l.end l.odd l.i (is_broken l.set (rule_at l.words))
-
-abbrev pub decreases-loop-i : goal.decreases-loop-i
-decreases-loop-i l = l.end - l.i

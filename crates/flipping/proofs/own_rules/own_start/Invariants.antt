@@ -4,6 +4,3 @@ use Rattle.flipping.proofs.own_rules.own_start.Given as goal
 
 abbrev pub invariant-loop-i : goal.invariant-loop-i
 invariant-loop-i l = Counting l.index l.atom l.at l.i
-
-abbrev pub decreases-loop-i : goal.decreases-loop-i
-decreases-loop-i l = l.atom - l.i

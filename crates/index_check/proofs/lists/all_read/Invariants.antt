@@ -5,6 +5,3 @@ use Rattle.index_check.proofs.lists.all_read.Given as goal
 
 abbrev pub invariant-loop-a : goal.invariant-loop-a
 invariant-loop-a l = Comparing l.next l.ends l.a
-
-abbrev pub decreases-loop-a : goal.decreases-loop-a
-decreases-loop-a l = length l.next - l.a

@@ -5,6 +5,3 @@ use Rattle.index_check.proofs.lists.rule_listed.Given as goal
 
 abbrev pub invariant-loop-i : goal.invariant-loop-i
 invariant-loop-i l = Reading l.atoms l.rule l.index l.initial.next l.ends l.initial.marks l.stamp l.next l.marks l.i
-
-abbrev pub decreases-loop-i : goal.decreases-loop-i
-decreases-loop-i l = length l.atoms - l.i

@@ -5,6 +5,3 @@ use Rattle.lines.proofs.scan.begins_at.Given as goal
 
 abbrev pub invariant-loop-i : goal.invariant-loop-i
 invariant-loop-i l = Matching l.s l.at l.tag l.i
-
-abbrev pub decreases-loop-i : goal.decreases-loop-i
-decreases-loop-i l = length l.tag - l.i

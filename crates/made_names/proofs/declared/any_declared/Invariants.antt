@@ -9,6 +9,3 @@ use Rattle.made_names.proofs.declared.any_declared.Given as goal
 
 abbrev pub invariant-loop-number : goal.invariant-loop-number
 invariant-loop-number l = (l.last ≤ atom_limit Preference) × Looking (λ t. among (decode_names (length l.starts) l.bytes) (made_name t)) l.made l.count l.last l.number
-
-abbrev pub decreases-loop-number : goal.decreases-loop-number
-decreases-loop-number l = suc l.last - l.number

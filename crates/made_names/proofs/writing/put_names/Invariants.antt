@@ -9,6 +9,3 @@ use Rattle.made_names.proofs.writing.put_names.Given as goal
 
 abbrev pub invariant-loop-number : goal.invariant-loop-number
 invariant-loop-number l = Emitting (encode_names (map made_name (from 1 l.count))) l.initial.out l.at (numbered_names made_name l.number (suc l.count)) l.out l.next
-
-abbrev pub decreases-loop-number : goal.decreases-loop-number
-decreases-loop-number l = suc l.count - l.number

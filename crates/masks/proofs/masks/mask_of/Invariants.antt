@@ -7,6 +7,3 @@ use Rattle.masks.proofs.masks.mask_of.Given as goal
 
 abbrev pub invariant-loop-i : goal.invariant-loop-i
 invariant-loop-i l = (l.i ≤ length l.atoms) × (place_mask l.n l.atoms ≡ bit_or l.m (place_mask l.n (drop l.i l.atoms)))
-
-abbrev pub decreases-loop-i : goal.decreases-loop-i
-decreases-loop-i l = length l.atoms - l.i

@@ -5,6 +5,3 @@ use Rattle.name_store.proofs.index.same_block.Given as goal
 
 abbrev pub invariant-loop-i : goal.invariant-loop-i
 invariant-loop-i l = Same l.a l.b 0 l.i l.same
-
-abbrev pub decreases-loop-i : goal.decreases-loop-i
-decreases-loop-i l = length l.a - l.i

@@ -6,6 +6,3 @@ use Rattle.name_store.proofs.index.same_from.Given as goal
 
 abbrev pub invariant-loop-i : goal.invariant-loop-i
 invariant-loop-i l = Same l.a l.b l.from l.i true
-
-abbrev pub decreases-loop-i : goal.decreases-loop-i
-decreases-loop-i l = length l.a - l.i

@@ -5,6 +5,3 @@ use Rattle.output.proofs.bytes.emit_each.Given as goal
 
 abbrev pub invariant-loop-i : goal.invariant-loop-i
 invariant-loop-i l = (l.i ≤ length l.bytes) × Emitting l.bytes l.initial.out l.at (drop l.i l.bytes) l.out l.next
-
-abbrev pub decreases-loop-i : goal.decreases-loop-i
-decreases-loop-i l = length l.bytes - l.i

@@ -5,6 +5,3 @@ use Rattle.output.proofs.words.emit_each.Given as goal
 
 abbrev pub invariant-loop-i : goal.invariant-loop-i
 invariant-loop-i l = (l.i ≤ length l.words) × Emitting l.words l.initial.out l.at (drop l.i l.words) l.out l.next
-
-abbrev pub decreases-loop-i : goal.decreases-loop-i
-decreases-loop-i l = length l.words - l.i

@@ -4,6 +4,3 @@ use Rattle.places.proofs.turning.turned.Given as goal
 
 abbrev pub invariant-loop-i : goal.invariant-loop-i
 invariant-loop-i l = Turned l.number l.atoms l.left l.r l.i
-
-abbrev pub decreases-loop-i : goal.decreases-loop-i
-decreases-loop-i l = l.atoms - l.i

@@ -5,6 +5,3 @@ use Rattle.placing.proofs.numbers.number_places.Given as goal
 
 abbrev pub invariant-loop-atom : goal.invariant-loop-atom
 invariant-loop-atom l = Numbering (placing l.first l.declared l.made) l.initial.numbers l.numbers l.atom
-
-abbrev pub decreases-loop-atom : goal.decreases-loop-atom
-decreases-loop-atom l = l.all - l.atom

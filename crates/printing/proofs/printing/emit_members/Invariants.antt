@@ -7,6 +7,3 @@ use Rattle.printing.proofs.printing.emit_members.Given as goal
 
 abbrev pub invariant-loop-atom : goal.invariant-loop-atom
 invariant-loop-atom l = Emitting (members (stored_names l.names l.starts) l.set 0 (length l.starts)) l.initial.out l.at (members (stored_names l.names l.starts) l.set l.atom (length l.starts)) l.out l.next
-
-abbrev pub decreases-loop-atom : goal.decreases-loop-atom
-decreases-loop-atom l = length l.starts - l.atom

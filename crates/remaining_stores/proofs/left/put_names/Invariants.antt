@@ -4,6 +4,3 @@ use Rattle.remaining_stores.proofs.left.put_names.Given as goal
 
 abbrev pub invariant-loop-i : goal.invariant-loop-i
 invariant-loop-i l = NamesLeft l.bytes l.n l.marks l.initial.out l.at l.out l.next l.from l.i
-
-abbrev pub decreases-loop-i : goal.decreases-loop-i
-decreases-loop-i l = l.n - l.i

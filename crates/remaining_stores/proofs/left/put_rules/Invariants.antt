@@ -6,6 +6,3 @@ use Rattle.remaining_stores.proofs.left.put_rules.Given as goal
 
 abbrev pub invariant-loop-i : goal.invariant-loop-i
 invariant-loop-i l = RulesLeft (moved_words l.numbers) (length l.numbers) l.count l.words l.initial.out l.at l.out l.next l.from l.i
-
-abbrev pub decreases-loop-i : goal.decreases-loop-i
-decreases-loop-i l = l.count - l.i

@@ -5,6 +5,3 @@ use Rattle.rule_adding.proofs.grown_index.grow_lists.Given as goal
 
 abbrev pub invariant-loop-a : goal.invariant-loop-a
 invariant-loop-a l = Growing l.index l.marks l.number l.initial.out l.out l.from l.next l.a
-
-abbrev pub decreases-loop-a : goal.decreases-loop-a
-decreases-loop-a l = length l.marks - l.a

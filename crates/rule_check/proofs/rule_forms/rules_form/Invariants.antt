@@ -5,6 +5,3 @@ use Rattle.rule_check.proofs.rule_forms.rules_form.Given as goal
 
 abbrev pub invariant-loop-i : goal.invariant-loop-i
 invariant-loop-i l = Passing l.words l.start l.kind l.atoms l.rules l.initial.marks l.marks l.at l.used l.i
-
-abbrev pub decreases-loop-i : goal.decreases-loop-i
-decreases-loop-i l = l.rules - l.i

@@ -5,6 +5,3 @@ use Rattle.rule_steps.proofs.rule_steps.step2.Given as goal
 
 abbrev pub invariant-loop-i : goal.invariant-loop-i
 invariant-loop-i l = RulesLeft (words2 l.minimised l.n) l.n l.count l.words l.initial.out l.at l.out l.next l.from l.i
-
-abbrev pub decreases-loop-i : goal.decreases-loop-i
-decreases-loop-i l = l.count - l.i

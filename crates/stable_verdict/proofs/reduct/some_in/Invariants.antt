@@ -7,6 +7,3 @@ use Rattle.stable_verdict.proofs.reduct.some_in.Given as goal
 
 abbrev pub invariant-loop-i : goal.invariant-loop-i
 invariant-loop-i l = some (has l.set) l.atoms ≡ some (has l.set) (drop l.i l.atoms)
-
-abbrev pub decreases-loop-i : goal.decreases-loop-i
-decreases-loop-i l = length l.atoms - l.i

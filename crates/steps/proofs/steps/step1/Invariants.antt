@@ -7,6 +7,3 @@ use Rattle.steps.proofs.steps.step1.Given as goal
 
 abbrev pub invariant-loop-a : goal.invariant-loop-a
 invariant-loop-a l = Emitting (each (words1 l.minimised l.n) (from 0 (l.n - 0))) l.initial.out l.at (each (words1 l.minimised l.n) (from l.a (l.n - l.a))) l.out l.next
-
-abbrev pub decreases-loop-a : goal.decreases-loop-a
-decreases-loop-a l = l.n - l.a

@@ -7,6 +7,3 @@ use Rattle.steps.proofs.steps.step6.Given as goal
 
 abbrev pub invariant-loop-a : goal.invariant-loop-a
 invariant-loop-a l = Emitting (each (words6 l.classes l.o) (from 0 (l.minimised - 0))) l.initial.out l.at (each (words6 l.classes l.o) (from l.a (l.minimised - l.a))) l.out l.next
-
-abbrev pub decreases-loop-a : goal.decreases-loop-a
-decreases-loop-a l = l.minimised - l.a

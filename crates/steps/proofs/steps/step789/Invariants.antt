@@ -7,6 +7,3 @@ use Rattle.steps.proofs.steps.step789.Given as goal
 
 abbrev pub invariant-loop-b : goal.invariant-loop-b
 invariant-loop-b l = Emitting (each (words789 l.u) (from l.first (l.end - l.first))) l.initial.out l.at (each (words789 l.u) (from l.b (l.end - l.b))) l.out l.next
-
-abbrev pub decreases-loop-b : goal.decreases-loop-b
-decreases-loop-b l = l.end - l.b

@@ -6,6 +6,3 @@ use Rattle.text.proofs.atoms.emit_atoms.Given as goal
 
 abbrev pub invariant-loop-i : goal.invariant-loop-i
 invariant-loop-i l = (l.i ≤ length l.atoms) × Emitting (atom_items (stored_names l.names l.starts) l.atoms) l.initial.out l.at (atom_items (stored_names l.names l.starts) (drop l.i l.atoms)) l.out l.next
-
-abbrev pub decreases-loop-i : goal.decreases-loop-i
-decreases-loop-i l = length l.atoms - l.i

@@ -6,6 +6,3 @@ use Rattle.text.proofs.atoms.emit_run.Given as goal
 
 abbrev pub invariant-loop-i : goal.invariant-loop-i
 invariant-loop-i l = Emitting (atom_items (stored_names l.names l.starts) (from l.first (l.end - l.first))) l.initial.out l.at (atom_items (stored_names l.names l.starts) (from l.i (l.end - l.i))) l.out l.next
-
-abbrev pub decreases-loop-i : goal.decreases-loop-i
-decreases-loop-i l = l.end - l.i

@@ -6,6 +6,3 @@ use Rattle.text.proofs.rule_lines.emit_rules.Given as goal
 
 abbrev pub invariant-loop-i : goal.invariant-loop-i
 invariant-loop-i l = RulesLeft (rule_item (stored_names l.names l.starts)) (length l.starts) l.count l.words l.initial.out l.at l.out l.next l.from l.i
-
-abbrev pub decreases-loop-i : goal.decreases-loop-i
-decreases-loop-i l = l.count - l.i

@@ -8,6 +8,3 @@ use Rattle.tidying.proofs.rule_lists.tidy_rules.Given as goal
 
 abbrev pub invariant-loop-i : goal.invariant-loop-i
 invariant-loop-i l = Tidying l.initial.words l.count l.words l.from l.i × (occurrence_limit Plain ≤ length l.scratch) × (length l.scratch ≡ length l.initial.scratch)
-
-abbrev pub decreases-loop-i : goal.decreases-loop-i
-decreases-loop-i l = l.count - l.i

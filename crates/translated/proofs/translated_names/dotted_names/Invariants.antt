@@ -4,6 +4,3 @@ use Rattle.translated.proofs.translated_names.dotted_names.Given as goal
 
 abbrev pub invariant-loop-i : goal.invariant-loop-i
 invariant-loop-i l = NamesLeft l.letter l.count l.bytes l.initial.out l.at l.out l.next l.from l.i
-
-abbrev pub decreases-loop-i : goal.decreases-loop-i
-decreases-loop-i l = l.count - l.i

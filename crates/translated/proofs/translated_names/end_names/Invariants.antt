@@ -7,6 +7,3 @@ use Rattle.translated.proofs.translated_names.end_names.Given as goal
 
 abbrev pub invariant-loop-j : goal.invariant-loop-j
 invariant-loop-j l = Emitting (each end_bytes (from 0 (l.k + 1 - 0))) l.initial.out l.at (each end_bytes (from l.j (l.k + 1 - l.j))) l.out l.next
-
-abbrev pub decreases-loop-j : goal.decreases-loop-j
-decreases-loop-j l = l.k + 1 - l.j

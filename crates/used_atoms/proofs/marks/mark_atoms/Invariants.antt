@@ -5,6 +5,3 @@ use Rattle.used_atoms.proofs.marks.mark_atoms.Given as goal
 
 abbrev pub invariant-loop-i : goal.invariant-loop-i
 invariant-loop-i l = AtomsLeft l.atoms l.initial.marks l.marks l.i
-
-abbrev pub decreases-loop-i : goal.decreases-loop-i
-decreases-loop-i l = length l.atoms - l.i
