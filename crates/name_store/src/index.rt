@@ -120,7 +120,13 @@ pub fn find_hashed(
 }
 
 // The number of a name; `starts` has a place for each atom.
-pub fn find(bytes: &[u8], starts: &[u16], firsts: &[u16], links: &[u16], name: &[u8]) -> Option<usize>
+pub fn find(
+    bytes: &[u8],
+    starts: &[u16],
+    firsts: &[u16],
+    links: &[u16],
+    name: &[u8],
+) -> Option<usize>
     requires { Indexed (decode_names (length starts.now) bytes.now) bytes.now starts.now firsts.now links.now }
     ensures { result ≡ found name.now (decode_names (length starts.now) bytes.now) }
 {
