@@ -2,6 +2,9 @@
 ghost use Rattle.std.specs.Prelude.{cond, not, ◌≡◌, ◌+◌, ◌*◌, ◌%◌, ◌≤◌, ◌<◌, [], length, get_or, drop, set};
 ghost use Rattle.name_store.specs.NameStore.{decode_names, same_bytes, among};
 ghost use Rattle.name_store.specs.NameIndex.{found, name_end, name_hash, buckets, Placed, Indexed};
+ghost use Rattle.name_store.specs.IndexedNames.{names_of};
+
+use crate::indexed::NameIndex;
 
 // The values of the hash.
 pub const BUCKETS: usize = 4096;
@@ -95,43 +98,30 @@ pub fn name_at<'a>(bytes: &'a [u8], starts: &[u16], atom: usize) -> &'a [u8]
     &bytes[from..to]
 }
 
-// The number of a name whose hash is known; `starts` has a place for each atom.
-pub fn find_hashed(
-    bytes: &[u8],
-    starts: &[u16],
-    firsts: &[u16],
-    links: &[u16],
-    name: &[u8],
-    h: usize,
-) -> Option<usize>
-    requires indexed { Indexed (decode_names (length starts.now) bytes.now) bytes.now starts.now firsts.now links.now }
-    requires h_value { h ≡ name_hash name.now }
-    ensures { result ≡ found name.now (decode_names (length starts.now) bytes.now) }
-{
-    let mut link = firsts[h] as usize;
-    while 0 < link {
-        let atom = link - 1;
-        if same_bytes(name_at(bytes, starts, atom), name) {
-            return Some(atom);
+impl<'a> NameIndex<'a> {
+    // The number of a name whose hash is known.
+    pub fn find_hashed(&self, name: &[u8], h: usize) -> Option<usize>
+        requires { h ≡ name_hash name.now }
+        ensures { result ≡ found name.now (names_of self.now) }
+    {
+        let mut link = self.firsts[h] as usize;
+        while 0 < link {
+            let atom = link - 1;
+            if same_bytes(name_at(self.bytes, self.starts, atom), name) {
+                return Some(atom);
+            }
+            link = self.links[atom] as usize;
         }
-        link = links[atom] as usize;
+        None
     }
-    None
-}
 
-// The number of a name; `starts` has a place for each atom.
-pub fn find(
-    bytes: &[u8],
-    starts: &[u16],
-    firsts: &[u16],
-    links: &[u16],
-    name: &[u8],
-) -> Option<usize>
-    requires { Indexed (decode_names (length starts.now) bytes.now) bytes.now starts.now firsts.now links.now }
-    ensures { result ≡ found name.now (decode_names (length starts.now) bytes.now) }
-{
-    let h = hash(name);
-    find_hashed(bytes, starts, firsts, links, name, h)
+    // The number of a name.
+    pub fn find(&self, name: &[u8]) -> Option<usize>
+        ensures { result ≡ found name.now (names_of self.now) }
+    {
+        let h = hash(name);
+        self.find_hashed(name, h)
+    }
 }
 
 // Enters the name of an atom, whose length byte stands at `at`.
@@ -171,7 +161,13 @@ pub fn enter_new(
     ensures firsts_after { firsts.new ≡ cond result (set firsts.old (name_hash name.now) (atom + 1)) firsts.old }
     ensures links_after { links.new ≡ cond result (set links.old atom (get_or firsts.old (name_hash name.now) 0)) links.old }
 {
-    let None = find(bytes, &starts[..atom], firsts, links, name) else {
+    let index = NameIndex {
+        bytes,
+        starts: &starts[..atom],
+        firsts,
+        links,
+    };
+    let None = index.find(name) else {
         return false;
     };
     enter(name, starts, firsts, links, atom, at);

@@ -1,4 +1,5 @@
 -- What holds of every entry of a list or of some entry, and lists made from lists.
+use Rattle.std.specs.Coded.{×_prop, Unit-prop}
 use Rattle.std.specs.List.{list_all, list_any}
 use Rattle.std.specs.Prelude.{ℕ, zero, suc, ◌+◌, List, [], ◌∷◌, ◌++◌, Bool, true, false, ◌&&◌, ◌||◌, ◌⊎◌, ◌≢◌, length, drop}
 
@@ -15,6 +16,14 @@ module _ {A : Type 0} where
   abbrev pub Distinct : List A → Type 0
   Distinct [] = Unit {0}
   Distinct (x ∷ xs) = All (λ y. x ≢ y) xs × Distinct xs
+
+  pub All-prop : {P : A → Type 0} → ((x : A) → IsProp (P x)) → (xs : List A) → IsProp (All P xs)
+  All-prop h [] = Unit-prop
+  All-prop h (x ∷ xs) = ×_prop (h x) (All-prop h xs)
+
+  pub Distinct-prop : (xs : List A) → IsProp (Distinct xs)
+  Distinct-prop [] = Unit-prop
+  Distinct-prop (x ∷ xs) = ×_prop (All-prop (λ y. Prim.hlevel) xs) (Distinct-prop xs)
 
   -- the tests
   abbrev pub every : (A → Bool) → List A → Bool

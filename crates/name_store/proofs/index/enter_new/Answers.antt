@@ -1,47 +1,12 @@
-use mathlib.Core.Path.{refl, sym}
-use Rattle.name_store.proofs.NameEntries.{length_filled, filled, found_new, found_old}
+use mathlib.Core.Path.{refl}
+use Rattle.name_store.proofs.NameEntries.{filled, found_new, found_old}
 use Rattle.name_store.proofs.index.enter_new.Goals as goal
 
-pub slice_bounds-find-end-2 : goal.slice_bounds-find-end-2
-slice_bounds-find-end-2 c = sym (length_filled c.args.atom c.requires.indexed)
+pub invariant_of-index : goal.invariant_of-index
+invariant_of-index c = record { indexed = filled c.args.atom c.requires.indexed }
 
-pub find-requires : goal.find-requires
-find-requires c = filled c.args.atom c.requires.indexed
+pub returns-in_default-clause-value : goal.returns-in_default-clause-value
+returns-in_default-clause-value c = found_old c.args.atom c.requires.indexed c.args.name.now c.find.ensures c.in_default.is
 
-pub shape_of-starts-in_default : goal.shape_of-starts-in_default
-shape_of-starts-in_default c = refl
-
-pub shape_of-firsts-in_default : goal.shape_of-firsts-in_default
-shape_of-firsts-in_default c = refl
-
-pub shape_of-links-in_default : goal.shape_of-links-in_default
-shape_of-links-in_default c = refl
-
-pub returns-in_default : goal.returns-in_default
-returns-in_default c =
-    let a = c.args in
-    record {
-      value = found_old a.atom c.requires.indexed a.name.now c.find.ensures c.in_default.is;
-      starts_after = refl;
-      firsts_after = refl;
-      links_after = refl;
-    }
-
-pub shape_of-starts : goal.shape_of-starts
-shape_of-starts c = c.enter.auto.starts
-
-pub shape_of-firsts : goal.shape_of-firsts
-shape_of-firsts c = c.enter.auto.firsts
-
-pub shape_of-links : goal.shape_of-links
-shape_of-links c = c.enter.auto.links
-
-pub returns : goal.returns
-returns c =
-    let a = c.args in
-    record {
-      value = found_new a.atom c.requires.indexed a.name.now c.find.ensures c.in-None.is;
-      starts_after = c.enter.ensures.starts_after;
-      firsts_after = c.enter.ensures.firsts_after;
-      links_after = c.enter.ensures.links_after;
-    }
+pub returns-clause-value : goal.returns-clause-value
+returns-clause-value c = found_new c.args.atom c.requires.indexed c.args.name.now c.find.ensures c.in-None.is
