@@ -26,7 +26,7 @@ pub struct Names {
 }
 
 // The word of a line that declares atoms.
-#[derive(Clone, Copy)]
+#[derive(Clone, Copy, PartialEq, Eq)]
 pub enum Keyword {
     Atoms,
     Min,
