@@ -2,6 +2,7 @@
 ghost use Rattle.std.specs.Prelude.{◌≡◌, ◌≤◌, ◌<◌, [], length, drop, replicate};
 ghost use Rattle.name_store.specs.NameStore.{name_bytes, decode_names, among};
 ghost use Rattle.name_store.specs.NameIndex.{Indexed, buckets};
+ghost use Rattle.name_store.specs.IndexedNames.{names_of};
 ghost use Rattle.output.specs.Emitted.{Emitted, InRange};
 ghost use Rattle.rules.specs.Lists.{some};
 ghost use Rattle.lines.specs.Tokens.{items};
@@ -12,6 +13,7 @@ use kinds::limits::Plain;
 use lines::scan;
 use lines::scan::Item;
 use name_store::index;
+use name_store::indexed::NameIndex;
 use output::bytes::{emit, push};
 
 // All names of a line are entered: so many atoms and bytes are in the store now.
@@ -96,17 +98,9 @@ pub fn enter_names(
 }
 
 // Whether a name from `from` on is in the index.
-pub fn any_known(
-    line: &[u8],
-    from: usize,
-    bytes: &[u8],
-    starts: &[u16],
-    firsts: &[u16],
-    links: &[u16],
-) -> bool
-    requires from_in_bounds { from ≤ length line.now }
-    requires indexed { Indexed (decode_names (length starts.now) bytes.now) bytes.now starts.now firsts.now links.now }
-    ensures { result ≡ some (among (decode_names (length starts.now) bytes.now)) (items (drop from line.now)) }
+pub fn any_known(line: &[u8], from: usize, names: &NameIndex) -> bool
+    requires { from ≤ length line.now }
+    ensures { result ≡ some (among (names_of names.now)) (items (drop from line.now)) }
 {
     let mut i = from;
     loop {
@@ -115,7 +109,7 @@ pub fn any_known(
         };
         let start = i + gap;
         let to = start + size;
-        let None = index::find(bytes, starts, firsts, links, &line[start..to]) else {
+        let None = names.find(&line[start..to]) else {
             return true;
         };
         i = to;
@@ -148,7 +142,13 @@ pub fn any_twice(
             Ok(_) => return false,
             Err(Unentered::Twice) => return true,
             Err(Unentered::Full { at: rest }) => {
-                if any_known(line, rest, bytes, starts, firsts, links) {
+                let names = NameIndex {
+                    bytes,
+                    starts,
+                    firsts,
+                    links,
+                };
+                if any_known(line, rest, &names) {
                     return true;
                 }
                 at = rest;

@@ -2,13 +2,14 @@
 ghost use Rattle.std.specs.Prelude.{◌≡◌, ◌+◌, ◌*◌, ◌^◌, ◌≤◌, ◌<◌, eqb, length, get_or, set};
 ghost use Rattle.name_store.specs.NameStore.{decode_names};
 ghost use Rattle.name_store.specs.NameIndex.{Indexed};
+ghost use Rattle.name_store.specs.IndexedNames.{names_of};
 ghost use Rattle.stores.specs.Checking.{Below};
 ghost use Rattle.numbering.specs.Numbers.{NumbersAre, ListsAre, RuleIs};
 
 use crate::hashed_items::{HashedItem, hashed_item_at};
 use lines::forms::{any, closes_line};
 use lines::scan;
-use name_store::index;
+use name_store::indexed::NameIndex;
 use output::words::push;
 
 // A list up to its closing bracket: the places behind it and behind its numbers, and whether a name stands twice in it.
@@ -44,19 +45,15 @@ pub fn mark(marks: &mut [u16], atom: usize, stamp: u16) -> bool
 pub fn numbers_at(
     line: &[u8],
     from: usize,
-    bytes: &[u8],
-    starts: &[u16],
-    firsts: &[u16],
-    links: &[u16],
+    names: &NameIndex,
     marks: &mut [u16],
     stamp: u16,
     out: &mut [u16],
     at: usize,
 ) -> Option<Numbers>
-    requires from_in_bounds { (from ≤ length line.now) × (length starts.now ≤ 65535) × (length starts.now ≤ length marks.old) × (at + length line.now < 2 ^ 63) }
-    requires indexed { Indexed (decode_names (length starts.now) bytes.now) bytes.now starts.now firsts.now links.now }
+    requires from_in_bounds { (from ≤ length line.now) × (length names.now.starts.now ≤ 65535) × (length names.now.starts.now ≤ length marks.old) × (at + length line.now < 2 ^ 63) }
     requires below { Below stamp marks.old }
-    ensures { NumbersAre (decode_names (length starts.now) bytes.now) line.now from stamp out.old at marks.new out.new result }
+    ensures { NumbersAre (names_of names.now) line.now from stamp out.old at marks.new out.new result }
 {
     let mut i = from;
     let mut end = at;
@@ -68,7 +65,7 @@ pub fn numbers_at(
         };
         let start = i + gap;
         let to = start + size;
-        let atom = index::find_hashed(bytes, starts, firsts, links, &line[start..to], hash)?;
+        let atom = names.find_hashed(&line[start..to], hash)?;
         if mark(marks, atom, stamp) {
             twice = true;
         }
@@ -81,50 +78,22 @@ pub fn numbers_at(
 fn lists_at(
     line: &[u8],
     from: usize,
-    bytes: &[u8],
-    starts: &[u16],
-    firsts: &[u16],
-    links: &[u16],
+    names: &NameIndex,
     marks: &mut [u16],
     stamp: u16,
     out: &mut [u16],
     at: usize,
 ) -> Option<RuleCounts>
-    requires from_in_bounds { (from ≤ length line.now) × (length starts.now ≤ 65535) × (length starts.now ≤ length marks.old) × (at + 3 * length line.now < 2 ^ 63) × (stamp + 2 < 65536) }
-    requires indexed { Indexed (decode_names (length starts.now) bytes.now) bytes.now starts.now firsts.now links.now }
+    requires from_in_bounds { (from ≤ length line.now) × (length names.now.starts.now ≤ 65535) × (length names.now.starts.now ≤ length marks.old) × (at + 3 * length line.now < 2 ^ 63) × (stamp + 2 < 65536) }
     requires below { Below stamp marks.old }
-    ensures { ListsAre (decode_names (length starts.now) bytes.now) line.now from stamp out.old at marks.new out.new result }
+    ensures { ListsAre (names_of names.now) line.now from stamp out.old at marks.new out.new result }
 {
     let head = scan::opened_at(line, from, b"head")?;
-    let heads = numbers_at(
-        line, head, bytes, starts, firsts, links, marks, stamp, out, at,
-    )?;
+    let heads = numbers_at(line, head, names, marks, stamp, out, at)?;
     let body = scan::opened_at(line, heads.place, b"body")?;
-    let bodies = numbers_at(
-        line,
-        body,
-        bytes,
-        starts,
-        firsts,
-        links,
-        marks,
-        stamp + 1,
-        out,
-        heads.end,
-    )?;
+    let bodies = numbers_at(line, body, names, marks, stamp + 1, out, heads.end)?;
     let not = scan::opened_at(line, bodies.place, b"not")?;
-    let nots = numbers_at(
-        line,
-        not,
-        bytes,
-        starts,
-        firsts,
-        links,
-        marks,
-        stamp + 2,
-        out,
-        bodies.end,
-    )?;
+    let nots = numbers_at(line, not, names, marks, stamp + 2, out, bodies.end)?;
     let twice = any(heads.twice, bodies.twice, nots.twice);
     Some(RuleCounts {
         place: nots.place,
@@ -139,24 +108,18 @@ fn lists_at(
 // A rule's line with all names declared: their numbers are written.
 pub fn rule_numbers(
     line: &[u8],
-    bytes: &[u8],
-    starts: &[u16],
-    firsts: &[u16],
-    links: &[u16],
+    names: &NameIndex,
     marks: &mut [u16],
     stamp: u16,
     out: &mut [u16],
     at: usize,
 ) -> Option<RuleCounts>
-    requires starts_len_bound { (length starts.now ≤ 65535) × (length starts.now ≤ length marks.old) × (at + 3 * length line.now < 2 ^ 63) × (stamp + 2 < 65536) }
-    requires indexed { Indexed (decode_names (length starts.now) bytes.now) bytes.now starts.now firsts.now links.now }
+    requires starts_len_bound { (length names.now.starts.now ≤ 65535) × (length names.now.starts.now ≤ length marks.old) × (at + 3 * length line.now < 2 ^ 63) × (stamp + 2 < 65536) }
     requires below { Below stamp marks.old }
-    ensures { RuleIs (decode_names (length starts.now) bytes.now) line.now stamp out.old at marks.new out.new result }
+    ensures { RuleIs (names_of names.now) line.now stamp out.old at marks.new out.new result }
 {
     let from = scan::opened_at(line, 0, b"rule")?;
-    let counts = lists_at(
-        line, from, bytes, starts, firsts, links, marks, stamp, out, at,
-    )?;
+    let counts = lists_at(line, from, names, marks, stamp, out, at)?;
     if !closes_line(line, counts.place) {
         return None;
     }

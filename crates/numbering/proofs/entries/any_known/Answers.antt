@@ -4,7 +4,7 @@ use native.Mathlib.Omega.{arith}
 use Rattle.numbering.proofs.entries.any_known.Goals as goal
 
 pub loop-gap-init : goal.loop-gap-init
-loop-gap-init c = looking _ _ _ c.requires.from_in_bounds
+loop-gap-init c = looking _ _ _ c.requires
 
 pub returns-in_default : goal.returns-in_default
 returns-in_default c = none_known c.loop-gap.invariant c.item_at.ensures c.in_default.is
@@ -17,9 +17,6 @@ overflow_add-to c = omega (arith, look_inside c.loop-gap.invariant c.item_at.ens
 
 pub slice_bounds-find-end : goal.slice_bounds-find-end
 slice_bounds-find-end c = omega (arith, look_inside c.loop-gap.invariant c.item_at.ensures c.in-Some.is)
-
-pub find-requires : goal.find-requires
-find-requires c = c.requires.indexed
 
 pub returns-in_default-find : goal.returns-in_default-find
 returns-in_default-find c = one_known c.loop-gap.invariant c.item_at.ensures c.in-Some.is c.find.ensures c.in_default-find.is

@@ -5,7 +5,7 @@ use Rattle.numbering.proofs.Entering.{Looking}
 use Rattle.numbering.proofs.entries.any_known.Given as goal
 
 abbrev pub invariant-loop-gap : goal.invariant-loop-gap
-invariant-loop-gap l = Looking (decode_names (length l.starts) l.bytes) l.line l.from l.i
+invariant-loop-gap l = Looking (decode_names (length l.names.starts.now) l.names.bytes.now) l.line l.from l.i
 
 abbrev pub decreases-loop-gap : goal.decreases-loop-gap
 decreases-loop-gap l = length l.line - l.i

@@ -46,12 +46,11 @@ shape_of-links-in-Err-Twice c = c.enter_names.auto.links ∙ c.loop-rest.invaria
 pub returns-in-Err-Twice : goal.returns-in-Err-Twice
 returns-in-Err-Twice c = block_twice c.loop-rest.invariant.4 c.enter_names.ensures (c.in-Err-Twice.is ∙ ap Err c.in-Err-Twice.field-0-is)
 
+pub invariant_of-names : goal.invariant_of-names
+invariant_of-names c = record { indexed = rest_index c.loop-rest.invariant.4 c.enter_names.ensures (c.in-Err-Full.is ∙ ap Err c.in-Err-Full.field-0-is) c.enter_names.auto.bytes c.enter_names.auto.starts c.enter_names.auto.links }
+
 pub any_known-requires : goal.any_known-requires
-any_known-requires c =
-    record {
-      from_in_bounds = rest_inside c.loop-rest.invariant.4 c.enter_names.ensures (c.in-Err-Full.is ∙ ap Err c.in-Err-Full.field-0-is) c.enter_names.auto.bytes c.enter_names.auto.starts c.enter_names.auto.links;
-      indexed = rest_index c.loop-rest.invariant.4 c.enter_names.ensures (c.in-Err-Full.is ∙ ap Err c.in-Err-Full.field-0-is) c.enter_names.auto.bytes c.enter_names.auto.starts c.enter_names.auto.links;
-    }
+any_known-requires c = rest_inside c.loop-rest.invariant.4 c.enter_names.ensures (c.in-Err-Full.is ∙ ap Err c.in-Err-Full.field-0-is) c.enter_names.auto.bytes c.enter_names.auto.starts c.enter_names.auto.links
 
 pub shape_of-bytes-then-any_known : goal.shape_of-bytes-then-any_known
 shape_of-bytes-then-any_known c = c.enter_names.auto.bytes ∙ c.loop-rest.invariant.0

@@ -10,7 +10,7 @@ use Rattle.numbering.proofs.numbers.numbers_at.Goals as goal
 use Rattle.numbering.proofs.numbers.numbers_at.Goals.{else-mark, then-mark}
 
 pub loop-gap-init : goal.loop-gap-init
-loop-gap-init c = (refl, refl, numbering _ _ _ _ _ _ _ c.requires.from_in_bounds.0 (omega (arith, c.requires.from_in_bounds.2, length_decode (length c.args.starts.now) c.args.bytes.now)) c.requires.from_in_bounds.3 c.requires.below)
+loop-gap-init c = (refl, refl, numbering _ _ _ _ _ _ _ c.requires.from_in_bounds.0 (omega (arith, c.requires.from_in_bounds.2, length_decode (length c.args.names.now.starts.now) c.args.names.now.bytes.now)) c.requires.from_in_bounds.3 c.requires.below)
 
 pub hashed_item_at-requires : goal.hashed_item_at-requires
 hashed_item_at-requires c = c.loop-gap.invariant.2.inside
@@ -40,11 +40,7 @@ pub slice_bounds-find_hashed-end : goal.slice_bounds-find_hashed-end
 slice_bounds-find_hashed-end c = omega (arith, number_inside c.loop-gap.invariant.2 refl (hashed_item_lem c.args.line.now c.loop-gap.i c.hashed_item_at.ensures c.in-Some.is))
 
 pub find_hashed-requires : goal.find_hashed-requires
-find_hashed-requires c =
-    record {
-      indexed = c.requires.indexed;
-      h_value = hashed_name c.args.line.now c.loop-gap.i c.hashed_item_at.ensures c.in-Some.is;
-    }
+find_hashed-requires c = hashed_name c.args.line.now c.loop-gap.i c.hashed_item_at.ensures c.in-Some.is
 
 pub returns-in_err-atom : goal.returns-in_err-atom
 returns-in_err-atom c = rw c.from_residual-in_err-atom.ensures (not_declared c.loop-gap.invariant.2 refl (hashed_item_lem c.args.line.now c.loop-gap.i c.hashed_item_at.ensures c.in-Some.is) c.find_hashed.ensures c.in_err-atom.was)
@@ -53,7 +49,7 @@ pub mark-requires : goal.mark-requires
 mark-requires c = atom_marked c.loop-gap.invariant.2 refl (hashed_item_lem c.args.line.now c.loop-gap.i c.hashed_item_at.ensures c.in-Some.is) c.find_hashed.ensures c.in_ok-atom.was
 
 pub overflow_cast-atom : goal.overflow_cast-atom
-overflow_cast-atom c = omega (arith, (known_name c.loop-gap.invariant.2 refl (hashed_item_lem c.args.line.now c.loop-gap.i c.hashed_item_at.ensures c.in-Some.is) c.find_hashed.ensures c.in_ok-atom.was).below, c.requires.from_in_bounds.1, length_decode (length c.args.starts.now) c.args.bytes.now)
+overflow_cast-atom c = omega (arith, (known_name c.loop-gap.invariant.2 refl (hashed_item_lem c.args.line.now c.loop-gap.i c.hashed_item_at.ensures c.in-Some.is) c.find_hashed.ensures c.in_ok-atom.was).below, c.requires.from_in_bounds.1, length_decode (length c.args.names.now.starts.now) c.args.names.now.bytes.now)
 
 pub push-end-requires : goal.push-end-requires
 push-end-requires c = word_range c.loop-gap.invariant.2 refl (hashed_item_lem c.args.line.now c.loop-gap.i c.hashed_item_at.ensures c.in-Some.is) c.find_hashed.ensures c.in_ok-atom.was _

@@ -6,7 +6,7 @@ use Rattle.numbering.proofs.NameNumbers.{Numbering}
 use Rattle.numbering.proofs.numbers.numbers_at.Given as goal
 
 abbrev pub invariant-loop-gap : goal.invariant-loop-gap
-invariant-loop-gap l = (length l.marks ≡ length l.initial.marks) × (length l.out ≡ length l.initial.out) × Numbering (decode_names (length l.starts) l.bytes) l.line l.from l.stamp l.initial.out l.at l.i l.end l.twice l.marks l.out
+invariant-loop-gap l = (length l.marks ≡ length l.initial.marks) × (length l.out ≡ length l.initial.out) × Numbering (decode_names (length l.names.starts.now) l.names.bytes.now) l.line l.from l.stamp l.initial.out l.at l.i l.end l.twice l.marks l.out
 
 abbrev pub decreases-loop-gap : goal.decreases-loop-gap
 decreases-loop-gap l = length l.line - l.i
