@@ -15,7 +15,7 @@ use Rattle.name_store.specs.NameStore.{same_bytes}
 use Rattle.name_store.proofs.ByteLoops.{other_length}
 use Rattle.name_store.proofs.NameStores.{same_law}
 use Rattle.rules.proofs.Booleans.{is_true_lem}
-use Rattle.std.specs.Prelude.{Option, Some, None}
+use Rattle.std.specs.Prelude.{Some, None}
 use Rattle.lines.specs.declared.scan.Bracket.TheVariants as Bracket
 use Rattle.lines.specs.Tokens.{word, is_ending, is_delimiter, run, tokens, tokens_from}
 use Rattle.lines.specs.Forms.{unopened, opened_by, opened_of}

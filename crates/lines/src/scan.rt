@@ -39,27 +39,17 @@ pub fn is_delimiter(b: u8) -> bool
 fn has_line_end(bytes: &[u8]) -> bool
     ensures { result ≡ some (λ b. eqb b line_end_lem) bytes.now }
 {
-    let mut found = false;
-    for i in 0..bytes.len() {
-        if bytes[i] == b'\n' {
-            found = true;
-        }
-    }
-    found
+    bytes.contains(&b'\n')
 }
 
 fn line_by_bytes(s: &[u8], at: usize) -> usize
     requires { at ≤ length s.now }
     ensures { result ≡ line_length (drop at s.now) }
 {
-    let mut i = at;
-    while i < s.len() {
-        if s[i] == b'\n' {
-            return i + 1 - at;
-        }
-        i += 1;
-    }
-    i - at
+    let rest = &s[at..];
+    rest.iter()
+        .position(|b| *b == b'\n')
+        .map_or(rest.len(), |i| i + 1)
 }
 
 // The length of the line at `at`, its end included.
@@ -93,14 +83,10 @@ pub fn run_at(s: &[u8], at: usize) -> usize
     requires { at ≤ length s.now }
     ensures { result ≡ run (drop at s.now) }
 {
-    let mut i = at;
-    while i < s.len() {
-        if is_delimiter(s[i]) {
-            return i - at;
-        }
-        i += 1;
-    }
-    i - at
+    let rest = &s[at..];
+    rest.iter()
+        .position(|b| is_delimiter(*b))
+        .unwrap_or(rest.len())
 }
 
 // How many spaces stand from `at` on.
@@ -108,14 +94,8 @@ pub fn gap_at(s: &[u8], at: usize) -> usize
     requires { at ≤ length s.now }
     ensures { result ≡ gap (drop at s.now) }
 {
-    let mut i = at;
-    while i < s.len() {
-        if s[i] != b' ' {
-            return i - at;
-        }
-        i += 1;
-    }
-    i - at
+    let rest = &s[at..];
+    rest.iter().position(|b| *b != b' ').unwrap_or(rest.len())
 }
 
 // The item at `at`, unless anything else stands there.
@@ -187,16 +167,7 @@ pub fn begins_at(s: &[u8], at: usize, tag: &[u8]) -> bool
     requires { at ≤ length s.now }
     ensures { result ≡ begins tag.now (drop at s.now) }
 {
-    if s.len() - at < tag.len() {
-        return false;
-    }
-    for i in 0..tag.len() {
-        let place = at + i;
-        if s[place] != tag[i] {
-            return false;
-        }
-    }
-    true
+    s[at..].starts_with(tag)
 }
 
 // Whether `word` stands at `at`, with no byte more.
