@@ -5,6 +5,7 @@ use mathlib.Core.Path.{◌≡◌, refl, sym, ap, ◌∙◌, subst}
 use mathlib.Core.Bool.{Bool, cond}
 use mathlib.Core.List.{List}
 use lib.ListN.{length, drop}
+use Rattle.std.specs.Prelude.{Some, None}
 use Rattle.kinds.specs.Words.{open_bracket, close_bracket}
 use Rattle.name_store.specs.NameStore.{among}
 use Rattle.name_store.specs.NameIndex.{found}
@@ -27,7 +28,6 @@ use Rattle.condition_scan.specs.declared.sorts.Sort.{Sort}
 use Rattle.condition_scan.specs.declared.sorts.Sort.TheVariants as Sort
 use Rattle.condition_scan.specs.declared.scan.Symbol.{Symbol}
 use Rattle.condition_scan.specs.declared.scan.Symbol.TheVariants as Symbol
-use Rattle.condition_scan.specs.declared.scan.Step.TheVariants as Step
 use Rattle.condition_scan.specs.Sorts.{word_sort}
 use Rattle.condition_scan.specs.Scans.{symbol_by, word_symbol, StepIs}
 
@@ -62,17 +62,17 @@ module _ (s : List ℕ) (at : ℕ) {q : Bracket} (c : BracketIs s at q) {p : ℕ
 
 module _ (names : List (List ℕ)) (s : List ℕ) (at : ℕ) {r : HashedItem} (e : r ≡ hashed_item (drop at s)) where
   module _ (d : r ≡ Stop) {q : Bracket} (c : BracketIs s at q) where
-    pub opening_step : {p : ℕ} → q ≡ Bracket.Opening p → StepIs names s at (Step.To (p + 1) Symbol.Opening)
+    pub opening_step : {p : ℕ} → q ≡ Bracket.Opening p → StepIs names s at (Some (record { to = (p + 1); symbol = Symbol.Opening }))
     opening_step {p} f =
         let h : ByteBehind s at open_bracket p = subst (BracketSays s at) f c.says in
         record { says = record { token = opening; onward = omega (arith, h.place); inside = omega (arith, h.inside); is = opening_is h refl; is_symbol = refl } }
 
-    pub closing_step : {p : ℕ} → q ≡ Bracket.Closing p → StepIs names s at (Step.To (p + 1) Symbol.Closing)
+    pub closing_step : {p : ℕ} → q ≡ Bracket.Closing p → StepIs names s at (Some (record { to = (p + 1); symbol = Symbol.Closing }))
     closing_step {p} f =
         let h : ByteBehind s at close_bracket p = subst (BracketSays s at) f c.says in
         record { says = record { token = closing; onward = omega (arith, h.place); inside = omega (arith, h.inside); is = closing_is h refl; is_symbol = refl } }
 
-    pub end_step : q ≡ Bracket.Absent → StepIs names s at Step.End
+    pub end_step : q ≡ Bracket.Absent → StepIs names s at None
     end_step f = record { says = nothing_left s at refl (hashed_end s at e d) c f }
 
   module _ {g n h : ℕ} (d : r ≡ At g n h) where
@@ -85,6 +85,6 @@ module _ (names : List (List ℕ)) (s : List ℕ) (at : ℕ) {r : HashedItem} (e
     abbrev x : List ℕ
     x = item s at refl is_item
 
-    pub word_step : {y : Symbol} → y ≡ word_symbol names x → StepIs names s at (Step.To (at + g + n) y)
+    pub word_step : {y : Symbol} → y ≡ word_symbol names x → StepIs names s at (Some (record { to = (at + g + n); symbol = y }))
     word_step f =
         record { says = record { token = word x; onward = omega (arith, item_long s at refl is_item); inside = step_inside; is = word_is s at refl is_item; is_symbol = f } }

@@ -11,9 +11,6 @@ loop-number-init c = names_begin _ _ _ c.requires.1
 pub put_name-next-requires : goal.put_name-next-requires
 put_name-next-requires c = range_here c.loop-number.invariant (names_next _ _ (omega arith))
 
-pub overflow_add-number : goal.overflow_add-number
-overflow_add-number c = omega (arith, c.requires.0)
-
 pub loop-number-smaller : goal.loop-number-smaller
 loop-number-smaller c = omega arith
 
