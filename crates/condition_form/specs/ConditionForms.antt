@@ -3,14 +3,13 @@ use Rattle.std.specs.Prelude.{ℕ, zero, suc, ◌+◌, ◌-◌, ◌≤◌, ◌�
 use Rattle.kinds.specs.Words.{open_bracket, close_bracket}
 use Rattle.kinds.specs.declared.limits.Kind.{Kind}
 use Rattle.rules.specs.Lists.{some, is_empty}
-use Rattle.lines.specs.declared.scan.Item.TheVariants as Item
 use Rattle.lines.specs.declared.forms.NameFit.{NameFit}
 use Rattle.lines.specs.declared.forms.NameFit.TheVariants as Fit
 use Rattle.lines.specs.Tokens.{Token, opening, closing, word, tokens}
 use Rattle.lines.specs.Conditions.{words_in, names_in, pairs}
 use Rattle.lines.specs.Forms.{LineForm, condition, broken, when_form, are_names, named}
 use Rattle.lines.specs.Faults.{refused_name}
-use Rattle.lines.specs.Shapes.{item_of, name_fit, ByteBehind, then_tokens}
+use Rattle.lines.specs.Shapes.{spaced, item_of, name_fit, ByteBehind, then_tokens}
 use Rattle.condition_form.specs.declared.condition.Standing.{Standing}
 use Rattle.condition_form.specs.declared.condition.Standing.TheVariants as Standing
 use Rattle.condition_form.specs.declared.condition.Walk.{Walk}
@@ -25,7 +24,7 @@ between from to l = take (to - from) (drop from l)
 pub record WordUpTo (kind : Kind) (s : List ℕ) (at to : ℕ) (fit : NameFit) : Type 0 where
   pub gap : ℕ
   pub size : ℕ
-  pub item : item_of (drop at s) ≡ Item.At gap size
+  pub item : item_of (drop at s) ≡ spaced gap size
   pub place : to ≡ at + gap + size
   pub fits : name_fit kind (between (at + gap) (at + gap + size) s) ≡ fit
 

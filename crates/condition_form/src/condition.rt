@@ -8,7 +8,7 @@ ghost use Rattle.condition_form.specs.ConditionForms.{StandingIs, WalkIs, ThenIs
 
 use kinds::limits::Kind;
 use lines::forms::NameFit;
-use lines::scan::{Bracket, Item, Place};
+use lines::scan::{Bracket, Item};
 use lines::{forms, scan};
 
 // What stands at a place: a bracket there, or a name up to a place.
@@ -49,7 +49,7 @@ fn standing_at(line: &[u8], at: usize, kind: Kind) -> Option<Standing>
     requires { at ≤ length line.now }
     ensures { StandingIs kind line.now at result }
 {
-    let Item::At { gap, size } = scan::item_at(line, at) else {
+    let Some(Item { gap, size }) = scan::item_at(line, at) else {
         return match scan::bracket_at(line, at) {
             Bracket::Opening(place) => Some(Standing::Opening(place)),
             Bracket::Closing(place) => Some(Standing::Closing(place)),
@@ -106,21 +106,12 @@ fn then_at(line: &[u8], at: usize) -> Option<Then>
     requires { at ≤ length line.now }
     ensures { ThenIs line.now at result }
 {
-    let Place::At(behind) = scan::opened_at(line, at, b"then") else {
-        return None;
-    };
-    let Item::At { gap, size } = scan::item_at(line, behind) else {
-        return None;
-    };
+    let behind = scan::opened_at(line, at, b"then")?;
+    let Item { gap, size } = scan::item_at(line, behind)?;
     let start = behind + gap;
     let end = start + size;
-    let Place::At(closed) = scan::closed_at(line, end) else {
-        return None;
-    };
-    if forms::closes_line(line, closed) {
-        return Some(Then { start, end });
-    }
-    None
+    let closed = scan::closed_at(line, end)?;
+    forms::closes_line(line, closed).then_some(Then { start, end })
 }
 
 pub fn condition_at(line: &[u8], kind: Kind) -> Option<ConditionPlaces>
@@ -130,9 +121,7 @@ pub fn condition_at(line: &[u8], kind: Kind) -> Option<ConditionPlaces>
     if !scan::is_ended(line) {
         return None;
     }
-    let Place::At(from) = scan::opened_at(line, 0, b"when") else {
-        return None;
-    };
+    let from = scan::opened_at(line, 0, b"when")?;
     let walk = form_from(line, from, kind)?;
     let then = then_at(line, walk.last)?;
     Some(ConditionPlaces {
