@@ -8,7 +8,8 @@ use mathlib.Core.Bool.{Bool, true, false, cond, ◌&&◌, ◌||◌}
 use mathlib.Core.List.{List, [], ◌∷◌, ◌++◌}
 use lib.ListN.{length, take, drop}
 use lib.Seq.{drop-drop}
-use Rattle.std.specs.Prelude.{Option, Some, None}
+use Rattle.std.specs.Prelude.{Some, None}
+use Rattle.std.specs.Bool.{then_some}
 use Rattle.kinds.specs.Words.{open_bracket, close_bracket}
 use Rattle.kinds.specs.declared.limits.Kind.{Kind}
 use Rattle.names.specs.Names.{name_class, allowed}
@@ -26,7 +27,6 @@ use Rattle.lines.proofs.TokenCuts.{reach, tokens_cut, from_there, opening_is, cl
 use Rattle.lines.proofs.NameLists.{fit_says}
 use Rattle.lines.proofs.ConditionLines.{when_broken, then_names}
 use Rattle.condition_form.specs.declared.condition.Standing.{Standing}
-use Rattle.condition_form.specs.declared.condition.Standing.TheVariants as Standing
 use Rattle.condition_form.specs.ConditionForms.{between, WordUpTo, StandingSays, StandingIs, one_form, from_last, WalkIs}
 
 -- a form that ends with `(then a))`
@@ -173,7 +173,7 @@ module _ {kind : Kind} {l : List ℕ} {from at last depth : ℕ} {refused : Bool
       unfolding one_form
       ends = sym h.one ∙ ap₂ one_form d closed ∙ sym f
 
-      pub form_ends : b ≡ true → WalkIs kind l from (Some (record { last = last; refused = refused }))
+      form_ends : b ≡ true → WalkIs kind l from (Some (record { last = last; refused = refused }))
       unfolding from_last words_in
       form_ends t =
           let all : tokens (drop at l) ≡ closing ∷ [] = closed ∙ ap (λ ts. closing ∷ ts) (none (tokens (drop (p + 1) l)) (sym f ∙ t)) in
@@ -193,8 +193,15 @@ module _ {kind : Kind} {l : List ℕ} {from at last depth : ℕ} {refused : Bool
           none [] n = refl
           none (t ∷ ts) n = absurd (let z : ◌≡◌ {A = ℕ} 0 1 = cc in omega arith)
 
-      pub form_ends_early : b ≡ false → WalkIs kind l from None
+      form_ends_early : b ≡ false → WalkIs kind l from None
       form_ends_early t = record { says = no_form (tokens (drop from l)) (ends ∙ t) }
+
+      pub form_closes : WalkIs kind l from (then_some b (record { last = last; refused = refused }))
+      form_closes = go b refl
+        where
+          go : (x : Bool) → b ≡ x → WalkIs kind l from (then_some x (record { last = last; refused = refused }))
+          go true t = form_ends t
+          go false t = form_ends_early t
 
   -- a name
   module _ {to : ℕ} {fit : NameFit} (w : WordUpTo kind l at to fit) where

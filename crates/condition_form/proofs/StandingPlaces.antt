@@ -9,7 +9,6 @@ use Rattle.std.specs.Prelude.{Option, Some, None}
 use Rattle.kinds.specs.declared.limits.Kind.{Kind}
 use Rattle.lines.specs.declared.scan.Item.{Item}
 use Rattle.lines.specs.declared.scan.Bracket.{Bracket}
-use Rattle.lines.specs.declared.scan.Bracket.TheVariants as Bracket
 use Rattle.lines.specs.declared.forms.NameFit.{NameFit}
 use Rattle.lines.specs.declared.forms.NameFit.TheVariants as Fit
 use Rattle.lines.specs.Tokens.{tokens}

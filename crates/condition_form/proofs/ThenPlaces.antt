@@ -21,7 +21,7 @@ use Rattle.lines.proofs.TokenPlaces.{items_end, item_fits, word_is}
 use Rattle.lines.proofs.ConditionLines.{when_form_lem, when_broken, then_names, then_refused}
 use Rattle.condition_form.specs.declared.condition.Walk.{Walk}
 use Rattle.condition_form.specs.declared.condition.Then.{Then}
-use Rattle.condition_form.specs.ConditionForms.{between, one_form, from_last, Walked, WalkSays, WalkIs, ThenAt, ThenSays, ThenIs, ConditionAt}
+use Rattle.condition_form.specs.ConditionForms.{between, one_form, from_last, Walked, WalkIs, ThenAt, ThenIs, ConditionAt}
 use Rattle.condition_form.proofs.FormWalks.{one_pairs, last_then}
 
 opened_tokens : (ts : List Token) {w : List ℕ} {us : List Token} → opened_of ts ≡ opened w us → ts ≡ opening ∷ word w ∷ us

@@ -11,7 +11,6 @@ use Rattle.lines.specs.Forms.{LineForm, condition, broken, when_form, are_names,
 use Rattle.lines.specs.Faults.{refused_name}
 use Rattle.lines.specs.Shapes.{spaced, item_of, name_fit, ByteBehind, then_tokens}
 use Rattle.condition_form.specs.declared.condition.Standing.{Standing}
-use Rattle.condition_form.specs.declared.condition.Standing.TheVariants as Standing
 use Rattle.condition_form.specs.declared.condition.Walk.{Walk}
 use Rattle.condition_form.specs.declared.condition.Then.{Then}
 use Rattle.condition_form.specs.declared.condition.ConditionPlaces.{ConditionPlaces}

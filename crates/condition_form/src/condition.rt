@@ -84,10 +84,7 @@ fn form_from(line: &[u8], from: usize, kind: Kind) -> Option<Walk>
             Standing::Closing(place) => {
                 at = place + 1;
                 if depth == 0 {
-                    if scan::nothing_at(line, at) {
-                        return Some(Walk { last, refused });
-                    }
-                    return None;
+                    return scan::nothing_at(line, at).then_some(Walk { last, refused });
                 }
                 depth -= 1;
             }

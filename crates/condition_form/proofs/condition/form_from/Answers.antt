@@ -1,6 +1,5 @@
-use Prim.Native.Nat.{◌-◌}
 use native.Mathlib.Omega.{arith}
-use Rattle.condition_form.proofs.FormWalks.{walking, open_inside, open_onward, walk_opening, close_inside, close_onward, walk_closing, form_ends, form_ends_early, taken_inside, taken_onward, walk_taken, refused_inside, refused_onward, walk_refused, walk_stops}
+use Rattle.condition_form.proofs.FormWalks.{walking, open_inside, open_onward, walk_opening, close_inside, close_onward, walk_closing, form_closes, taken_inside, taken_onward, walk_taken, refused_inside, refused_onward, walk_refused, walk_stops}
 use Rattle.condition_form.proofs.condition.form_from.Goals as goal
 
 pub loop-place-init : goal.loop-place-init
@@ -27,11 +26,8 @@ overflow_add-at-in-Closing c = omega (arith, close_inside c.loop-place.invariant
 pub nothing_at-requires : goal.nothing_at-requires
 nothing_at-requires c = close_inside c.loop-place.invariant c.in_ok-place.ensures c.in-Closing.is
 
-pub returns-then-nothing_at : goal.returns-then-nothing_at
-returns-then-nothing_at c = form_ends c.loop-place.invariant c.in_ok-place.ensures c.in-Closing.is c.if-depth-eq0.true c.nothing_at.ensures c.if-nothing_at.true
-
 pub returns-then-depth-eq0 : goal.returns-then-depth-eq0
-returns-then-depth-eq0 c = form_ends_early c.loop-place.invariant c.in_ok-place.ensures c.in-Closing.is c.if-depth-eq0.true c.nothing_at.ensures c.if-nothing_at.false
+returns-then-depth-eq0 c = rw c.then_some.ensures (form_closes c.loop-place.invariant c.in_ok-place.ensures c.in-Closing.is c.if-depth-eq0.true c.nothing_at.ensures)
 
 pub overflow_sub-depth : goal.overflow_sub-depth
 overflow_sub-depth c = omega (arith, c.if-depth-eq0.false)
