@@ -2,6 +2,7 @@
 use Prim.Native.Nat.{ℕ, ◌+◌, ◌≤◌}
 use native.Mathlib.Omega.{arith}
 use mathlib.Core.Path.{◌≡◌, refl, sym, ap, ◌∙◌, subst}
+use mathlib.Core.Logic.{◌⊎◌, inl, inr}
 use mathlib.Core.Bool.{Bool, true, false}
 use mathlib.Core.List.{List, [], ◌∷◌}
 use lib.Dec.{T}
@@ -27,12 +28,12 @@ module _ (s : List ℕ) (at : ℕ) {q : Bracket} (c : BracketIs s at q) where
       let h : ByteBehind s at open_bracket p = subst (BracketSays s at) f c.says in
       record { says = (record { inside = omega (arith, h.inside); onward = omega (arith, h.place) }, opening_is h refl) }
 
-  pub closing_here : {p : ℕ} → q ≡ Bracket.Closing p → OpeningIs s at None
+  closing_here : {p : ℕ} → q ≡ Bracket.Closing p → OpeningIs s at None
   closing_here {p} f =
       let h : ByteBehind s at close_bracket p = subst (BracketSays s at) f c.says in
       record { says = ap is_opening (closing_is h refl) }
 
-  pub no_bracket : q ≡ Bracket.Absent → OpeningIs s at None
+  no_bracket : q ≡ Bracket.Absent → OpeningIs s at None
   no_bracket f = record { says = go (tokens (drop at s)) (subst (BracketSays s at) f c.says) }
     where
       go : (ts : List Token) → is_bracket ts ≡ false → is_opening ts ≡ false
@@ -40,6 +41,10 @@ module _ (s : List ℕ) (at : ℕ) {q : Bracket} (c : BracketIs s at q) where
       go (opening ∷ ts) p = p
       go (closing ∷ ts) p = refl
       go (word x ∷ ts) p = refl
+
+  pub no_opening : ((p : ℕ) × (q ≡ Bracket.Closing p)) ⊎ (q ≡ Bracket.Absent) → OpeningIs s at None
+  no_opening (inl f) = closing_here f.1
+  no_opening (inr f) = no_bracket f
 
 -- a word
 module _ (s : List ℕ) (at : ℕ) (w : List ℕ) {r : Option Item} (e : r ≡ item_of (drop at s)) where

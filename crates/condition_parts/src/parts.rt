@@ -76,7 +76,17 @@ pub fn or_level(
 {
     let mut part = and_level(s, at, made, next, bytes, starts, firsts, links, table)?;
     while let Some(to) = word_at(s, part.place, b"or") {
-        let right = and_level(s, to, made, part.next + 1, bytes, starts, firsts, links, table)?;
+        let right = and_level(
+            s,
+            to,
+            made,
+            part.next + 1,
+            bytes,
+            starts,
+            firsts,
+            links,
+            table,
+        )?;
         put_row(table, part.next, rows::OR, part.atom, right.atom);
         part = Part {
             atom: starts.len() + made + part.next,
@@ -105,7 +115,17 @@ pub fn and_level(
 {
     let mut part = not_level(s, at, made, next, bytes, starts, firsts, links, table)?;
     while let Some(to) = word_at(s, part.place, b"and") {
-        let right = not_level(s, to, made, part.next + 1, bytes, starts, firsts, links, table)?;
+        let right = not_level(
+            s,
+            to,
+            made,
+            part.next + 1,
+            bytes,
+            starts,
+            firsts,
+            links,
+            table,
+        )?;
         put_row(table, part.next, rows::AND, part.atom, right.atom);
         part = Part {
             atom: starts.len() + made + part.next,

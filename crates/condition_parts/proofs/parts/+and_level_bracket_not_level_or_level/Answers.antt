@@ -21,32 +21,23 @@ and_level-loop-to-init t c = (λ before h. h, part_behind c.in_ok-part.ensures)
 pub and_level-word_at-requires : goal.and_level-word_at-requires
 and_level-word_at-requires t c = (c.loop-to.invariant.0 _ (lifted conj (part_read c.in_ok-part.ensures))).inside
 
-pub and_level-shape_of-table-in_default-word_at : goal.and_level-shape_of-table-in_default-word_at
-and_level-shape_of-table-in_default-word_at t c = table_kept c.requires.readable (c.loop-to.invariant.0 _ (lifted conj (part_read c.in_ok-part.ensures)))
-
 pub and_level-returns : goal.and_level-returns
 and_level-returns t c = no_more conj (c.loop-to.invariant.0 _ (lifted conj (part_read c.in_ok-part.ensures))) c.loop-to.invariant.1 c.in_default.ensures
 
-pub and_level-overflow_add-row : goal.and_level-overflow_add-row
-and_level-overflow_add-row t c = omega (arith, (behind_part c.requires.readable (c.loop-to.invariant.0 _ (lifted conj (part_read c.in_ok-part.ensures)))).numbers)
-
-pub and_level-not_level-requires-in-loop-to : goal.and_level-not_level-requires-in-loop-to
-and_level-not_level-requires-in-loop-to t c = (omega (arith, (word_past c.in-Some.ensures).onward, (word_past c.in-Some.ensures).inside, (c.loop-to.invariant.0 _ (lifted conj (part_read c.in_ok-part.ensures))).onward), (behind_word (behind_part c.requires.readable (c.loop-to.invariant.0 _ (lifted conj (part_read c.in_ok-part.ensures)))) is_and c.in-Some.ensures, c.requires.indexed))
-
-pub and_level-shape_of-table-in_default-not_level : goal.and_level-shape_of-table-in_default-not_level
-and_level-shape_of-table-in_default-not_level t c = let kept = table_kept c.requires.readable (c.loop-to.invariant.0 _ (lifted conj (part_read c.in_ok-part.ensures))) in search rules
+pub and_level-not_level-requires-in-Some : goal.and_level-not_level-requires-in-Some
+and_level-not_level-requires-in-Some t c = (omega (arith, (word_past c.in-Some.ensures).onward, (word_past c.in-Some.ensures).inside, (c.loop-to.invariant.0 _ (lifted conj (part_read c.in_ok-part.ensures))).onward), (behind_word (behind_part c.requires.readable (c.loop-to.invariant.0 _ (lifted conj (part_read c.in_ok-part.ensures)))) is_and c.in-Some.ensures, c.requires.indexed))
 
 pub and_level-returns-in_err-right : goal.and_level-returns-in_err-right
 and_level-returns-in_err-right t c = rw c.from_residual-in_err-right.ensures (right_faulty conj (c.loop-to.invariant.0 _ (lifted conj (part_read c.in_ok-part.ensures))) c.in-Some.ensures c.in_err-right.ensures _)
 
+pub and_level-overflow_add-part : goal.and_level-overflow_add-part
+and_level-overflow_add-part t c = omega (arith, (behind_part c.requires.readable (c.loop-to.invariant.0 _ (lifted conj (part_read c.in_ok-part.ensures)))).numbers)
+
+pub and_level-overflow_add-part-in-Some-2 : goal.and_level-overflow_add-part-in-Some-2
+and_level-overflow_add-part-in-Some-2 t c = omega (arith, (behind_part c.requires.readable (c.loop-to.invariant.0 _ (lifted conj (part_read c.in_ok-part.ensures)))).numbers, length_decode (length c.args.starts.now) c.args.bytes.now)
+
 pub and_level-put_row-requires : goal.and_level-put_row-requires
 and_level-put_row-requires t c = (row_room _ (behind_word (behind_part c.requires.readable (c.loop-to.invariant.0 _ (lifted conj (part_read c.in_ok-part.ensures)))) is_and c.in-Some.ensures) (part_read c.in_ok-right.ensures), omega (arith, atom_fits c.requires.readable (c.loop-to.invariant.0 _ (lifted conj (part_read c.in_ok-part.ensures))), atom_fits (behind_word (behind_part c.requires.readable (c.loop-to.invariant.0 _ (lifted conj (part_read c.in_ok-part.ensures)))) is_and c.in-Some.ensures) (part_read c.in_ok-right.ensures)), omega (arith, atom_fits c.requires.readable (c.loop-to.invariant.0 _ (lifted conj (part_read c.in_ok-part.ensures))), atom_fits (behind_word (behind_part c.requires.readable (c.loop-to.invariant.0 _ (lifted conj (part_read c.in_ok-part.ensures)))) is_and c.in-Some.ensures) (part_read c.in_ok-right.ensures)))
-
-pub and_level-overflow_add-atom : goal.and_level-overflow_add-atom
-and_level-overflow_add-atom t c = omega (arith, (behind_part c.requires.readable (c.loop-to.invariant.0 _ (lifted conj (part_read c.in_ok-part.ensures)))).numbers, length_decode (length c.args.starts.now) c.args.bytes.now)
-
-pub and_level-overflow_add-atom-in-loop-to : goal.and_level-overflow_add-atom-in-loop-to
-and_level-overflow_add-atom-in-loop-to t c = omega (arith, (behind_part c.requires.readable (c.loop-to.invariant.0 _ (lifted conj (part_read c.in_ok-part.ensures)))).numbers, length_decode (length c.args.starts.now) c.args.bytes.now)
 
 pub and_level-loop-to-smaller : goal.and_level-loop-to-smaller
 and_level-loop-to-smaller t c = omega (arith, (word_past c.in-Some.ensures).onward, (part_read c.in_ok-right.ensures).onward, (part_read c.in_ok-right.ensures).inside)
@@ -128,32 +119,23 @@ or_level-loop-to-init t c = (λ before h. h, part_behind c.in_ok-part.ensures)
 pub or_level-word_at-requires : goal.or_level-word_at-requires
 or_level-word_at-requires t c = (c.loop-to.invariant.0 _ (lifted disj (part_read c.in_ok-part.ensures))).inside
 
-pub or_level-shape_of-table-in_default-word_at : goal.or_level-shape_of-table-in_default-word_at
-or_level-shape_of-table-in_default-word_at t c = table_kept c.requires.readable (c.loop-to.invariant.0 _ (lifted disj (part_read c.in_ok-part.ensures)))
-
 pub or_level-returns : goal.or_level-returns
 or_level-returns t c = no_more disj (c.loop-to.invariant.0 _ (lifted disj (part_read c.in_ok-part.ensures))) c.loop-to.invariant.1 c.in_default.ensures
 
-pub or_level-overflow_add-row : goal.or_level-overflow_add-row
-or_level-overflow_add-row t c = omega (arith, (behind_part c.requires.readable (c.loop-to.invariant.0 _ (lifted disj (part_read c.in_ok-part.ensures)))).numbers)
-
-pub or_level-and_level-requires-in-loop-to : goal.or_level-and_level-requires-in-loop-to
-or_level-and_level-requires-in-loop-to t c = (omega (arith, (word_past c.in-Some.ensures).onward, (word_past c.in-Some.ensures).inside, (c.loop-to.invariant.0 _ (lifted disj (part_read c.in_ok-part.ensures))).onward), (behind_word (behind_part c.requires.readable (c.loop-to.invariant.0 _ (lifted disj (part_read c.in_ok-part.ensures)))) is_or c.in-Some.ensures, c.requires.indexed))
-
-pub or_level-shape_of-table-in_default-and_level : goal.or_level-shape_of-table-in_default-and_level
-or_level-shape_of-table-in_default-and_level t c = let kept = table_kept c.requires.readable (c.loop-to.invariant.0 _ (lifted disj (part_read c.in_ok-part.ensures))) in search rules
+pub or_level-and_level-requires-in-Some : goal.or_level-and_level-requires-in-Some
+or_level-and_level-requires-in-Some t c = (omega (arith, (word_past c.in-Some.ensures).onward, (word_past c.in-Some.ensures).inside, (c.loop-to.invariant.0 _ (lifted disj (part_read c.in_ok-part.ensures))).onward), (behind_word (behind_part c.requires.readable (c.loop-to.invariant.0 _ (lifted disj (part_read c.in_ok-part.ensures)))) is_or c.in-Some.ensures, c.requires.indexed))
 
 pub or_level-returns-in_err-right : goal.or_level-returns-in_err-right
 or_level-returns-in_err-right t c = rw c.from_residual-in_err-right.ensures (right_faulty disj (c.loop-to.invariant.0 _ (lifted disj (part_read c.in_ok-part.ensures))) c.in-Some.ensures c.in_err-right.ensures _)
 
+pub or_level-overflow_add-part : goal.or_level-overflow_add-part
+or_level-overflow_add-part t c = omega (arith, (behind_part c.requires.readable (c.loop-to.invariant.0 _ (lifted disj (part_read c.in_ok-part.ensures)))).numbers)
+
+pub or_level-overflow_add-part-in-Some-2 : goal.or_level-overflow_add-part-in-Some-2
+or_level-overflow_add-part-in-Some-2 t c = omega (arith, (behind_part c.requires.readable (c.loop-to.invariant.0 _ (lifted disj (part_read c.in_ok-part.ensures)))).numbers, length_decode (length c.args.starts.now) c.args.bytes.now)
+
 pub or_level-put_row-requires : goal.or_level-put_row-requires
 or_level-put_row-requires t c = (row_room _ (behind_word (behind_part c.requires.readable (c.loop-to.invariant.0 _ (lifted disj (part_read c.in_ok-part.ensures)))) is_or c.in-Some.ensures) (part_read c.in_ok-right.ensures), omega (arith, atom_fits c.requires.readable (c.loop-to.invariant.0 _ (lifted disj (part_read c.in_ok-part.ensures))), atom_fits (behind_word (behind_part c.requires.readable (c.loop-to.invariant.0 _ (lifted disj (part_read c.in_ok-part.ensures)))) is_or c.in-Some.ensures) (part_read c.in_ok-right.ensures)), omega (arith, atom_fits c.requires.readable (c.loop-to.invariant.0 _ (lifted disj (part_read c.in_ok-part.ensures))), atom_fits (behind_word (behind_part c.requires.readable (c.loop-to.invariant.0 _ (lifted disj (part_read c.in_ok-part.ensures)))) is_or c.in-Some.ensures) (part_read c.in_ok-right.ensures)))
-
-pub or_level-overflow_add-atom : goal.or_level-overflow_add-atom
-or_level-overflow_add-atom t c = omega (arith, (behind_part c.requires.readable (c.loop-to.invariant.0 _ (lifted disj (part_read c.in_ok-part.ensures)))).numbers, length_decode (length c.args.starts.now) c.args.bytes.now)
-
-pub or_level-overflow_add-atom-in-loop-to : goal.or_level-overflow_add-atom-in-loop-to
-or_level-overflow_add-atom-in-loop-to t c = omega (arith, (behind_part c.requires.readable (c.loop-to.invariant.0 _ (lifted disj (part_read c.in_ok-part.ensures)))).numbers, length_decode (length c.args.starts.now) c.args.bytes.now)
 
 pub or_level-loop-to-smaller : goal.or_level-loop-to-smaller
 or_level-loop-to-smaller t c = omega (arith, (word_past c.in-Some.ensures).onward, (part_read c.in_ok-right.ensures).onward, (part_read c.in_ok-right.ensures).inside)
