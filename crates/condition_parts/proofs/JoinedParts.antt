@@ -23,7 +23,7 @@ use Rattle.lines.specs.Shapes.{ClosedSays, ClosedIs}
 use Rattle.numbering.specs.Numbers.{undeclared}
 use Rattle.condition_parts.specs.declared.parts.Part.{Part}
 use Rattle.condition_parts.specs.Places.{is_leading, OpeningSays, OpeningIs, WordSays, WordIs}
-use Rattle.condition_parts.specs.Parts.{Level, disjunctions, conjunctions, single, Open, Behind, Readable, PartAt, PartSays, PartIs}
+use Rattle.condition_parts.specs.Parts.{Level, disjunctions, conjunctions, single, Open, Behind, Readable, PartAt, PartIs}
 use Rattle.condition_parts.proofs.ConditionLaws.{IsConnective, is_not_lem, is_and, is_or, names_connective, connectives_connective, names_opening, connectives_opening, names_closing, connectives_closing, part_not, part_opening, after_and, after_or, negated, conjoined, disjoined, unbracketed, unclosed}
 use Rattle.condition_parts.proofs.TableRows.{row_put, rows_put}
 

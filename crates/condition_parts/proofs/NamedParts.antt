@@ -24,8 +24,8 @@ use Rattle.lines.proofs.TokenPlaces.{items_end, item_fits, item_long, item, word
 use Rattle.numbering.specs.Numbers.{undeclared}
 use Rattle.numbering.proofs.NameNumbers.{Named, named, unnamed}
 use Rattle.condition_parts.specs.declared.parts.Part.{Part}
-use Rattle.condition_parts.specs.Places.{is_opening, is_leading, WordSays, WordIs}
-use Rattle.condition_parts.specs.Parts.{disjunctions, single, Behind, PartAt, PartSays, PartIs, ParseIs}
+use Rattle.condition_parts.specs.Places.{is_opening, is_leading, WordIs}
+use Rattle.condition_parts.specs.Parts.{disjunctions, single, Behind, PartAt, PartIs, ParseIs}
 use Rattle.condition_parts.proofs.ConditionLaws.{called_sort, names_called, connectives_called, part_called, part_nothing, part_closing, part_and, part_or, more_behind, nothing_behind}
 
 module _ (names : List (List ℕ)) (s : List ℕ) (at next : ℕ) where

@@ -1,17 +1,16 @@
 -- Brackets and words of a condition, by their places.
-use Prim.Native.Nat.{ℕ, ◌+◌, ◌≤◌}
+use Prim.Native.Nat.{ℕ, ◌+◌}
 use native.Mathlib.Omega.{arith}
 use mathlib.Core.Path.{◌≡◌, refl, sym, ap, ◌∙◌, subst}
 use mathlib.Core.Logic.{◌⊎◌, inl, inr}
 use mathlib.Core.Bool.{Bool, true, false}
 use mathlib.Core.List.{List, [], ◌∷◌}
 use lib.Dec.{T}
-use lib.ListN.{length, drop}
+use lib.ListN.{drop}
 use Rattle.kinds.specs.Words.{open_bracket, close_bracket}
 use Rattle.name_store.specs.NameStore.{same_bytes}
 use Rattle.name_store.proofs.NameStores.{same_law}
 use Rattle.lines.specs.declared.scan.Bracket.{Bracket}
-use Rattle.lines.specs.declared.scan.Bracket.TheVariants as Bracket
 use Rattle.lines.specs.declared.scan.Item.{Item}
 use Rattle.std.specs.Prelude.{Option, Some, None}
 use Rattle.std.specs.Bool.{then_some}
@@ -19,7 +18,7 @@ use Rattle.lines.specs.Tokens.{Token, opening, closing, word, tokens, leading, i
 use Rattle.lines.specs.Shapes.{spaced, item_of, ByteBehind, is_bracket, BracketSays, BracketIs}
 use Rattle.lines.proofs.TokenPlaces.{items_end, item_fits, item_long, item, word_is}
 use Rattle.lines.proofs.TokenCuts.{opening_is, closing_is}
-use Rattle.condition_parts.specs.Places.{Past, is_opening, is_leading, OpeningSays, OpeningIs, WordSays, WordIs}
+use Rattle.condition_parts.specs.Places.{Past, is_opening, is_leading, OpeningIs, WordIs}
 
 -- an opening bracket
 module _ (s : List ℕ) (at : ℕ) {q : Bracket} (c : BracketIs s at q) where

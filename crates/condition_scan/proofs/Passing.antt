@@ -17,10 +17,9 @@ use Rattle.lines.specs.Tokens.{Token, opening, closing, word, tokens}
 use Rattle.lines.specs.Conditions.{WordSort, negation, conjunction, disjunction, called, sort_of, by_sort, names_in, connectives_in, pairs, deeper}
 use Rattle.numbering.specs.Numbers.{undeclared}
 use Rattle.condition_scan.specs.declared.scan.Symbol.{Symbol}
-use Rattle.condition_scan.specs.declared.scan.Symbol.TheVariants as Symbol
 use Rattle.condition_scan.specs.declared.scan.Step.{Step}
 use Rattle.condition_scan.specs.declared.scan.Seen.{Seen}
-use Rattle.condition_scan.specs.Scans.{is_scan, symbol_by, symbol_of, TokenTo, StepSays, StepIs, is_fitting, after_of, Countable, ScanIs}
+use Rattle.condition_scan.specs.Scans.{is_scan, symbol_by, symbol_of, TokenTo, StepIs, is_fitting, after_of, Countable, ScanIs}
 use Rattle.condition_scan.proofs.Turns.{parses, parses_not}
 
 -- one bracket more, past the limit or not

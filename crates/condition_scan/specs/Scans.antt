@@ -7,7 +7,6 @@ use Rattle.lines.specs.Tokens.{Token, opening, closing, word, tokens}
 use Rattle.lines.specs.Conditions.{WordSort, sort_of, by_sort, names_in, connectives_in, deeper, parsed, unparsed, parse}
 use Rattle.numbering.specs.Numbers.{undeclared}
 use Rattle.condition_scan.specs.declared.scan.Symbol.{Symbol}
-use Rattle.condition_scan.specs.declared.scan.Symbol.TheVariants as Symbol
 use Rattle.condition_scan.specs.declared.scan.Step.{Step}
 use Rattle.condition_scan.specs.declared.scan.Seen.{Seen}
 use Rattle.condition_scan.specs.declared.scan.Scan.{Scan}

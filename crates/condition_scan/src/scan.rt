@@ -10,7 +10,6 @@ use crate::sorts::{Sort, sort_of};
 use kinds::limits::Preference;
 use lines::scan::{Bracket, bracket_at};
 use name_store::index;
-use name_store::index::Found;
 use numbering::hashed_items::{HashedItem, hashed_item_at};
 
 // A token as the scan tells it from others: `and` and `or` are joints.
@@ -64,11 +63,10 @@ fn word_symbol(
 {
     match sort_of(word) {
         Sort::Not => Symbol::Negation,
-        Sort::And => Symbol::Joint,
-        Sort::Or => Symbol::Joint,
+        Sort::And | Sort::Or => Symbol::Joint,
         Sort::Name => match index::find_hashed(bytes, starts, firsts, links, word, hash) {
-            Found::At(_) => Symbol::Declared,
-            Found::Missing => Symbol::Undeclared,
+            Some(_) => Symbol::Declared,
+            None => Symbol::Undeclared,
         },
     }
 }
@@ -85,7 +83,7 @@ fn step_at(
     requires indexed { Indexed (decode_names (length starts.now) bytes.now) bytes.now starts.now firsts.now links.now }
     ensures { StepIs (decode_names (length starts.now) bytes.now) s.now at result }
 {
-    let HashedItem::At { gap, size, hash } = hashed_item_at(s, at) else {
+    let Some(HashedItem { gap, size, hash }) = hashed_item_at(s, at) else {
         return match bracket_at(s, at) {
             Bracket::Opening(place) => Some(Step {
                 to: place + 1,

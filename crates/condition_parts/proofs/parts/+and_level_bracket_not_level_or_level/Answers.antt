@@ -1,11 +1,9 @@
 use Rattle.condition_parts.proofs.WordPlaces.{word_past, opening_past}
 use lib.ListN.{length}
-use Prim.Native.Nat.{◌-◌}
-use Rattle.condition_parts.proofs.JoinedParts.{behind_opening, part_read, part_behind, inner_faulty, unclosed_faulty, bracketed_part, disj, behind_word, behind_part, table_kept, atom_fits, row_room, lifted, joined, right_faulty, first_faulty, no_more, conj, negated_faulty, negated_part}
+use Rattle.condition_parts.proofs.JoinedParts.{behind_opening, part_read, part_behind, inner_faulty, unclosed_faulty, bracketed_part, disj, behind_word, behind_part, atom_fits, row_room, lifted, joined, right_faulty, first_faulty, no_more, conj, negated_faulty, negated_part}
 use Rattle.name_store.proofs.NamePlaces.{length_decode}
 use Rattle.condition_parts.proofs.ConditionLaws.{is_and, is_not_lem, is_or}
 use native.Mathlib.Omega.{arith}
-use borrow.Author.Rules.{rules}
 use mathlib.Core.Path.{sym}
 use Rattle.condition_parts.proofs.parts.+and_level_bracket_not_level_or_level.Goals as goal
 

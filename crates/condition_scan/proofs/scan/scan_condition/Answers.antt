@@ -1,5 +1,4 @@
 use native.Mathlib.Omega.{arith}
-use Prim.Native.Nat.{◌-◌}
 use Rattle.condition_scan.proofs.Passing.{scanning, to_inside, to_onward, countable, misplaced, scan_again, part_missing, scan_ends}
 use mathlib.Core.Path.{ap}
 use mathlib.Core.Bool.{not}
