@@ -18,9 +18,6 @@ is_declared-requires c = c.requires.indexed
 pub returns-then-is_declared : goal.returns-then-is_declared
 returns-then-is_declared c = one_found c.loop-number.invariant.1 (omega arith) (sym c.is_declared.ensures ∙ c.if-is_declared.true)
 
-pub overflow_add-number-in-loop-number : goal.overflow_add-number-in-loop-number
-overflow_add-number-in-loop-number c = omega (arith, c.loop-number.invariant.0)
-
 pub loop-number-smaller : goal.loop-number-smaller
 loop-number-smaller c = omega arith
 

@@ -22,3 +22,6 @@ shape_of-out c = length_kept c.loop-number.invariant
 
 pub returns : goal.returns
 returns c = finish c.loop-number.invariant (numbered_none _ _ _ (omega arith))
+
+pub returns-2 : goal.returns-2
+returns-2 c = finish (turn c.loop-number.invariant (names_next _ _ (omega arith)) c.put_name-next.ensures) (numbered_none _ _ _ (omega arith))
