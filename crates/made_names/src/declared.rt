@@ -27,11 +27,7 @@ fn last_named(made: usize, count: usize) -> usize
     requires { (made ≤ atom_limit Kind.Preference) × (count < 2 ^ 32) }
     ensures { result ≡ min (made + count) (atom_limit Kind.Preference) }
 {
-    let last = made + count;
-    if last < Preference::ATOMS {
-        return last;
-    }
-    Preference::ATOMS
+    (made + count).min(Preference::ATOMS)
 }
 
 // Whether one of the next `count` names is declared, where `made` atoms have theirs.
