@@ -19,7 +19,7 @@ use lines::forms;
 use lines::forms::{DeclaredShape, Keyword, Shape};
 use lines::stage::Stage;
 use numbering::entries;
-use numbering::entries::Entered;
+use numbering::entries::Unentered;
 
 fn is_expected(kind: Kind, stage: Stage, word: Keyword) -> bool
     ensures { result ≡ expects kind stage (word_of word) }
@@ -83,23 +83,30 @@ fn declare_atoms(
     if shape.refused {
         return Err(Refusal::Name);
     }
-    let counts = gathered.counts;
-    let before = counts.atoms;
-    let filled = gathered.bytes;
+    let before = gathered.counts.atoms;
     match entries::enter_names(
-        line, shape.from, bytes, starts, firsts, links, before, filled,
+        line,
+        shape.from,
+        bytes,
+        starts,
+        firsts,
+        links,
+        before,
+        gathered.bytes,
     ) {
-        Entered::All { atoms, bytes: used } => keep_names(
+        Ok(entered) => keep_names(
             kind,
             gathered,
             word,
             shape.count,
-            atoms,
-            used,
+            entered.atoms,
+            entered.bytes,
             words,
         ),
-        Entered::Full { at } => Err(past_limit(line, at, bytes, starts, firsts, links)),
-        Entered::Twice => Err(Refusal::DeclaredTwice),
+        Err(unentered) => Err(match unentered {
+            Unentered::Full { at } => past_limit(line, at, bytes, starts, firsts, links),
+            Unentered::Twice => Refusal::DeclaredTwice,
+        }),
     }
 }
 
