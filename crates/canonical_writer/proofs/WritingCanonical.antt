@@ -5,12 +5,13 @@ use mathlib.Core.Path.{◌≡◌, sym, ap, ◌∙◌, subst}
 use mathlib.Core.Bool.{Bool, true, false}
 use mathlib.Core.List.{List}
 use lib.ListN.{length, get_or, take}
+use Rattle.std.specs.Prelude.{Some, None, Result, Err}
 use Rattle.kinds.specs.Sizes.{store_words}
 use Rattle.kinds.specs.declared.limits.Kind.{Kind}
+use Rattle.kinds.specs.declared.refusals.Refusal.{Refusal}
 use Rattle.kinds.specs.declared.refusals.Refusal.TheVariants.{RuleStore, NameStore}
 use Rattle.stores.specs.Program.{Program, ProgramForm}
 use Rattle.stores.specs.RuleStore.{StoreOf, encode, decode, rule_store}
-use Rattle.stores.specs.declared.rule_store.RuleStore.TheVariants.{Of, Refused as NoStore}
 use Rattle.stores.proofs.RuleStores.{decode_encode, words_fit}
 use Rattle.name_store.specs.NameStore.{NamesOf, decode_names, are_names}
 use Rattle.output.specs.Emitted.{Emitted}
@@ -18,8 +19,6 @@ use Rattle.output.proofs.Emitting.{front_inside, front_is}
 use Rattle.text.specs.Text.{text_of}
 use Rattle.canonical.specs.CanonicalProgram.{canonical_program}
 use Rattle.canonical.proofs.CanonicalForm.{canonical_form}
-use Rattle.answers.specs.declared.Written.{Written}
-use Rattle.answers.specs.declared.Written.TheVariants.{Refused}
 use Rattle.answers.specs.Writing.{fitted, stores_text}
 use Rattle.answers.specs.WritingCanonical.{canonical_text, stores_canonical, canonical_answer, canonical_output}
 use Rattle.writer.specs.Fitted.{fitted_output}
@@ -58,23 +57,23 @@ module _ {rules names : List ℕ} (s : StoreOf rules (decode rules)) (m : NamesO
   unfolding stores_text stores_canonical canonical_text canonical_program
   text_is = ap (λ (q : Program). text_of q (decode_names q.atoms names)) (sym says)
 
-  pub canonical_answer_lem : (before : List ℕ) {r : Written} {after : List ℕ}
+  pub canonical_answer_lem : (before : List ℕ) {r : Result ℕ Refusal} {after : List ℕ}
       → (r ≡ fitted (stores_text (take end words') names) (length before)) × (after ≡ fitted_output (stores_text (take end words') names) before)
       → (r ≡ fitted (stores_canonical rules names) (length before)) × (after ≡ fitted_output (stores_canonical rules names) before)
   canonical_answer_lem before h = (h.0 ∙ ap (λ (t : List ℕ). fitted t (length before)) text_is, h.1 ∙ ap (λ (t : List ℕ). fitted_output t before) text_is)
 
 -- the refusals, in their order
 module _ (rules names before : List ℕ) where
-  pub no_store : rule_store rules ≡ NoStore → (Refused RuleStore ≡ canonical_answer rules names (length before)) × (before ≡ canonical_output rules names before)
+  pub no_store : rule_store rules ≡ None → (Err RuleStore ≡ canonical_answer rules names (length before)) × (before ≡ canonical_output rules names before)
   unfolding canonical_answer canonical_output
   no_store = not_stored rules names (stores_canonical rules names) before
 
-  module _ (kind : Kind) (e : rule_store rules ≡ Of kind) (b : Bool) (f : b ≡ are_names kind (get_or rules 1 0) names) where
-    pub no_names : b ≡ false → (Refused NameStore ≡ canonical_answer rules names (length before)) × (before ≡ canonical_output rules names before)
+  module _ (kind : Kind) (e : rule_store rules ≡ Some kind) (b : Bool) (f : b ≡ are_names kind (get_or rules 1 0) names) where
+    pub no_names : b ≡ false → (Err NameStore ≡ canonical_answer rules names (length before)) × (before ≡ canonical_output rules names before)
     unfolding canonical_answer canonical_output
     no_names = not_named rules names (stores_canonical rules names) before kind e b f
 
-    pub answered : b ≡ true → {r : Written} {after : List ℕ} → (r ≡ fitted (stores_canonical rules names) (length before)) × (after ≡ fitted_output (stores_canonical rules names) before)
+    pub answered : b ≡ true → {r : Result ℕ Refusal} {after : List ℕ} → (r ≡ fitted (stores_canonical rules names) (length before)) × (after ≡ fitted_output (stores_canonical rules names) before)
         → (r ≡ canonical_answer rules names (length before)) × (after ≡ canonical_output rules names before)
     unfolding canonical_answer canonical_output
     answered g h = both_stored rules names (stores_canonical rules names) before kind e b f g h

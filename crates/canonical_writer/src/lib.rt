@@ -14,7 +14,6 @@ use kinds::limits::Plain;
 use kinds::refusals::Refusal;
 use name_check::check_names;
 use store_check::store_forms::check_rules;
-use stores::rule_store::RuleStore;
 use writer::write_checked;
 
 // The canonical rule store, then its text, of two stores that are known to be of the form.
@@ -32,17 +31,10 @@ pub fn write_canonical(rules: &[u16], names: &[u8], out: &mut [u8]) -> Written
     ensures answer { result ≡ canonical_answer rules.now names.now (length out.old) }
     ensures output { out.new ≡ canonical_output rules.now names.now out.old }
 {
-    let store = check_rules(rules);
-    let RuleStore::Of(kind) = store else {
-        return Written::Refused {
-            refusal: Refusal::RuleStore,
-        };
-    };
+    let kind = check_rules(rules).ok_or(Refusal::RuleStore)?;
     let atoms = rules[1] as usize;
     if !check_names(names, kind, atoms) {
-        return Written::Refused {
-            refusal: Refusal::NameStore,
-        };
+        return Err(Refusal::NameStore);
     }
     let mut words = [0u16; Plain::WORDS];
     write_by(rules, names, &mut words, out)

@@ -1,29 +1,11 @@
 #![tactic(auto)]
 // Runs the two programs' functions on each file of data/: every refusal that a file can meet is seen printed.
 use kinds::limits::Kind;
+use programs::answering::answer;
 use programs::reading::read_full;
 use std::fs::File;
 use std::io;
 use std::rt::{Files, Runtime};
-
-fn put(rt: &impl Print, out: &[u8], size: usize) -> io::Result<()> {
-    if size <= out.len() {
-        rt.write_all(&out[0..size])?;
-    }
-    Ok(())
-}
-
-fn show_states(rt: &impl Print, text: &[u8]) -> io::Result<()> {
-    let mut out = [0u8; Kind::STREAM];
-    let size = programs::states_text(text, &mut out);
-    put(rt, &out, size)
-}
-
-fn show_translation(rt: &impl Print, text: &[u8]) -> io::Result<()> {
-    let mut out = [0u8; Kind::STREAM];
-    let size = programs::translate_text(text, &mut out);
-    put(rt, &out, size)
-}
 
 // What the lister prints on a file, or the translator.
 fn print(rt: &(impl Files + Print + Eprint), path: &str, listed: bool) -> io::Result<()> {
@@ -32,13 +14,9 @@ fn print(rt: &(impl Files + Print + Eprint), path: &str, listed: bool) -> io::Re
         Ok(file) => file,
         Err(error) => return eprintln!(rt; "{path}: {error}"),
     };
-    let mut text = [0u8; 65537];
+    let mut text = [0u8; Kind::STREAM + 1];
     let size = read_full(&mut file, &mut text)?;
-    if listed {
-        show_states(rt, &text[..size])
-    } else {
-        show_translation(rt, &text[..size])
-    }
+    answer(rt, listed, &text[..size])
 }
 
 fn states(rt: &impl Runtime, path: &str) -> io::Result<()> {

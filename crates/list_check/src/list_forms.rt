@@ -7,20 +7,12 @@ ghost use Rattle.stores.specs.RuleStore.{is_list, are_lists, is_not};
 use kinds::limits::Kind;
 
 // One list of a rule. An atom that stood in it has `stamp` as its mark.
-fn list_form(
-    words: &[u16],
-    at: usize,
-    count: usize,
-    atoms: usize,
-    marks: &mut [u16],
-    stamp: u16,
-) -> bool
-    requires { (at + count ≤ length words.now) × (atoms ≤ length marks.old) × Below stamp marks.old }
-    ensures { (result ≡ is_list atoms [] (take count (drop at words.now))) × Below (stamp + 1) marks.new }
+fn list_form(list: &[u16], atoms: usize, marks: &mut [u16], stamp: u16) -> bool
+    requires { (atoms ≤ length marks.old) × Below stamp marks.old }
+    ensures { (result ≡ is_list atoms [] list.now) × Below (stamp + 1) marks.new }
 {
-    let end = at + count;
-    for i in at..end {
-        let a = words[i] as usize;
+    for word in list {
+        let a = *word as usize;
         if atoms <= a {
             return false;
         }
@@ -48,15 +40,14 @@ pub fn lists_form(
 {
     let body = at + heads;
     let not = body + bodies;
-    let head_form = list_form(words, at, heads, atoms, marks, stamp);
-    if !head_form {
+    let end = not + nots;
+    if !list_form(&words[at..body], atoms, marks, stamp) {
         return false;
     }
-    let body_form = list_form(words, body, bodies, atoms, marks, stamp + 1);
-    if !body_form {
+    if !list_form(&words[body..not], atoms, marks, stamp + 1) {
         return false;
     }
-    list_form(words, not, nots, atoms, marks, stamp + 2)
+    list_form(&words[not..end], atoms, marks, stamp + 2)
 }
 
 // A preference store's `not` lists are empty.

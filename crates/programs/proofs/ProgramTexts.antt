@@ -7,6 +7,7 @@ use mathlib.Core.List.{List}
 use lib.Dec.{T, leb}
 use lib.ListN.{length, get_or, take, drop, length-append}
 use borrow.Author.Tests.{le-leb, lt-leb, leb-true, leb-false, eq-eqb, ne_eqb}
+use Rattle.std.specs.Prelude.{Result, Ok, Err}
 use Rattle.kinds.specs.Sizes.{longest_name, longest_entry, store_words, store_bytes}
 use Rattle.kinds.specs.Limits.{stream_limit, walk_atoms, atom_limit}
 use Rattle.kinds.specs.declared.limits.Kind.{Kind}
@@ -21,13 +22,11 @@ use Rattle.names.specs.Names.{allowed}
 use Rattle.name_store.specs.NameStore.{encode_names, decode_names, NamesForm, NamesOf}
 use Rattle.stores.proofs.RuleStores.{decode_encode, words_fit}
 use Rattle.name_store.proofs.NameStores.{allowed_short, decode_names_lem, encoded_length}
-use Rattle.answers.specs.declared.Written.{Written}
-use Rattle.answers.specs.declared.Written.TheVariants.{Text, Refused as NotWritten}
+use Rattle.answers.specs.declared.ReadSizes.{ReadSizes}
+use Rattle.answers.specs.declared.ReadRefusal.{ReadRefusal}
 use Rattle.answers.specs.Writing.{fitted, written_bytes}
-use Rattle.answers.specs.declared.Read.{Read}
-use Rattle.answers.specs.declared.Read.TheVariants.{Accepted, Refused as NotRead}
 use Rattle.lines.specs.Said.{Said, accepted, refused, said}
-use Rattle.answers.specs.Reading.{read_answer, read_rules, read_names, answer_of}
+use Rattle.answers.specs.Reading.{read_refusal, read_answer, read_rules, read_names, answer_of}
 use Rattle.reader.proofs.RoundTrip.{accepted_form}
 use Rattle.translated.specs.PreferenceStore.{PreferenceStore}
 use Rattle.answers.specs.Translating.{translation_text, stores_translation}
@@ -53,18 +52,18 @@ bytes_fit p names f g = by_kind p.kind f.atoms_fit
 
 -- a text against the room for it
 
-module _ (text before : List ℕ) {answer : Written} (a : answer ≡ fitted text (length before)) where
-  room_for : {k : ℕ} → answer ≡ Text k → (k ≡ length text) × (length text ≤ length before)
+module _ (text before : List ℕ) {answer : Result ℕ Refusal} (a : answer ≡ fitted text (length before)) where
+  room_for : {k : ℕ} → answer ≡ Ok k → (k ≡ length text) × (length text ≤ length before)
   room_for {k} e = by_room (leb (length text) (length before)) refl (sym a ∙ e)
     where
-      by_room : (b : Bool) → leb (length text) (length before) ≡ b → ◌≡◌ {A = Written} (cond b (Text (length text)) (NotWritten Output)) (Text k) → (k ≡ length text) × (length text ≤ length before)
+      by_room : (b : Bool) → leb (length text) (length before) ≡ b → ◌≡◌ {A = Result ℕ Refusal} (cond b (Ok (length text)) (Err Output)) (Ok k) → (k ≡ length text) × (length text ≤ length before)
       by_room true f r = ((let z : length text ≡ k = cc in sym z), leb-true _ _ f)
       by_room false f r = never (cc)
 
-  no_room : {g : Refusal} → answer ≡ NotWritten g → (g ≡ Output) × (length before < length text)
+  no_room : {g : Refusal} → answer ≡ Err g → (g ≡ Output) × (length before < length text)
   no_room {g} e = by_room (leb (length text) (length before)) refl (sym a ∙ e)
     where
-      by_room : (b : Bool) → leb (length text) (length before) ≡ b → ◌≡◌ {A = Written} (cond b (Text (length text)) (NotWritten Output)) (NotWritten g) → (g ≡ Output) × (length before < length text)
+      by_room : (b : Bool) → leb (length text) (length before) ≡ b → ◌≡◌ {A = Result ℕ Refusal} (cond b (Ok (length text)) (Err Output)) (Err g) → (g ≡ Output) × (length before < length text)
       by_room true f r = never (cc)
       by_room false f r = ((let z : Output ≡ g = cc in sym z), leb-false _ _ f)
 
@@ -113,32 +112,31 @@ module _ (rules names : List ℕ) where
   unfolding stores_translation
   translation_of_lem b f = ap (λ (x : Bool). cond x translation (refused_text Output 0)) (sym f)
 
-  module _ (before : List ℕ) (room : length before ≡ stream_limit) {answer : Written} (a : answer ≡ fitted translation (length before)) where
-    pub translation_refused : {g : Refusal} → answer ≡ NotWritten g → refused_text g 0 ≡ shown_translation
+  module _ (before : List ℕ) (room : length before ≡ stream_limit) {answer : Result ℕ Refusal} (a : answer ≡ fitted translation (length before)) where
+    pub translation_refused : {g : Refusal} → answer ≡ Err g → refused_text g 0 ≡ shown_translation
     translation_refused r =
         let n = no_room translation before a r in
         let l = n.1 in
         ap (λ (x : Refusal). refused_text x 0) n.0 ∙ translation_of_lem false (lt-leb (length translation) stream_limit (omega arith))
 
-    module _ {after : List ℕ} {k : ℕ} (w : after ≡ over (written_bytes (fitted translation (length before)) translation) before) (r : answer ≡ Text k) where
+    module _ {after : List ℕ} {k : ℕ} (w : after ≡ over (written_bytes (fitted translation (length before)) translation) before) (r : answer ≡ Ok k) where
       output_is : after ≡ over translation before
-      output_is = w ∙ ap (λ (x : Written). over (written_bytes x translation) before) (sym a ∙ r)
+      output_is = w ∙ ap (λ (x : Result ℕ Refusal). over (written_bytes x translation) before) (sym a ∙ r)
 
-      pub translation_fits : k - 0 ≤ length after
+      pub translation_fits : k ≤ length after
       translation_fits = omega (arith, (room_for translation before a r).0, ap length output_is ∙ length-append translation (drop (length translation) before))
 
-      pub translation_is : take (k - 0) (drop 0 after) ≡ shown_translation
+      pub translation_is : take k after ≡ shown_translation
       translation_is =
           let n = room_for translation before a r in
           let l = n.1 in
-          let z : k - 0 ≡ length translation = omega (arith, n.0) in
-          ap₂ (λ (n : ℕ) (l : List ℕ). take n l) z output_is ∙ front translation before ∙ translation_of_lem true (le-leb (length translation) stream_limit (omega arith))
+          ap₂ (λ (n : ℕ) (l : List ℕ). take n l) n.0 output_is ∙ front translation before ∙ translation_of_lem true (le-leb (length translation) stream_limit (omega arith))
 
 -- the stores that the reader fills
 
-module _ (text rules names : List ℕ) {answer : Read} (a : answer ≡ read_answer text (length rules) (length names)) {rules' names' : List ℕ} {w b : ℕ} (e : answer ≡ Accepted w b) (u : rules' ≡ read_rules text rules names) (v : names' ≡ read_names text rules names) where
-  read_as : Filled text (length rules) (length names) w b
-  read_as = filled text (length rules) (length names) w b (sym a ∙ e)
+module _ (text rules names : List ℕ) {answer : Result ReadSizes ReadRefusal} (a : answer ≡ read_answer text (length rules) (length names)) {rules' names' : List ℕ} {sizes : ReadSizes} (e : answer ≡ Ok sizes) (u : rules' ≡ read_rules text rules names) (v : names' ≡ read_names text rules names) where
+  read_as : Filled text (length rules) (length names) sizes.words sizes.bytes
+  read_as = filled text (length rules) (length names) sizes.words sizes.bytes (sym a ∙ e)
 
   abbrev p : Program
   p = read_as.program
@@ -152,21 +150,19 @@ module _ (text rules names : List ℕ) {answer : Read} (a : answer ≡ read_answ
   names_are : names' ≡ over (encode_names atom_names) names
   names_are = v ∙ (reads_as text p atom_names read_as.lines).names_filled rules names read_as.rules_room read_as.names_room
 
-  pub rules_part : w - 0 ≤ length rules'
+  pub rules_part : sizes.words ≤ length rules'
   rules_part = omega (arith, read_as.words_are, ap length rules_are ∙ length-append (encode p) (drop (length (encode p)) rules))
 
-  pub names_part : b - 0 ≤ length names'
+  pub names_part : sizes.bytes ≤ length names'
   names_part = omega (arith, read_as.bytes_are, ap length names_are ∙ length-append (encode_names atom_names) (drop (length (encode_names atom_names)) names))
 
-  rules_taken : take (w - 0) (drop 0 rules') ≡ encode p
+  rules_taken : take sizes.words rules' ≡ encode p
   rules_taken =
-      let x : w - 0 ≡ length (encode p) = omega (arith, read_as.words_are) in
-      ap₂ (λ (n : ℕ) (l : List ℕ). take n l) x rules_are ∙ front (encode p) rules
+      ap₂ (λ (n : ℕ) (l : List ℕ). take n l) read_as.words_are rules_are ∙ front (encode p) rules
 
-  names_taken : take (b - 0) (drop 0 names') ≡ encode_names atom_names
+  names_taken : take sizes.bytes names' ≡ encode_names atom_names
   names_taken =
-      let y : b - 0 ≡ length (encode_names atom_names) = omega (arith, read_as.bytes_are) in
-      ap₂ (λ (n : ℕ) (l : List ℕ). take n l) y names_are ∙ front (encode_names atom_names) names
+      ap₂ (λ (n : ℕ) (l : List ℕ). take n l) read_as.bytes_are names_are ∙ front (encode_names atom_names) names
 
   form : ProgramForm p × NamesForm p.kind p.atoms atom_names
   form = accepted_form text p atom_names read_as.lines
@@ -181,7 +177,7 @@ module _ (text rules names : List ℕ) {answer : Read} (a : answer ≡ read_answ
         (subst (NamesOf (encode_names atom_names) p.kind p.atoms) (sym (decode_names_lem form.1)) (record { form = form.1; bytes = refl }));
   }
 
-  pub read_stores : ReadStores (take (w - 0) (drop 0 rules')) (take (b - 0) (drop 0 names'))
+  pub read_stores : ReadStores (take sizes.words rules') (take sizes.bytes names')
   read_stores = rw (rules_taken, names_taken) stores_are
 
   on_program : (f : Program → List (List ℕ) → List ℕ) → on_stores f (encode p) (encode_names atom_names) ≡ of_kind p.kind (f p atom_names)
@@ -189,7 +185,7 @@ module _ (text rules names : List ℕ) {answer : Read} (a : answer ≡ read_answ
   on_program f = rw (same, decode_names_lem form.1)
 
   -- a program that prints f of an accepted preference file
-  pub accepted_text : (f : Program → List (List ℕ) → List ℕ) → length text ≤ stream_limit → on_stores f (take (w - 0) (drop 0 rules')) (take (b - 0) (drop 0 names')) ≡ printed f text
+  pub accepted_text : (f : Program → List (List ℕ) → List ℕ) → length text ≤ stream_limit → on_stores f (take sizes.words rules') (take sizes.bytes names') ≡ printed f text
   unfolding printed
   accepted_text f l = ap₂ (on_stores f) rules_taken names_taken ∙ on_program f ∙ sym (rw (le-leb (length text) stream_limit l, read_as.lines))
 
@@ -198,8 +194,8 @@ module _ (f : Program → List (List ℕ) → List ℕ) (text : List ℕ) where
   unfolding printed
   long_text l = rw (lt-leb (length text) stream_limit l)
 
-  module _ (l : length text ≤ stream_limit) (rules names : List ℕ) (words : store_words ≤ length rules) (bytes : store_bytes ≤ length names) {answer : Read} (a : answer ≡ read_answer text (length rules) (length names)) where
-    said_refused : (g : Refusal) (k : ℕ) → said text ≡ refused g k → read_answer text (length rules) (length names) ≡ NotRead g k
+  module _ (l : length text ≤ stream_limit) (rules names : List ℕ) (words : store_words ≤ length rules) (bytes : store_bytes ≤ length names) {answer : Result ReadSizes ReadRefusal} (a : answer ≡ read_answer text (length rules) (length names)) where
+    said_refused : (g : Refusal) (k : ℕ) → said text ≡ refused g k → read_answer text (length rules) (length names) ≡ Err (read_refusal g k)
     unfolding read_answer
     said_refused g k e = ap (λ (s : Said). answer_of s (length rules) (length names)) e
 
@@ -207,19 +203,18 @@ module _ (f : Program → List (List ℕ) → List ℕ) (text : List ℕ) where
     unfolding printed
     printed_refused g k e = rw (le-leb (length text) stream_limit l, e)
 
-    pub refused_text_lem : {r : Refusal} {line : ℕ} → answer ≡ NotRead r line → refused_text r line ≡ printed f text
-    refused_text_lem {r} {line} e = by_said (said text) refl
+    pub refused_text_lem : {r : ReadRefusal} → answer ≡ Err r → refused_text r.refusal r.line ≡ printed f text
+    refused_text_lem {r} e = by_said (said text) refl
       where
-        by_said : (s : Said) → said text ≡ s → refused_text r line ≡ printed f text
+        by_said : (s : Said) → said text ≡ s → refused_text r.refusal r.line ≡ printed f text
         by_said (accepted q ns) said-so =
             let g = accepted_form text q ns said-so in
             let k = (reads_as text q ns said-so).answer rules names (omega (arith, words_fit q g.0)) (omega (arith, bytes_fit q ns g.0 g.1)) in
             never (cc)
         by_said (refused g k) said-so =
-            let z : NotRead r line ≡ NotRead g k = sym e ∙ a ∙ said_refused g k said-so in
-            let x : r ≡ g = cc in
-            let y : line ≡ k = cc in
-            ap₂ refused_text x y ∙ sym (printed_refused g k said-so)
+            let y : ◌≡◌ {A = Result ReadSizes ReadRefusal} (Err r) (Err (read_refusal g k)) = sym e ∙ a ∙ said_refused g k said-so in
+            let z : r ≡ read_refusal g k = cc in
+            ap (λ (x : ReadRefusal). refused_text x.refusal x.line) z ∙ sym (printed_refused g k said-so)
 
 -- what is printed is never longer than an output of the programs
 

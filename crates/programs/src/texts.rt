@@ -10,7 +10,6 @@ ghost use Rattle.stores.specs.RuleStore.{decode};
 ghost use Rattle.name_store.specs.NameStore.{NamesOf, decode_names};
 ghost use Rattle.translated.specs.PreferenceStore.{PreferenceStore};
 
-use answers::{Read, Written};
 use kinds::limits::{Kind, Plain};
 use kinds::refusals::Refusal;
 use listing::listing::show_states;
@@ -24,10 +23,9 @@ fn show_translation(rules: &[u16], names: &[u8], out: &mut [u8]) -> usize
     ensures { Shown (translation_of (decode rules.now) (decode_names (decode rules.now).atoms names.now)) out.old out.new result }
 {
     let mut text = [0u8; Kind::STREAM];
-    let answer = translate_checked(rules, names, &mut text);
-    match answer {
-        Written::Text { bytes } => show(&text[0..bytes], out),
-        Written::Refused { refusal } => show_refused(refusal, 0, out),
+    match translate_checked(rules, names, &mut text) {
+        Ok(bytes) => show(&text[..bytes], out),
+        Err(refusal) => show_refused(refusal, 0, out),
     }
 }
 
@@ -50,15 +48,9 @@ fn print_by(listed: bool, text: &[u8], rules: &mut [u16], names: &mut [u8], out:
     requires { (length text.now ≤ stream_limit) × (store_words ≤ length rules.old) × (store_bytes ≤ length names.old) }
     ensures { Shown (printed (printer listed) text.now) out.old out.new result }
 {
-    let answer = read(text, rules, names);
-    match answer {
-        Read::Accepted { words, bytes } => show_stores(
-            listed,
-            &rules[0..words],
-            &names[0..bytes],
-            out,
-        ),
-        Read::Refused { refusal, line } => show_refused(refusal, line, out),
+    match read(text, rules, names) {
+        Ok(sizes) => show_stores(listed, &rules[..sizes.words], &names[..sizes.bytes], out),
+        Err(refused) => show_refused(refused.refusal, refused.line, out),
     }
 }
 

@@ -5,15 +5,16 @@ use mathlib.Core.Bool.{Bool, true, false, cond}
 use mathlib.Core.List.{List}
 use lib.Dec.{T, leb, leb→le}
 use lib.ListN.{length, take}
+use Rattle.std.specs.Prelude.{Some, Result, Ok, Err}
 use Rattle.kinds.specs.declared.limits.Kind.{Kind}
 use Rattle.kinds.specs.declared.limits.Kind.TheVariants.{Plain, Preference}
+use Rattle.kinds.specs.declared.refusals.Refusal.{Refusal}
+use Rattle.kinds.specs.declared.refusals.Refusal.TheVariants.{Output, RuleStore, NameStore}
 use Rattle.rules.specs.Lists.{over}
 use Rattle.stores.specs.Program.{Program, ProgramForm}
 use Rattle.stores.specs.RuleStore.{encode, decode, is_of}
 use Rattle.name_store.specs.NameStore.{encode_names, are_names, NamesForm}
 use Rattle.stores.proofs.RuleStores.{decode_encode}
-use Rattle.answers.specs.declared.Written.{Written}
-use Rattle.answers.specs.declared.Written.TheVariants.{Text, Refused as NotWritten}
 use Rattle.answers.specs.Writing.{fitted}
 use Rattle.lines.specs.Said.{accepted, said}
 use Rattle.reader.proofs.RoundTrip.{accepted_form, plain_back}
@@ -37,23 +38,23 @@ module _ (p : Program) (form : ProgramForm p) (names : List (List ℕ)) (fit : N
     pub size_is : size ≡ length (translation_text p names)
     pub room_for : length (translation_text p names) ≤ room
 
-  translated_only : (room size : ℕ) → translate_answer (encode p) (encode_names names) room ≡ Text size → Translated room size
+  translated_only : (room size : ℕ) → translate_answer (encode p) (encode_names names) room ≡ Ok size → Translated room size
   unfolding translate_answer
   translated_only room size e = by_kind p.kind refl (rw (answered p form) at e)
     where
-      rest : Written
-      rest = cond (are_names Preference (decode (encode p)).atoms (encode_names names)) (fitted (stores_translation (encode p) (encode_names names)) room) (NotWritten Rattle.kinds.specs.declared.refusals.Refusal.TheVariants.NameStore)
+      rest : Result ℕ Refusal
+      rest = cond (are_names Preference (decode (encode p)).atoms (encode_names names)) (fitted (stores_translation (encode p) (encode_names names)) room) (Err NameStore)
 
       by_fit : (b : Bool) → leb (length (translation_text p names)) room ≡ b → p.kind ≡ Preference
-          → ◌≡◌ {A = Written} (cond b (Text (length (translation_text p names))) (NotWritten Rattle.kinds.specs.declared.refusals.Refusal.TheVariants.Output)) (Text size) → Translated room size
+          → ◌≡◌ {A = Result ℕ Refusal} (cond b (Ok (length (translation_text p names))) (Err Output)) (Ok size) → Translated room size
       by_fit true f k r = record { kind = k; size_is = let z : length (translation_text p names) ≡ size = cc in sym z; room_for = leb→le _ _ (subst T (sym f) tt) }
       by_fit false f k r = never (cc)
 
-      by_kind : (k : Kind) → p.kind ≡ k → ◌≡◌ {A = Written} (cond (is_of Preference (Rattle.stores.specs.declared.rule_store.RuleStore.TheVariants.Of k)) rest (NotWritten Rattle.kinds.specs.declared.refusals.Refusal.TheVariants.RuleStore)) (Text size) → Translated room size
+      by_kind : (k : Kind) → p.kind ≡ k → ◌≡◌ {A = Result ℕ Refusal} (cond (is_of Preference (Some k)) rest (Err RuleStore)) (Ok size) → Translated room size
       by_kind Plain q r = never (cc)
       by_kind Preference q r = by_fit (leb (length (translation_text p names)) room) refl q (rw (decode_encode p form, named p form names fit q, stores_text_lem p form names fit) at r)
 
-  output_is : (out : List ℕ) (size : ℕ) → translate_answer (encode p) (encode_names names) (length out) ≡ Text size → translate_output (encode p) (encode_names names) out ≡ over (translation_text p names) out
+  output_is : (out : List ℕ) (size : ℕ) → translate_answer (encode p) (encode_names names) (length out) ≡ Ok size → translate_output (encode p) (encode_names names) out ≡ over (translation_text p names) out
   unfolding translate_output
   output_is out size e = rw (e, stores_text_lem p form names fit)
 
@@ -83,7 +84,7 @@ module _ (text rules names out : List ℕ) (h : Handed text rules names out) whe
       ap₂ take read_as.bytes_are ((reads_as text p file_names read_as.lines).names_filled rules names read_as.rules_room read_as.names_room)
       ∙ front (encode_names file_names) names
 
-  written : translate_answer (encode p) (encode_names file_names) (length out) ≡ Text h.size
+  written : translate_answer (encode p) (encode_names file_names) (length out) ≡ Ok h.size
   written = ap₂ (λ (r n : List ℕ). translate_answer r n (length out)) (sym rules_handed) (sym names_handed) ∙ h.written
 
   sent : Translated p form file_names fit (length out) h.size

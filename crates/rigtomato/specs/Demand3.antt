@@ -1,16 +1,14 @@
 -- Demand 3 (document 01, "In demand 3, accepted means .."), from the bytes of a text.
-use Rattle.std.specs.Prelude.{ℕ, ◌^◌, ◌<◌, ◌≡◌, ◌↔◌, List, length, take}
+use Rattle.std.specs.Prelude.{ℕ, ◌^◌, ◌<◌, ◌≡◌, ◌↔◌, Ok, List, length, take}
 use Rattle.kinds.specs.declared.limits.Kind.TheVariants.{Plain, Preference}
 use Rattle.rules.specs.Lists.{sum}
 use Rattle.rules.specs.Sets.{cut}
 use Rattle.rules.specs.Rules.{occurrences}
 use Rattle.rules.specs.Stable.{Stable}
 use Rattle.rules.specs.Preferred.{Preferred}
-use Rattle.answers.specs.declared.Written.TheVariants.{Text}
 use Rattle.answers.specs.ReadsAs.{ReadsAs}
-use Rattle.answers.specs.declared.Read.TheVariants.{Accepted}
 use Rattle.stores.specs.Program.{Program}
-use Rattle.answers.specs.Reading.{read_answer, read_rules, read_names}
+use Rattle.answers.specs.Reading.{read_sizes, read_answer, read_rules, read_names}
 use Rattle.pairing.specs.Translated.{translated, translated_names, numbers, atoms_sum, rules_sum, occurrences_sum}
 use Rattle.answers.specs.Translating.{translation_text, translate_answer, translate_output}
 
@@ -18,9 +16,9 @@ use Rattle.answers.specs.Translating.{translation_text, translate_answer, transl
 pub record Handed (text rules names out : List ℕ) : Type 0 where
   pub words : ℕ
   pub bytes : ℕ
-  pub read : read_answer text (length rules) (length names) ≡ Accepted words bytes
+  pub read : read_answer text (length rules) (length names) ≡ Ok (read_sizes words bytes)
   pub size : ℕ
-  pub written : translate_answer (take words (read_rules text rules names)) (take bytes (read_names text rules names)) (length out) ≡ Text size
+  pub written : translate_answer (take words (read_rules text rules names)) (take bytes (read_names text rules names)) (length out) ≡ Ok size
 
 -- what the translator then wrote is the delivered text
 abbrev pub delivered : {text rules names out : List ℕ} → Handed text rules names out → List ℕ

@@ -1,7 +1,8 @@
 -- The marked cases of document 01's "Sheets of known states", from the bytes of the files; the order of states is that of document 02, W-206, units are those of W-207, the counts of translations those of W-214, atoms that no rule has are left out by W-203, clause files are read by W-202, canonical texts are those of W-205, conditions are read by W-208, and rules are indexed by W-209.
-use Rattle.std.specs.Prelude.{ℕ, ◌≡◌, List, [], ◌∷◌, ◌++◌, length}
+use Rattle.std.specs.Prelude.{ℕ, ◌≡◌, Result, Ok, Err, List, [], ◌∷◌, ◌++◌, length}
 use Rattle.kinds.specs.Limits.{budget_limit}
 use Rattle.kinds.specs.Words.{bytes}
+use Rattle.kinds.specs.declared.refusals.Refusal.{Refusal}
 use Rattle.kinds.specs.declared.refusals.Refusal.TheVariants.{BrokenForm, Name, DeclaredTwice, Undeclared, Limit, BrokenClauses, LiteralBeyond, BrokenCondition}
 use Rattle.rules.specs.Lists.{sum, flat, from}
 use Rattle.rules.specs.Rules.{occurrences}
@@ -15,8 +16,6 @@ use Rattle.walks.specs.declared.answers.Verdict.{Verdict}
 use Rattle.walks.specs.declared.answers.Verdict.TheVariants.{Yes, Broken, Beaten, Spent, Refused}
 use Rattle.walks.specs.declared.answers.NextState.{NextState}
 use Rattle.walks.specs.declared.answers.NextState.TheVariants.{State, Nothing, Refused as NotSearched}
-use Rattle.walks.specs.declared.answers.Place.{Place}
-use Rattle.walks.specs.declared.answers.Place.TheVariants.{At, Refused as NoPlace}
 use Rattle.places.specs.Places.{place}
 use Rattle.rule_index.specs.Index.{index_of}
 use Rattle.rule_index.specs.Flip.{broken_rules, after_flip}
@@ -137,9 +136,9 @@ stable (accepted p names) set = stable_verdict p.atoms p.rules set budget_limit
 stable (refused f line) set = Refused f
 
 -- a set's place
-abbrev pub placed : Said → ℕ → Place
-placed (accepted p names) set = At (place p.atoms set)
-placed (refused f line) set = NoPlace f
+abbrev pub placed : Said → ℕ → Result ℕ Refusal
+placed (accepted p names) set = Ok (place p.atoms set)
+placed (refused f line) set = Err f
 
 -- the next state from a place on
 abbrev pub next : Said → ℕ → NextState
@@ -204,7 +203,7 @@ pub record Sheet : Type 0 where
   pub a_from_0 : next (said file_a) 0 ≡ State 6 19
   pub a_from_4 : next (said file_a) 4 ≡ Nothing 26
   pub a_from_8 : next (said file_a) 8 ≡ Nothing 0
-  pub a_6_place : placed (said file_a) 6 ≡ At 3
+  pub a_6_place : placed (said file_a) 6 ≡ Ok 3
   -- the plain program: set 2 stable, 4 units; set 3 beaten by 2, 5 units; set 4 beaten by 0, 4 units
   pub plain_2 : stable (said plain) 2 ≡ Yes 4
   pub plain_3 : stable (said plain) 3 ≡ Beaten 2 5

@@ -10,10 +10,7 @@ ghost use Rattle.walks.specs.Answers.{preferred_answer, stable_answer, next_answ
 ghost use Rattle.rule_index.specs.Answers.{index_answer, index_output, add_answer, add_store, add_index, flip_answer, flip_output};
 ghost use Rattle.fields.specs.Fields.{read_fields, written_fields, verdict_fields, next_fields, place_fields, filled_fields, grown_fields};
 
-use fields::{
-    GrownFields, ReadFields, ValueFields, VerdictFields, WrittenFields, filled_fields,
-    grown_fields, next_fields, place_fields, read_fields, verdict_fields, written_fields,
-};
+use fields::{GrownFields, ReadFields, ValueFields, VerdictFields, WrittenFields};
 
 #[unsafe(no_mangle)]
 pub extern "C" fn rigtomato_read(text: &[u8], rules: &mut [u16], names: &mut [u8]) -> ReadFields
@@ -21,8 +18,7 @@ pub extern "C" fn rigtomato_read(text: &[u8], rules: &mut [u16], names: &mut [u8
     ensures rules { rules.new ≡ read_rules text.now rules.old names.old }
     ensures names { names.new ≡ read_names text.now rules.old names.old }
 {
-    let answer = rigtomato::read(text, rules, names);
-    read_fields(answer)
+    ReadFields::from(rigtomato::read(text, rules, names))
 }
 
 #[unsafe(no_mangle)]
@@ -35,8 +31,7 @@ pub extern "C" fn rigtomato_read_clauses(
     ensures rules { rules.new ≡ clauses_rules text.now rules.old names.old }
     ensures names { names.new ≡ clauses_names text.now rules.old names.old }
 {
-    let answer = rigtomato::read_clauses(text, rules, names);
-    read_fields(answer)
+    ReadFields::from(rigtomato::read_clauses(text, rules, names))
 }
 
 #[unsafe(no_mangle)]
@@ -44,8 +39,7 @@ pub extern "C" fn rigtomato_write(rules: &[u16], names: &[u8], out: &mut [u8]) -
     ensures answer { result ≡ written_fields (write_answer rules.now names.now (length out.old)) }
     ensures output { out.new ≡ write_output rules.now names.now out.old }
 {
-    let answer = rigtomato::write(rules, names, out);
-    written_fields(answer)
+    WrittenFields::from(rigtomato::write(rules, names, out))
 }
 
 #[unsafe(no_mangle)]
@@ -57,8 +51,7 @@ pub extern "C" fn rigtomato_write_canonical(
     ensures answer { result ≡ written_fields (canonical_answer rules.now names.now (length out.old)) }
     ensures output { out.new ≡ canonical_output rules.now names.now out.old }
 {
-    let answer = rigtomato::write_canonical(rules, names, out);
-    written_fields(answer)
+    WrittenFields::from(rigtomato::write_canonical(rules, names, out))
 }
 
 #[unsafe(no_mangle)]
@@ -66,40 +59,35 @@ pub extern "C" fn rigtomato_translate(rules: &[u16], names: &[u8], out: &mut [u8
     ensures answer { result ≡ written_fields (translate_answer rules.now names.now (length out.old)) }
     ensures output { out.new ≡ translate_output rules.now names.now out.old }
 {
-    let answer = rigtomato::translate(rules, names, out);
-    written_fields(answer)
+    WrittenFields::from(rigtomato::translate(rules, names, out))
 }
 
 #[unsafe(no_mangle)]
 pub extern "C" fn rigtomato_preferred(rules: &[u16], set: u64, budget: u64) -> VerdictFields
     ensures { result ≡ verdict_fields (preferred_answer rules.now set budget) }
 {
-    let answer = rigtomato::preferred(rules, set, budget);
-    verdict_fields(answer)
+    VerdictFields::from(rigtomato::preferred(rules, set, budget))
 }
 
 #[unsafe(no_mangle)]
 pub extern "C" fn rigtomato_stable(rules: &[u16], set: u64, budget: u64) -> VerdictFields
     ensures { result ≡ verdict_fields (stable_answer rules.now set budget) }
 {
-    let answer = rigtomato::stable(rules, set, budget);
-    verdict_fields(answer)
+    VerdictFields::from(rigtomato::stable(rules, set, budget))
 }
 
 #[unsafe(no_mangle)]
 pub extern "C" fn rigtomato_next_state(rules: &[u16], start: u64, budget: u64) -> VerdictFields
     ensures { result ≡ next_fields (next_answer rules.now start budget) }
 {
-    let answer = rigtomato::next_state(rules, start, budget);
-    next_fields(answer)
+    VerdictFields::from(rigtomato::next_state(rules, start, budget))
 }
 
 #[unsafe(no_mangle)]
 pub extern "C" fn rigtomato_place(rules: &[u16], set: u64) -> ValueFields
     ensures { result ≡ place_fields (place_answer rules.now set) }
 {
-    let answer = rigtomato::place(rules, set);
-    place_fields(answer)
+    ValueFields::from(rigtomato::place(rules, set))
 }
 
 #[unsafe(no_mangle)]
@@ -107,8 +95,7 @@ pub extern "C" fn rigtomato_index_rules(rules: &[u16], out: &mut [u16]) -> Value
     ensures answer { result ≡ filled_fields (index_answer rules.now (length out.old)) }
     ensures output { out.new ≡ index_output rules.now out.old }
 {
-    let answer = rigtomato::index_rules(rules, out);
-    filled_fields(answer)
+    ValueFields::from(rigtomato::index_rules(rules, out))
 }
 
 #[unsafe(no_mangle)]
@@ -123,8 +110,7 @@ pub extern "C" fn rigtomato_add_rule(
     ensures store { rules_out.new ≡ add_store rules.now index.now rule.now rules_out.old index_out.old }
     ensures grown { index_out.new ≡ add_index rules.now index.now rule.now rules_out.old index_out.old }
 {
-    let answer = rigtomato::add_rule(rules, index, rule, rules_out, index_out);
-    grown_fields(answer)
+    GrownFields::from(rigtomato::add_rule(rules, index, rule, rules_out, index_out))
 }
 
 #[unsafe(no_mangle)]
@@ -139,6 +125,5 @@ pub extern "C" fn rigtomato_flip(
     ensures answer { result ≡ filled_fields (flip_answer rules.now index.now list.now set atom (length out.old)) }
     ensures output { out.new ≡ flip_output rules.now index.now list.now set atom out.old }
 {
-    let answer = rigtomato::flip(rules, index, list, set, atom, out);
-    filled_fields(answer)
+    ValueFields::from(rigtomato::flip(rules, index, list, set, atom, out))
 }

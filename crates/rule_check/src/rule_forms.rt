@@ -24,12 +24,10 @@ pub fn rule_form(
     if words.len() - at < 3 {
         return None;
     }
-    let second = at + 1;
-    let third = at + 2;
     let lists = at + 3;
     let heads = words[at] as usize;
-    let bodies = words[second] as usize;
-    let nots = words[third] as usize;
+    let bodies = words[at + 1] as usize;
+    let nots = words[at + 2] as usize;
     let places = heads + bodies + nots;
     if words.len() - lists < places {
         return None;
@@ -38,12 +36,10 @@ pub fn rule_form(
     if kind.occurrences() < sum {
         return None;
     }
-    let nots_fit = not_form(kind, nots);
-    if !nots_fit {
+    if !not_form(kind, nots) {
         return None;
     }
-    let lists_fit = lists_form(words, lists, heads, bodies, nots, atoms, marks, stamp);
-    if !lists_fit {
+    if !lists_form(words, lists, heads, bodies, nots, atoms, marks, stamp) {
         return None;
     }
     Some(RuleEnd {

@@ -1,7 +1,7 @@
 // The check of a rule store (document 01, "The rule store is a slice of u16"; refusal 10).
 ghost use Rattle.std.specs.Prelude.{◌≡◌, ◌+◌, ◌≤◌, length, take, drop, get_or};
 ghost use Rattle.kinds.specs.declared.limits.Kind.TheVariants.{Preference as KindPreference};
-ghost use Rattle.stores.specs.RuleStore.{kind_of, word_count, is_role, are_words, are_classes, is_program, rule_store};
+ghost use Rattle.stores.specs.RuleStore.{kind_said, word_count, is_role, are_words, are_classes, is_program, rule_store};
 
 use kinds::limits::{Counts, Kind, Preference};
 use rule_check::rule_forms::marked_rules;
@@ -13,24 +13,19 @@ fn role_form(role: Role, classes: usize) -> bool
 {
     match role {
         Role::Minimised(class) => class <= classes,
-        Role::Varying => true,
-        Role::Fixed => true,
+        Role::Varying | Role::Fixed => true,
         Role::Unknown => false,
     }
 }
 
 // The class words, which never fall.
-fn words_form(words: &[u16], start: usize, count: usize, classes: usize) -> bool
-    requires { start + count ≤ length words.now }
-    ensures { result ≡ are_words classes 0 (take count (drop start words.now)) }
+fn words_form(words: &[u16], classes: usize) -> bool
+    ensures { result ≡ are_words classes 0 words.now }
 {
-    let end = start + count;
-    let mut before: u16 = 0;
-    for i in start..end {
-        let word = words[i];
-        let role = role_of(word);
-        let role_fits = role_form(role, classes);
-        if !role_fits {
+    let mut before = 0;
+    for word in words {
+        let word = *word;
+        if !role_form(role_of(word), classes) {
             return false;
         }
         if word < before {
@@ -52,7 +47,7 @@ fn preference_classes(words: &[u16], atoms: usize, classes: usize) -> bool
     if words.len() - 4 < atoms {
         return false;
     }
-    words_form(words, 4, atoms, classes)
+    words_form(&words[4..4 + atoms], classes)
 }
 
 fn classes_form(words: &[u16], kind: Kind, atoms: usize, classes: usize) -> bool
@@ -87,25 +82,24 @@ fn program_form(words: &[u16], kind: Kind) -> bool
         rules,
         occurrences: 0,
     };
-    let counts_fit = counts.within(kind);
-    if !counts_fit {
+    if !counts.within(kind) {
         return false;
     }
-    let classes_fit = classes_form(words, kind, atoms, classes);
-    if !classes_fit {
+    if !classes_form(words, kind, atoms, classes) {
         return false;
     }
     let start = 4 + word_count(kind, atoms);
     marked_rules(words, start, kind, atoms, rules)
 }
 
-fn kind_of(word: u16) -> Kind
-    ensures { result ≡ kind_of word }
+// The kind that the first word says.
+fn kind_of(word: u16) -> Option<Kind>
+    ensures { result ≡ kind_said word }
 {
-    if word == 0 {
-        Kind::Plain
-    } else {
-        Kind::Preference
+    match word {
+        0 => Some(Kind::Plain),
+        1 => Some(Kind::Preference),
+        _ => None,
     }
 }
 
@@ -117,12 +111,6 @@ pub fn check_rules(words: &[u16]) -> Option<Kind>
         return None;
     }
     let word = words[0];
-    if 1 < word {
-        return None;
-    }
-    let kind = kind_of(word);
-    if program_form(words, kind) {
-        return Some(kind);
-    }
-    None
+    let kind = kind_of(word)?;
+    program_form(words, kind).then_some(kind)
 }

@@ -1,14 +1,13 @@
 -- The check of the rule that stands at `at` in the words, and of the rules one after another.
 use Prim.Native.Nat.{ℕ, suc, ◌+◌, ◌-◌, ◌*◌, ◌≤◌, ◌<◌}
 use mathlib.Core.Path.{◌≡◌, refl, sym, ap, ap₂, ◌∙◌, subst}
-use mathlib.Core.Bool.{Bool, true, false, not, ◌&&◌, cond}
+use mathlib.Core.Bool.{Bool, true, false, ◌&&◌, cond}
 use mathlib.Core.List.{List}
 use native.Mathlib.Omega.{arith}
 use native.Mathlib.Nat.{add-zero}
 use lib.Dec.{T, eqb}
 use lib.ListN.{length, get_or, take, drop, length-drop}
 use lib.Seq.{get_or-drop, drop-drop}
-use borrow.Author.Tests.{not-true, not-false}
 use Rattle.std.specs.Prelude.{Option, Some, None}
 use Rattle.kinds.specs.Limits.{occurrence_limit, rule_limit}
 use Rattle.kinds.specs.declared.limits.Kind.{Kind}
@@ -95,16 +94,16 @@ module _ (ws : List ℕ) (at : ℕ) where
     pub too_many_lem : occurrence_limit kind < used + atom_count → None ≡ rule_check kind n used at ws
     too_many_lem o = broken (λ t. omega (arith, t.fits, places_at))
 
-    pub filled_not : {x : Bool} → x ≡ is_not kind not_count → not x ≡ true → None ≡ rule_check kind n used at ws
-    filled_not {x} e f = broken (λ t. subst T (ap (is_not kind) nots_at ∙ sym e ∙ not-true x f) t.nots_fit)
+    pub filled_not : {x : Bool} → x ≡ is_not kind not_count → x ≡ false → None ≡ rule_check kind n used at ws
+    filled_not {x} e f = broken (λ t. subst T (ap (is_not kind) nots_at ∙ sym e ∙ f) t.nots_fit)
 
-    pub list_wrong : {x : Bool} → x ≡ are_lists n listed → not x ≡ true → None ≡ rule_check kind n used at ws
-    list_wrong {x} e f = broken (λ t. subst T (ap (are_lists n) rule_at_lem ∙ sym e ∙ not-true x f) t.lists_fit)
+    pub list_wrong : {x : Bool} → x ≡ are_lists n listed → x ≡ false → None ≡ rule_check kind n used at ws
+    list_wrong {x} e f = broken (λ t. subst T (ap (are_lists n) rule_at_lem ∙ sym e ∙ f) t.lists_fit)
 
     pub passed :
         at + 3 + atom_count ≤ length ws → used + atom_count ≤ occurrence_limit kind
-        → {x : Bool} → x ≡ is_not kind not_count → not x ≡ false
-        → {y : Bool} → y ≡ are_lists n listed → not y ≡ false
+        → {x : Bool} → x ≡ is_not kind not_count → x ≡ true
+        → {y : Bool} → y ≡ are_lists n listed → y ≡ true
         → Some (rule_end (at + 3 + atom_count) (used + atom_count)) ≡ rule_check kind n used at ws
     unfolding rule_check
     passed i f {x} e p {y} g q =
@@ -114,8 +113,8 @@ module _ (ws : List ℕ) (at : ℕ) where
         record {
           inside = omega (arith, i, places_at, length-drop at ws);
           fits = omega (arith, f, places_at);
-          nots_fit = T-is (ap (is_not kind) nots_at ∙ sym e ∙ not-false x p);
-          lists_fit = T-is (ap (are_lists n) rule_at_lem ∙ sym g ∙ not-false y q);
+          nots_fit = T-is (ap (is_not kind) nots_at ∙ sym e ∙ p);
+          lists_fit = T-is (ap (are_lists n) rule_at_lem ∙ sym g ∙ q);
         } in
         ap₂ (λ (a u : ℕ). Some (rule_end a u)) next sum ∙ step (is_rule kind n used (drop at ws)) ((rule_tested kind n used (drop at ws)).1 tested)
       where

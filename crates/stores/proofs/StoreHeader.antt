@@ -1,19 +1,20 @@
 -- The checks of a store's header and class words, and the answer of the whole check.
 use Prim.Native.Nat.{ℕ, zero, suc, ◌+◌, ◌-◌, ◌≤◌, ◌<◌}
 use mathlib.Core.Path.{◌≡◌, refl, sym, ap, ◌∙◌}
-use mathlib.Core.Bool.{Bool, true, false, not, ◌&&◌}
+use mathlib.Core.Bool.{Bool, true, false, ◌&&◌, cond}
 use mathlib.Core.List.{List}
 use native.Mathlib.Omega.{arith}
 use lib.Dec.{T, leb, leb→le}
 use lib.ListN.{length, get_or, take, drop, replicate, length-take, length-drop}
 use lib.Seq.{drop-drop}
-use borrow.Author.Tests.{not-true, not-false, le-leb, lt-leb}
-use Rattle.std.specs.Prelude.{Some, None}
+use borrow.Author.Tests.{le-leb, lt-leb}
+use Rattle.std.specs.Prelude.{Option, Some, None}
+use Rattle.std.specs.Bool.{then_some}
 use Rattle.kinds.specs.Limits.{atom_limit, rule_limit, occurrence_limit, class_limit, within}
 use Rattle.kinds.specs.declared.limits.Kind.{Kind}
 use Rattle.kinds.specs.declared.limits.Kind.TheVariants.{Plain, Preference}
 use Rattle.stores.specs.Checking.{Below}
-use Rattle.stores.specs.RuleStore.{header_counts, kind_of, word_count, are_words, are_classes, are_rules, is_program, is_store, rule_store}
+use Rattle.stores.specs.RuleStore.{header_counts, kind_of, kind_said, word_count, are_words, are_classes, are_rules, is_program, is_store, rule_store}
 use Rattle.stores.proofs.RuleTests.{T-is, and_iff}
 use Rattle.stores.proofs.RuleStores.{classes_law, words_count}
 
@@ -39,8 +40,10 @@ module _ (ws : List ℕ) (n k : ℕ) where
     pub few_words : length ws - 4 < n → false ≡ are_classes Preference n k (drop 4 ws)
     few_words h = simp (le-leb k class_limit c, lt-leb n (length (drop 4 ws)) (omega (arith, length-drop 4 ws)))
 
-    pub all_words : n ≤ length ws - 4 → {x : Bool} → x ≡ are_words k 0 (take n (drop 4 ws)) → x ≡ are_classes Preference n k (drop 4 ws)
-    all_words h e = simp (le-leb k class_limit c, le-leb n (length (drop 4 ws)) (omega (arith, length-drop 4 ws))) e
+    pub all_words : n ≤ length ws - 4 → {x : Bool} → x ≡ are_words k 0 (take (4 + n - 4) (drop 4 ws)) → x ≡ are_classes Preference n k (drop 4 ws)
+    all_words h e =
+        let q : 4 + n - 4 ≡ n = omega arith in
+        simp (le-leb k class_limit c, le-leb n (length (drop 4 ws)) (omega (arith, length-drop 4 ws))) (e ∙ ap (λ (m : ℕ). are_words k 0 (take m (drop 4 ws))) q)
 
 -- the counts
 module _ (ws : List ℕ) (kind : Kind) where
@@ -54,12 +57,12 @@ module _ (ws : List ℕ) (kind : Kind) where
   r = get_or ws 3 0
 
   module _ {c : Bool} (p : c ≡ within kind (header_counts n r)) where
-    pub many_counts : not c ≡ true → false ≡ is_program kind n k r (drop 4 ws)
-    many_counts h = ap (λ (b : Bool). b && (are_classes kind n k (drop 4 ws) && are_rules kind n 0 r (drop (word_count kind n) (drop 4 ws)))) (sym (not-true c h) ∙ p)
+    pub many_counts : c ≡ false → false ≡ is_program kind n k r (drop 4 ws)
+    many_counts h = ap (λ (b : Bool). b && (are_classes kind n k (drop 4 ws) && are_rules kind n 0 r (drop (word_count kind n) (drop 4 ws)))) (sym h ∙ p)
 
-    module _ (h : not c ≡ false) where
+    module _ (h : c ≡ true) where
       fits : true ≡ within kind (header_counts n r)
-      fits = sym (not-false c h) ∙ p
+      fits = sym h ∙ p
 
       -- each count by itself
       pub few : (n ≤ atom_limit kind) × (r ≤ rule_limit kind)
@@ -69,19 +72,19 @@ module _ (ws : List ℕ) (kind : Kind) where
           three t = simp and_iff at t
 
       module _ {x : Bool} (e : x ≡ are_classes kind n k (drop 4 ws)) where
-        pub wrong_classes : not x ≡ true → false ≡ is_program kind n k r (drop 4 ws)
-        wrong_classes f = ap (λ (b : Bool). b && (false && are_rules kind n 0 r (drop (word_count kind n) (drop 4 ws)))) fits ∙ ap (λ (b : Bool). within kind (header_counts n r) && (b && are_rules kind n 0 r (drop (word_count kind n) (drop 4 ws)))) (sym (not-true x f) ∙ e)
+        pub wrong_classes : x ≡ false → false ≡ is_program kind n k r (drop 4 ws)
+        wrong_classes f = ap (λ (b : Bool). b && (false && are_rules kind n 0 r (drop (word_count kind n) (drop 4 ws)))) fits ∙ ap (λ (b : Bool). within kind (header_counts n r) && (b && are_rules kind n 0 r (drop (word_count kind n) (drop 4 ws)))) (sym f ∙ e)
 
-        module _ (f : not x ≡ false) {w : ℕ} (g : w ≡ word_count kind n) where
+        module _ (f : x ≡ true) {w : ℕ} (g : w ≡ word_count kind n) where
           pub words_inside : 4 ≤ length ws → 4 + w ≤ length ws
           words_inside l =
-              let c = words_count kind n k (take (word_count kind n) (drop 4 ws)) ((classes_law kind n k (drop 4 ws)).0 (T-is (sym e ∙ not-false x f))) in
+              let c = words_count kind n k (take (word_count kind n) (drop 4 ws)) ((classes_law kind n k (drop 4 ws)).0 (T-is (sym e ∙ f))) in
               omega (arith, c, g, length-take (word_count kind n) (drop 4 ws), length-drop 4 ws)
 
           pub rules_left : {y : Bool} → y ≡ are_rules kind n 0 r (drop (4 + w) ws) → y ≡ is_program kind n k r (drop 4 ws)
           rules_left {y} q =
               let d : are_rules kind n 0 r (drop (word_count kind n) (drop 4 ws)) ≡ y = ap (are_rules kind n 0 r) (drop-drop (word_count kind n) 4 ws ∙ ap (λ (m : ℕ). drop (4 + m) ws) (sym g)) ∙ sym q in
-              sym d ∙ ap (λ (b : Bool). b && are_rules kind n 0 r (drop (word_count kind n) (drop 4 ws))) (sym (not-false x f) ∙ e) ∙ ap (λ (b : Bool). b && (are_classes kind n k (drop 4 ws) && are_rules kind n 0 r (drop (word_count kind n) (drop 4 ws)))) fits
+              sym d ∙ ap (λ (b : Bool). b && are_rules kind n 0 r (drop (word_count kind n) (drop 4 ws))) (sym f ∙ e) ∙ ap (λ (b : Bool). b && (are_classes kind n k (drop 4 ws) && are_rules kind n 0 r (drop (word_count kind n) (drop 4 ws)))) fits
 
 -- the whole
 module _ (ws : List ℕ) where
@@ -90,19 +93,28 @@ module _ (ws : List ℕ) where
   no_header h = simp (lt-leb 4 (length ws) h)
 
   module _ (h : 4 ≤ length ws) where
-    pub no_kind : 1 < get_or ws 0 0 → None ≡ rule_store ws
+    abbrev word : ℕ
+    word = get_or ws 0 0
+
+    pub no_kind : None ≡ kind_said word → None ≡ rule_store ws
     unfolding rule_store is_store
-    no_kind l = simp (le-leb 4 (length ws) h, lt-leb (get_or ws 0 0) 1 l)
+    no_kind e = step (leb word 1) refl e
+      where
+        step : (b : Bool) → leb word 1 ≡ b → ◌≡◌ {A = Option Kind} None (cond b (Some (kind_of word)) None) → None ≡ rule_store ws
+        step true q r = absurd (let z : ◌≡◌ {A = ℕ} 0 1 = cc in omega arith)
+        step false q r = simp (le-leb 4 (length ws) h, q)
 
-    module _ (l : get_or ws 0 0 ≤ 1) {kind : Kind} (e : kind ≡ kind_of (get_or ws 0 0)) {x : Bool} (q : x ≡ is_program kind (get_or ws 1 0) (get_or ws 2 0) (get_or ws 3 0) (drop 4 ws)) where
-      tested : is_store ws ≡ x
-      unfolding is_store
-      tested = simp (le-leb 4 (length ws) h, le-leb (get_or ws 0 0) 1 l) (ap (λ (j : Kind). is_program j (get_or ws 1 0) (get_or ws 2 0) (get_or ws 3 0) (drop 4 ws)) (sym e) ∙ sym q)
+    pub answers : {kind : Kind} → Some kind ≡ kind_said word → {x : Bool} → x ≡ is_program kind (get_or ws 1 0) (get_or ws 2 0) (get_or ws 3 0) (drop 4 ws) → then_some x kind ≡ rule_store ws
+    unfolding rule_store is_store
+    answers {kind} e {x} q = step (leb word 1) refl e
+      where
+        chosen : (b : Bool) → then_some b kind ≡ cond b (Some kind) None
+        chosen true = refl
+        chosen false = refl
 
-      pub answers_kind : x ≡ true → Some kind ≡ rule_store ws
-      unfolding rule_store
-      answers_kind f = simp (tested, f) (ap Some e)
-
-      pub answers_refused : x ≡ false → None ≡ rule_store ws
-      unfolding rule_store
-      answers_refused f = simp (tested, f)
+        step : (b : Bool) → leb word 1 ≡ b → ◌≡◌ {A = Option Kind} (Some kind) (cond b (Some (kind_of word)) None) → then_some x kind ≡ rule_store ws
+        step true l r =
+            let k : kind ≡ kind_of word = cc in
+            chosen x ∙ simp (le-leb 4 (length ws) h, l)
+            (ap (λ (b : Bool). cond b (Some kind) None) q ∙ ap (λ (j : Kind). cond (is_program j (get_or ws 1 0) (get_or ws 2 0) (get_or ws 3 0) (drop 4 ws)) (Some j) None) k)
+        step false l r = absurd (let z : ◌≡◌ {A = ℕ} 0 1 = cc in omega arith)

@@ -31,6 +31,10 @@ pub record StoreOf (ws : List ℕ) (p : Program) : Type 0 where
 abbrev pub kind_of : ℕ → Kind
 kind_of w = cond (eqb w 0) Plain Preference
 
+-- the kind that a word says, if it says one
+abbrev pub kind_said : ℕ → Option Kind
+kind_said w = cond (leb w 1) (Some (kind_of w)) None
+
 abbrev pub word_count : Kind → ℕ → ℕ
 word_count Plain n = 0
 word_count Preference n = n

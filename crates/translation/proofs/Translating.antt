@@ -6,13 +6,14 @@ use mathlib.Core.Bool.{Bool, true, false}
 use mathlib.Core.List.{List}
 use lib.Dec.{T}
 use lib.ListN.{length, get_or, take}
+use Rattle.std.specs.Prelude.{Some, None, Result, Err}
 use Rattle.kinds.specs.Sizes.{store_words, store_bytes}
 use Rattle.kinds.specs.declared.limits.Kind.TheVariants.{Plain, Preference}
+use Rattle.kinds.specs.declared.refusals.Refusal.{Refusal}
 use Rattle.kinds.specs.declared.refusals.Refusal.TheVariants.{RuleStore, NameStore}
 use Rattle.stores.specs.Program.{Program, ProgramForm}
 use Rattle.stores.specs.RuleStore.{StoreOf, encode, decode, rule_store, is_of}
 use Rattle.name_store.specs.NameStore.{NamesForm, NamesOf, encode_names, decode_names, are_names}
-use Rattle.stores.specs.declared.rule_store.RuleStore.TheVariants.{Of, Refused as NoStore}
 use Rattle.name_store.proofs.NameStores.{decode_names_lem, decoded_names}
 use Rattle.stores.proofs.RuleStores.{decode_encode, of_kind_lem}
 use Rattle.pairing.specs.Translated.{translated, translated_names}
@@ -23,8 +24,6 @@ use Rattle.output.specs.Emitted.{Emitted}
 use Rattle.output.proofs.Emitting.{front_inside, front_is}
 use Rattle.answers.specs.Writing.{fitted, stores_text}
 use Rattle.writer.specs.Fitted.{fitted_output}
-use Rattle.answers.specs.declared.Written.{Written}
-use Rattle.answers.specs.declared.Written.TheVariants.{Refused}
 use Rattle.answers.specs.Translating.{translation_text, stores_translation, translate_answer, translate_output}
 use Rattle.translated.specs.PreferenceStore.{PreferenceStore}
 use Rattle.translated.proofs.FileStore.{store_fits}
@@ -93,22 +92,22 @@ module _ {rules names : List ℕ} (h : PreferenceStore rules) (g : NamesOf names
     text_is : stores_text (take rules_end words') (take names_end bytes') ≡ stores_translation rules names
     text_is = ap₂ stores_text (sym words_are) (sym bytes_are) ∙ text_same
 
-    pub translated_answer : (before : List ℕ) {r : Written} {after : List ℕ}
+    pub translated_answer : (before : List ℕ) {r : Result ℕ Refusal} {after : List ℕ}
         → (r ≡ fitted (stores_text (take rules_end words') (take names_end bytes')) (length before)) × (after ≡ fitted_output (stores_text (take rules_end words') (take names_end bytes')) before)
         → (r ≡ fitted (stores_translation rules names) (length before)) × (after ≡ fitted_output (stores_translation rules names) before)
     translated_answer before k = (k.0 ∙ ap (λ (t : List ℕ). fitted t (length before)) text_is, k.1 ∙ ap (λ (t : List ℕ). fitted_output t before) text_is)
 
 -- the refusals, in their order
 module _ (rules names before : List ℕ) where
-  pub no_store : rule_store rules ≡ NoStore → (Refused RuleStore ≡ translate_answer rules names (length before)) × (before ≡ translate_output rules names before)
+  pub no_store : rule_store rules ≡ None → (Err RuleStore ≡ translate_answer rules names (length before)) × (before ≡ translate_output rules names before)
   unfolding translate_answer translate_output
   no_store e = let t : is_of Preference (rule_store rules) ≡ false = ap (is_of Preference) e in (rw t, rw t)
 
-  pub plain_store : rule_store rules ≡ Of Plain → (Refused RuleStore ≡ translate_answer rules names (length before)) × (before ≡ translate_output rules names before)
+  pub plain_store : rule_store rules ≡ Some Plain → (Err RuleStore ≡ translate_answer rules names (length before)) × (before ≡ translate_output rules names before)
   unfolding translate_answer translate_output
   plain_store e = let t : is_of Preference (rule_store rules) ≡ false = ap (is_of Preference) e in (rw t, rw t)
 
-  module _ (e : rule_store rules ≡ Of Preference) where
+  module _ (e : rule_store rules ≡ Some Preference) where
     is_preference : is_of Preference (rule_store rules) ≡ true
     is_preference = ap (is_of Preference) e
 
@@ -120,7 +119,7 @@ module _ (rules names before : List ℕ) where
       unfolding decode
       fits = sym f
 
-      pub no_names : b ≡ false → (Refused NameStore ≡ translate_answer rules names (length before)) × (before ≡ translate_output rules names before)
+      pub no_names : b ≡ false → (Err NameStore ≡ translate_answer rules names (length before)) × (before ≡ translate_output rules names before)
       unfolding translate_answer translate_output
       no_names g = let t = fits ∙ g in (rw (is_preference, t), rw (is_preference, t))
 
@@ -128,7 +127,7 @@ module _ (rules names before : List ℕ) where
         pub names_here : NamesOf names Preference (decode rules).atoms (decode_names (decode rules).atoms names)
         names_here = decoded_names Preference (decode rules).atoms names (subst T (sym (fits ∙ g)) tt)
 
-        pub answered : {r : Written} {after : List ℕ} → (r ≡ fitted (stores_translation rules names) (length before)) × (after ≡ fitted_output (stores_translation rules names) before)
+        pub answered : {r : Result ℕ Refusal} {after : List ℕ} → (r ≡ fitted (stores_translation rules names) (length before)) × (after ≡ fitted_output (stores_translation rules names) before)
             → (r ≡ translate_answer rules names (length before)) × (after ≡ translate_output rules names before)
         unfolding translate_answer translate_output
         answered h = let t = fits ∙ g in (rw (is_preference, t) h.0, rw (is_preference, t) h.1)

@@ -16,7 +16,6 @@ use kinds::limits::{Kind, Plain};
 use kinds::refusals::Refusal;
 use name_check::check_names;
 use store_check::store_forms::check_rules;
-use stores::rule_store::RuleStore;
 use translated::translated_names::translate_names;
 use translated::translated_rules::translate_rules;
 use writer::write_checked;
@@ -54,22 +53,13 @@ pub fn translate(rules: &[u16], names: &[u8], out: &mut [u8]) -> Written
     ensures answer { result ≡ translate_answer rules.now names.now (length out.old) }
     ensures output { out.new ≡ translate_output rules.now names.now out.old }
 {
-    let store = check_rules(rules);
-    let RuleStore::Of(kind) = store else {
-        return Written::Refused {
-            refusal: Refusal::RuleStore,
-        };
-    };
+    let kind = check_rules(rules).ok_or(Refusal::RuleStore)?;
     let Kind::Preference = kind else {
-        return Written::Refused {
-            refusal: Refusal::RuleStore,
-        };
+        return Err(Refusal::RuleStore);
     };
     let atoms = rules[1] as usize;
     if !check_names(names, Kind::Preference, atoms) {
-        return Written::Refused {
-            refusal: Refusal::NameStore,
-        };
+        return Err(Refusal::NameStore);
     }
     translate_checked(rules, names, out)
 }

@@ -8,14 +8,15 @@ use mathlib.Core.List.{List, ◌++◌}
 use lib.ListN.{length, get_or, take, drop}
 use lib.Seq.{sets-eq}
 use borrow.Author.Tests.{le-leb, lt-leb}
+use Rattle.std.specs.Prelude.{Some, None, Result, Ok, Err}
 use Rattle.kinds.specs.Limits.{atom_limit}
 use Rattle.kinds.specs.declared.limits.Kind.{Kind}
 use Rattle.kinds.specs.declared.limits.Kind.TheVariants.{Plain}
+use Rattle.kinds.specs.declared.refusals.Refusal.{Refusal}
 use Rattle.kinds.specs.declared.refusals.Refusal.TheVariants.{Output, RuleStore, NameStore}
 use Rattle.stores.specs.RuleStore.{StoreOf, decode, rule_store}
 use Rattle.name_store.specs.NameStore.{NamesOf, decode_names, are_names}
 use Rattle.name_store.specs.NameIndex.{Placed, Indexed}
-use Rattle.stores.specs.declared.rule_store.RuleStore.TheVariants.{Of, Refused as NoStore}
 use Rattle.name_store.proofs.NamePlaces.{length_decode}
 use Rattle.name_store.proofs.NameEntries.{length_filled, filled}
 use Rattle.stores.proofs.StoreHeader.{atoms_small}
@@ -26,21 +27,19 @@ use Rattle.text.specs.Sources.{Sources, source_text}
 use Rattle.answers.specs.Writing.{fitted, stores_text, write_answer, write_output}
 use Rattle.writer.specs.Fitted.{fitted_output}
 use Rattle.writer.proofs.StoreTests.{store_here, names_here, not_stored, not_named, both_stored}
-use Rattle.answers.specs.declared.Written.{Written}
-use Rattle.answers.specs.declared.Written.TheVariants.{Text, Refused}
 use Rattle.text.proofs.TextLength.{text_fits}
 use Rattle.text.proofs.FilledTable.{handed_length, handed_placed}
 
 -- counted, then refused or written
 module _ {none none' w : List ℕ} {size : ℕ} (e : Emitted none 0 w none' size) where
-  pub too_short : (d : List ℕ) → length d < size → (Refused Output ≡ fitted w (length d)) × (d ≡ fitted_output w d)
+  pub too_short : (d : List ℕ) → length d < size → (Err Output ≡ fitted w (length d)) × (d ≡ fitted_output w d)
   too_short d l = let t = lt-leb (length w) (length d) (omega (arith, e.place)) in (rw t, rw t)
 
-  pub written : {d d' : List ℕ} {size' : ℕ} → size ≤ length d → Emitted d 0 w d' size' → (Text size ≡ fitted w (length d)) × (d' ≡ fitted_output w d)
+  pub written : {d d' : List ℕ} {size' : ℕ} → size ≤ length d → Emitted d 0 w d' size' → (Ok size ≡ fitted w (length d)) × (d' ≡ fitted_output w d)
   written {d} l p =
       let t = le-leb (length w) (length d) (omega (arith, e.place)) in
       let c : 0 + length w ≤ length d = omega (arith, e.place) in (
-        rw t (ap Text (e.place ∙ zero-add (length w))),
+        rw t (ap Ok (e.place ∙ zero-add (length w))),
         rw t (p.bytes ∙ sets-eq w d 0 c ∙ ap (λ (m : ℕ). w ++ drop m d) (zero-add (length w))),
       )
 
@@ -86,7 +85,7 @@ module _ {rules names : List ℕ} (s : StoreOf rules (decode rules)) (m : NamesO
       pub handed_sources : Placed (stored_names names (take (get_or rules 1 0) table)) names places → Sources rules names front
       handed_sources p = sources front front_sized (handed_placed names_at few_of_kind table front_inside places k p)
 
-      pub handed_answer : (before : List ℕ) {r : Written} {after : List ℕ} → (r ≡ fitted (source_text rules names front) (length before)) × (after ≡ fitted_output (source_text rules names front) before)
+      pub handed_answer : (before : List ℕ) {r : Result ℕ Refusal} {after : List ℕ} → (r ≡ fitted (source_text rules names front) (length before)) × (after ≡ fitted_output (source_text rules names front) before)
           → (r ≡ fitted (stores_text rules names) (length before)) × (after ≡ fitted_output (stores_text rules names) before)
       handed_answer before h =
           let e = text_same front front_sized in
@@ -95,12 +94,12 @@ module _ {rules names : List ℕ} (s : StoreOf rules (decode rules)) (m : NamesO
 -- the refusals, in their order
 
 module _ (rules names before : List ℕ) where
-  pub no_store : rule_store rules ≡ NoStore → (Refused RuleStore ≡ write_answer rules names (length before)) × (before ≡ write_output rules names before)
+  pub no_store : rule_store rules ≡ None → (Err RuleStore ≡ write_answer rules names (length before)) × (before ≡ write_output rules names before)
   unfolding write_answer write_output
   no_store = not_stored rules names (stores_text rules names) before
 
-  module _ (kind : Kind) (e : rule_store rules ≡ Of kind) (b : Bool) (f : b ≡ are_names kind (get_or rules 1 0) names) where
-    pub no_names : b ≡ false → (Refused NameStore ≡ write_answer rules names (length before)) × (before ≡ write_output rules names before)
+  module _ (kind : Kind) (e : rule_store rules ≡ Some kind) (b : Bool) (f : b ≡ are_names kind (get_or rules 1 0) names) where
+    pub no_names : b ≡ false → (Err NameStore ≡ write_answer rules names (length before)) × (before ≡ write_output rules names before)
     unfolding write_answer write_output
     no_names = not_named rules names (stores_text rules names) before kind e b f
 
@@ -118,7 +117,7 @@ module _ (rules names before : List ℕ) where
       pub found_sources : Sources rules names found
       found_sources = sources (store_here rules kind e) (names_here rules kind e names b f g) found found_length (filled (get_or rules 1 0) x).placed
 
-      pub answered : {r : Written} {after : List ℕ} → (r ≡ fitted (source_text rules names found) (length before)) × (after ≡ fitted_output (source_text rules names found) before)
+      pub answered : {r : Result ℕ Refusal} {after : List ℕ} → (r ≡ fitted (source_text rules names found) (length before)) × (after ≡ fitted_output (source_text rules names found) before)
           → (r ≡ write_answer rules names (length before)) × (after ≡ write_output rules names before)
       unfolding write_answer write_output
       answered h =

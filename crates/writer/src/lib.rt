@@ -15,7 +15,6 @@ use kinds::refusals::Refusal;
 use name_check::index_names;
 use name_store::index::BUCKETS;
 use store_check::store_forms::check_rules;
-use stores::rule_store::RuleStore;
 use text::atoms::place_names;
 use text::text::emit_text;
 
@@ -28,12 +27,10 @@ fn write_text(rules: &[u16], names: &[u8], starts: &[u16], out: &mut [u8]) -> Wr
     let mut none = [0u8; 0];
     let bytes = emit_text(rules, names, starts, &mut none);
     if out.len() < bytes {
-        return Written::Refused {
-            refusal: Refusal::Output,
-        };
+        return Err(Refusal::Output);
     }
     emit_text(rules, names, starts, out);
-    Written::Text { bytes }
+    Ok(bytes)
 }
 
 // The same, with room for the table of the places of names.
@@ -62,20 +59,13 @@ pub fn write(rules: &[u16], names: &[u8], out: &mut [u8]) -> Written
     ensures answer { result ≡ write_answer rules.now names.now (length out.old) }
     ensures output { out.new ≡ write_output rules.now names.now out.old }
 {
-    let store = check_rules(rules);
-    let RuleStore::Of(kind) = store else {
-        return Written::Refused {
-            refusal: Refusal::RuleStore,
-        };
-    };
+    let kind = check_rules(rules).ok_or(Refusal::RuleStore)?;
     let atoms = rules[1] as usize;
     let mut starts = [0u16; Plain::ATOMS];
     let mut heads = [0u16; BUCKETS];
     let mut next = [0u16; Plain::ATOMS];
     if !index_names(names, kind, atoms, &mut starts, &mut heads, &mut next) {
-        return Written::Refused {
-            refusal: Refusal::NameStore,
-        };
+        return Err(Refusal::NameStore);
     }
     write_text(rules, names, &starts[..atoms], out)
 }

@@ -1,6 +1,5 @@
-use Prim.Native.Nat.{◌-◌}
 use Rattle.stores.proofs.Marks.{Marking}
 use Rattle.list_check.proofs.list_forms.list_form.Given as goal
 
-abbrev pub invariant-loop-i : goal.invariant-loop-i
-invariant-loop-i l = Marking l.words l.at l.count l.atoms l.initial.marks l.stamp l.end l.marks l.i
+abbrev pub invariant-loop-word : goal.invariant-loop-word
+invariant-loop-word l = Marking l.list l.atoms l.initial.marks l.stamp l.marks l.word-index

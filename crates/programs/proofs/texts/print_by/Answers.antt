@@ -5,16 +5,16 @@ use borrow.Author.Rules.{rules}
 use Rattle.programs.proofs.texts.print_by.Goals as goal
 
 pub slice_bounds-show_stores-end : goal.slice_bounds-show_stores-end
-slice_bounds-show_stores-end c = omega (arith, rules_part c.args.text.now c.args.rules.now c.args.names.now c.read-answer.ensures.answer c.in-Accepted.is c.read-answer.ensures.rules c.read-answer.ensures.names)
+slice_bounds-show_stores-end c = omega (arith, rules_part c.args.text.now c.args.rules.now c.args.names.now c.read.ensures.answer c.in-Ok.is c.read.ensures.rules c.read.ensures.names)
 
-pub slice_bounds-show_stores-end-in-Accepted : goal.slice_bounds-show_stores-end-in-Accepted
-slice_bounds-show_stores-end-in-Accepted c = omega (arith, names_part c.args.text.now c.args.rules.now c.args.names.now c.read-answer.ensures.answer c.in-Accepted.is c.read-answer.ensures.rules c.read-answer.ensures.names)
+pub slice_bounds-show_stores-end-in-Ok : goal.slice_bounds-show_stores-end-in-Ok
+slice_bounds-show_stores-end-in-Ok c = omega (arith, names_part c.args.text.now c.args.rules.now c.args.names.now c.read.ensures.answer c.in-Ok.is c.read.ensures.rules c.read.ensures.names)
 
 pub show_stores-requires : goal.show_stores-requires
-show_stores-requires c = read_stores c.args.text.now c.args.rules.now c.args.names.now c.read-answer.ensures.answer c.in-Accepted.is c.read-answer.ensures.rules c.read-answer.ensures.names
+show_stores-requires c = read_stores c.args.text.now c.args.rules.now c.args.names.now c.read.ensures.answer c.in-Ok.is c.read.ensures.rules c.read.ensures.names
 
-pub returns-in-Accepted : goal.returns-in-Accepted
-returns-in-Accepted c = shown_renamed (accepted_text c.args.text.now c.args.rules.now c.args.names.now c.read-answer.ensures.answer c.in-Accepted.is c.read-answer.ensures.rules c.read-answer.ensures.names _ c.requires.0) c.show_stores.ensures
+pub returns-in-Ok : goal.returns-in-Ok
+returns-in-Ok c = shown_renamed (accepted_text c.args.text.now c.args.rules.now c.args.names.now c.read.ensures.answer c.in-Ok.is c.read.ensures.rules c.read.ensures.names _ c.requires.0) c.show_stores.ensures
 
-pub returns-in-Refused : goal.returns-in-Refused
-returns-in-Refused c = shown_renamed (refused_text_lem _ c.args.text.now c.requires.0 c.args.rules.now c.args.names.now c.requires.1 c.requires.2 c.read-answer.ensures.answer c.in-Refused.is) c.show_refused.ensures
+pub returns-in-Err : goal.returns-in-Err
+returns-in-Err c = shown_renamed (refused_text_lem _ c.args.text.now c.requires.0 c.args.rules.now c.args.names.now c.requires.1 c.requires.2 c.read.ensures.answer c.in-Err.is) c.show_refused.ensures

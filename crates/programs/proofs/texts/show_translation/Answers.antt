@@ -7,10 +7,10 @@ use native.Mathlib.Omega.{arith}
 use Rattle.programs.proofs.texts.show_translation.Goals as goal
 
 pub slice_bounds-show-end : goal.slice_bounds-show-end
-slice_bounds-show-end c = omega (arith, translation_fits _ _ (replicate stream_limit 0) (length-replicate {A = ℕ} stream_limit 0) c.translate_checked-answer.ensures.answer c.translate_checked-answer.ensures.output c.in-Text.is)
+slice_bounds-show-end c = omega (arith, translation_fits _ _ (replicate stream_limit 0) (length-replicate {A = ℕ} stream_limit 0) c.translate_checked.ensures.answer c.translate_checked.ensures.output c.in-Ok.is)
 
-pub returns-in-Text : goal.returns-in-Text
-returns-in-Text c = shown_renamed (translation_is _ _ (replicate stream_limit 0) (length-replicate {A = ℕ} stream_limit 0) c.translate_checked-answer.ensures.answer c.translate_checked-answer.ensures.output c.in-Text.is) c.show.ensures
+pub returns-in-Ok : goal.returns-in-Ok
+returns-in-Ok c = shown_renamed (translation_is _ _ (replicate stream_limit 0) (length-replicate {A = ℕ} stream_limit 0) c.translate_checked.ensures.answer c.translate_checked.ensures.output c.in-Ok.is) c.show.ensures
 
-pub returns-in-Refused : goal.returns-in-Refused
-returns-in-Refused c = shown_renamed (translation_refused _ _ (replicate stream_limit 0) (length-replicate {A = ℕ} stream_limit 0) c.translate_checked-answer.ensures.answer c.in-Refused.is) c.show_refused.ensures
+pub returns-in-Err : goal.returns-in-Err
+returns-in-Err c = shown_renamed (translation_refused _ _ (replicate stream_limit 0) (length-replicate {A = ℕ} stream_limit 0) c.translate_checked.ensures.answer c.in-Err.is) c.show_refused.ensures

@@ -2,8 +2,6 @@ use Prim.Native.Nat.{◌+◌}
 use native.Mathlib.Omega.{arith}
 use Rattle.stores.proofs.Marks.{below_more}
 use Rattle.stores.proofs.RulePlace.{limit_small, cut_short, too_many_lem, filled_not, list_wrong, passed}
-use mathlib.Core.Path.{ap}
-use mathlib.Core.Bool.{not}
 use Rattle.rule_check.proofs.rule_forms.rule_form.Goals as goal
 
 pub returns-then-words-at-lt3 : goal.returns-then-words-at-lt3
@@ -33,14 +31,14 @@ overflow_add-sum c = omega (arith, limit_small c.args.kind, c.type_inv.words c.a
 pub returns-then-occurrences-sum : goal.returns-then-occurrences-sum
 returns-then-occurrences-sum c = (too_many_lem _ _ _ _ _ (omega arith), below_more c.requires.4 (omega arith))
 
-pub returns-then-not-nots_fit : goal.returns-then-not-nots_fit
-returns-then-not-nots_fit c = (filled_not _ _ _ _ _ c.not_form-nots_fit.ensures (ap not c.if-not-nots_fit.true), below_more c.requires.4 (omega arith))
+pub returns-then-not-not_form : goal.returns-then-not-not_form
+returns-then-not-not_form c = (filled_not _ _ _ _ _ c.not_form.ensures c.if-not-not_form.true, below_more c.requires.4 (omega arith))
 
-pub lists_form-lists_fit-requires : goal.lists_form-lists_fit-requires
-lists_form-lists_fit-requires c = (omega arith, c.requires.2, c.requires.3, c.requires.4)
+pub lists_form-requires : goal.lists_form-requires
+lists_form-requires c = (omega arith, c.requires.2, c.requires.3, c.requires.4)
 
-pub returns-then-not-lists_fit : goal.returns-then-not-lists_fit
-returns-then-not-lists_fit c = (list_wrong _ _ _ _ _ c.lists_form-lists_fit.ensures.0 (ap not c.if-not-lists_fit.true), c.lists_form-lists_fit.ensures.1)
+pub returns-then-not-lists_form : goal.returns-then-not-lists_form
+returns-then-not-lists_form c = (list_wrong _ _ _ _ _ c.lists_form.ensures.0 c.if-not-lists_form.true, c.lists_form.ensures.1)
 
 pub returns : goal.returns
-returns c = (passed _ _ _ _ _ (omega arith) (omega arith) c.not_form-nots_fit.ensures (ap not c.if-not-nots_fit.false) c.lists_form-lists_fit.ensures.0 (ap not c.if-not-lists_fit.false), c.lists_form-lists_fit.ensures.1)
+returns c = (passed _ _ _ _ _ (omega arith) (omega arith) c.not_form.ensures c.if-not-not_form.false c.lists_form.ensures.0 c.if-not-lists_form.false, c.lists_form.ensures.1)
