@@ -50,19 +50,12 @@ pub fn emit_rules(words: &[u16], order: &[u64], out: &mut [u16], at: usize) -> W
     ensures { WrittenRules out.old at (kept_rules words.now order.now) out.new result }
 {
     let mut next = at;
-    let mut rules: usize = 0;
-    let mut i: usize = 0;
-    while i < order.len() {
+    let mut rules = 0;
+    for i in 0..order.len() {
         if kept(words, order, i) {
             next = emit_rule(words, order[i], out, next);
             rules += 1;
-            i += 1;
-            continue;
         }
-        i += 1;
     }
-    Written {
-        next: next,
-        rules: rules,
-    }
+    Written { next, rules }
 }
