@@ -190,6 +190,6 @@ pub fn next_masks(
     }
     NextState::State {
         set: found,
-        units: units,
+        units,
     }
 }

@@ -131,8 +131,8 @@ fn fill_classes(words: &[u16], classes: &mut [u64]) -> u64
     ensures value { result ≡ place_mask (length words.now) (of_class words.now fixed_word) }
 {
     let mut fixed: u64 = 0;
-    for i in 0..words.len() {
-        fixed |= note_role(words[i], bit_of(words.len() - 1 - i), classes);
+    for (i, word) in words.iter().enumerate() {
+        fixed |= note_role(*word, bit_of(words.len() - 1 - i), classes);
     }
     fixed
 }

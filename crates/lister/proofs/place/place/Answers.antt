@@ -1,4 +1,4 @@
-use mathlib.Core.Path.{ap}
+use mathlib.Core.Path.{refl, ap}
 use lib.Dec.{ltb}
 use Rattle.kinds.specs.declared.limits.Kind.TheVariants.{Preference}
 use Rattle.stores.specs.RuleStore.{decode}
@@ -10,16 +10,16 @@ use Rattle.lister.proofs.place.place.Goals as goal
 
 pub place_of-requires : goal.place_of-requires
 place_of-requires c =
-    let h = call_passes Refused Preference c.args.words.now (ltb c.args.set) c.args.set 0 0 (At (place_in (decode c.args.words.now).atoms c.args.set)) (below_top c.args.set) _ c.check_call-guard.ensures c.in-Passed.is in
+    let h = call_passes Refused Preference c.args.words.now (ltb c.args.set) c.args.set 0 0 (At (place_in (decode c.args.words.now).atoms c.args.set)) (below_top c.args.set) _ c.in-Ok.ensures refl in
     record {
       store_of = h.store;
       words_bound = h.few;
     }
 
-pub returns-in-Passed : goal.returns-in-Passed
+pub returns-in-Ok : goal.returns-in-Ok
 unfolding place_answer
-returns-in-Passed c = answer_told Refused Preference c.args.words.now (ltb c.args.set) c.args.set 0 0 (At (place_in (decode c.args.words.now).atoms c.args.set)) (below_top c.args.set) _ c.check_call-guard.ensures c.in-Passed.is _ (ap At c.place_of.ensures)
+returns-in-Ok c = answer_told Refused Preference c.args.words.now (ltb c.args.set) c.args.set 0 0 (At (place_in (decode c.args.words.now).atoms c.args.set)) (below_top c.args.set) _ c.in-Ok.ensures refl _ (ap At c.place_of.ensures)
 
-pub returns-in-Refused : goal.returns-in-Refused
+pub returns-in-Err : goal.returns-in-Err
 unfolding place_answer
-returns-in-Refused c = refusal_told Refused Preference c.args.words.now (ltb c.args.set) c.args.set 0 0 (At (place_in (decode c.args.words.now).atoms c.args.set)) (below_top c.args.set) _ c.check_call-guard.ensures _ c.in-Refused.is
+returns-in-Err c = refusal_told Refused Preference c.args.words.now (ltb c.args.set) c.args.set 0 0 (At (place_in (decode c.args.words.now).atoms c.args.set)) (below_top c.args.set) _ c.in-Err.ensures _ refl
