@@ -1,19 +1,14 @@
 -- The number and values that the documents give each case of an answer.
+use Rattle.std.specs.Prelude.{ℕ, Result, Ok, Err}
 use Rattle.kinds.specs.Refusals.{refusal_number}
-use Rattle.answers.specs.declared.Written.{Written}
-use Rattle.answers.specs.declared.Written.TheVariants.{Text, Refused as NotWritten}
-use Rattle.answers.specs.declared.Read.{Read}
-use Rattle.answers.specs.declared.Read.TheVariants.{Accepted, Refused as NotRead}
+use Rattle.kinds.specs.declared.refusals.Refusal.{Refusal}
+use Rattle.answers.specs.declared.ReadSizes.{ReadSizes}
+use Rattle.answers.specs.declared.ReadRefusal.{ReadRefusal}
 use Rattle.walks.specs.declared.answers.Verdict.{Verdict}
 use Rattle.walks.specs.declared.answers.Verdict.TheVariants.{Yes, Broken, Beaten, Spent, Refused as NotJudged}
 use Rattle.walks.specs.declared.answers.NextState.{NextState}
 use Rattle.walks.specs.declared.answers.NextState.TheVariants.{State, Nothing, Spent as NextSpent, Refused as NotSearched}
-use Rattle.walks.specs.declared.answers.Place.{Place}
-use Rattle.walks.specs.declared.answers.Place.TheVariants.{At, Refused as NotPlaced}
-use Rattle.rule_index.specs.declared.Filled.{Filled}
-use Rattle.rule_index.specs.declared.Filled.TheVariants.{Words, Refused as NotFilled}
-use Rattle.rule_index.specs.declared.Grown.{Grown}
-use Rattle.rule_index.specs.declared.Grown.TheVariants.{Stores, Refused as NotGrown}
+use Rattle.rule_index.specs.declared.GrownSizes.{GrownSizes}
 use Rattle.fields.specs.declared.ReadFields.{ReadFields}
 use Rattle.fields.specs.declared.WrittenFields.{WrittenFields}
 use Rattle.fields.specs.declared.VerdictFields.{VerdictFields}
@@ -21,14 +16,14 @@ use Rattle.fields.specs.declared.ValueFields.{ValueFields}
 use Rattle.fields.specs.declared.GrownFields.{GrownFields}
 
 -- refusal 0: accepted
-abbrev pub read_fields : Read → ReadFields
-read_fields (Accepted words bytes) = record { refusal = 0; line = 0; words = words; bytes = bytes }
-read_fields (NotRead f line) = record { refusal = refusal_number f; line = line; words = 0; bytes = 0 }
+abbrev pub read_fields : Result ReadSizes ReadRefusal → ReadFields
+read_fields (Ok sizes) = record { refusal = 0; line = 0; words = sizes.words; bytes = sizes.bytes }
+read_fields (Err refused) = record { refusal = refusal_number refused.refusal; line = refused.line; words = 0; bytes = 0 }
 
 -- refusal 0: written
-abbrev pub written_fields : Written → WrittenFields
-written_fields (Text bytes) = record { refusal = 0; bytes = bytes }
-written_fields (NotWritten f) = record { refusal = refusal_number f; bytes = 0 }
+abbrev pub written_fields : Result ℕ Refusal → WrittenFields
+written_fields (Ok bytes) = record { refusal = 0; bytes = bytes }
+written_fields (Err f) = record { refusal = refusal_number f; bytes = 0 }
 
 -- 0 yes, 1 broken (the rule), 2 beaten (the set), 3 spent, 4 refused (the refusal's number)
 abbrev pub verdict_fields : Verdict → VerdictFields
@@ -46,16 +41,16 @@ next_fields (NextSpent units) = record { kind = 3; value = 0; units = units }
 next_fields (NotSearched f) = record { kind = 4; value = refusal_number f; units = 0 }
 
 -- refusal 0: the place
-abbrev pub place_fields : Place → ValueFields
-place_fields (At place) = record { refusal = 0; value = place }
-place_fields (NotPlaced f) = record { refusal = refusal_number f; value = 0 }
+abbrev pub place_fields : Result ℕ Refusal → ValueFields
+place_fields (Ok place) = record { refusal = 0; value = place }
+place_fields (Err f) = record { refusal = refusal_number f; value = 0 }
 
 -- refusal 0: the words written
-abbrev pub filled_fields : Filled → ValueFields
-filled_fields (Words words) = record { refusal = 0; value = words }
-filled_fields (NotFilled f) = record { refusal = refusal_number f; value = 0 }
+abbrev pub filled_fields : Result ℕ Refusal → ValueFields
+filled_fields (Ok words) = record { refusal = 0; value = words }
+filled_fields (Err f) = record { refusal = refusal_number f; value = 0 }
 
 -- refusal 0: the words of the store and of its index
-abbrev pub grown_fields : Grown → GrownFields
-grown_fields (Stores words index) = record { refusal = 0; words = words; index_words = index }
-grown_fields (NotGrown f) = record { refusal = refusal_number f; words = 0; index_words = 0 }
+abbrev pub grown_fields : Result GrownSizes Refusal → GrownFields
+grown_fields (Ok sizes) = record { refusal = 0; words = sizes.words; index_words = sizes.index_words }
+grown_fields (Err f) = record { refusal = refusal_number f; words = 0; index_words = 0 }
