@@ -24,10 +24,6 @@ fn place_of(words: &[u16], set: u64) -> u64
 pub fn place(words: &[u16], set: u64) -> Place
     ensures { result ≡ place_answer words.now set }
 {
-    match check_call(words, Kind::Preference, set, 0, 0) {
-        Ok(()) => Place::At {
-            place: place_of(words, set),
-        },
-        Err(refusal) => Place::Refused { refusal },
-    }
+    check_call(words, Kind::Preference, set, 0, 0)?;
+    Ok(place_of(words, set))
 }

@@ -6,7 +6,7 @@ use mathlib.Core.List.{List}
 use native.Mathlib.Nat.{add-zero}
 use native.Mathlib.Numerals.{add-one}
 use native.Mathlib.Omega.{arith}
-use Rattle.std.specs.Prelude.{Result, Ok, Err}
+use Rattle.std.specs.Prelude.{Option, Some, None, Result, Ok, Err}
 use lib.Dec.{leb, ltb, leb-suc-suc}
 use lib.Pow.{pow_mono}
 use lib.ListN.{length, get_or}
@@ -17,27 +17,25 @@ use Rattle.kinds.specs.declared.limits.Kind.TheVariants.{Plain, Preference}
 use Rattle.kinds.specs.declared.refusals.Refusal.{Refusal}
 use Rattle.kinds.specs.declared.refusals.Refusal.TheVariants.{RuleStore as NoStore, TooManyAtoms, SetNumber, Budget}
 use Rattle.stores.specs.RuleStore.{StoreOf, decode, rule_store, is_of}
-use Rattle.stores.specs.declared.rule_store.RuleStore.{RuleStore}
-use Rattle.stores.specs.declared.rule_store.RuleStore.TheVariants.{Of, Refused as StoreRefused}
 use Rattle.stores.proofs.RuleStores.{of_kind_lem}
 use Rattle.walks.specs.Answers.{guarded}
 use Rattle.masks.proofs.MaskLoops.{shifted}
 use Rattle.stores.proofs.StoredRules.{has_header, atoms_word_lem}
 
-pub not_of : (k : Kind) → false ≡ is_of k StoreRefused
+pub not_of : (k : Kind) → false ≡ is_of k None
 not_of Plain = refl
 not_of Preference = refl
 
 no : {A : Type 0} → false ≡ true → A
 no e = absurd (let z : ◌≡◌ {A = ℕ} 0 1 = cc in omega arith)
 
-is_of_kind : (k : Kind) (r : RuleStore) → is_of k r ≡ true → r ≡ Of k
-is_of_kind Plain (Of Plain) e = refl
-is_of_kind Plain (Of Preference) e = no e
-is_of_kind Plain StoreRefused e = no e
-is_of_kind Preference (Of Plain) e = no e
-is_of_kind Preference (Of Preference) e = refl
-is_of_kind Preference StoreRefused e = no e
+is_of_kind : (k : Kind) (r : Option Kind) → is_of k r ≡ true → r ≡ Some k
+is_of_kind Plain (Some Plain) e = refl
+is_of_kind Plain (Some Preference) e = no e
+is_of_kind Plain None e = no e
+is_of_kind Preference (Some Plain) e = no e
+is_of_kind Preference (Some Preference) e = refl
+is_of_kind Preference None e = no e
 
 -- the answers of the check
 
@@ -45,10 +43,10 @@ module _ (kind : Kind) (ws : List ℕ) (number extra budget : ℕ) where
   abbrev answered : Result (Unit {0}) Refusal
   answered = guarded Err kind ws (λ p. ltb number (p + extra)) budget (Ok tt)
 
-  pub no_store : (r : RuleStore) (b : Bool) → r ≡ rule_store ws → b ≡ is_of kind r → b ≡ false → Err NoStore ≡ answered
+  pub no_store : (r : Option Kind) (b : Bool) → r ≡ rule_store ws → b ≡ is_of kind r → b ≡ false → Err NoStore ≡ answered
   no_store r b e f g = ap (λ (p : Bool). cond p (cond (leb (decode ws).atoms walk_atoms) (cond (ltb number (2 ^ (decode ws).atoms + extra)) (cond (leb budget budget_limit) (Ok tt) (Err Budget)) (Err SetNumber)) (Err TooManyAtoms)) (Err NoStore)) (sym (ap (is_of kind) (sym e) ∙ sym f ∙ g))
 
-  module _ (r : RuleStore) (b : Bool) (e : r ≡ rule_store ws) (f : b ≡ is_of kind r) (g : b ≡ true) where
+  module _ (r : Option Kind) (b : Bool) (e : r ≡ rule_store ws) (f : b ≡ is_of kind r) (g : b ≡ true) where
     found : is_of kind (rule_store ws) ≡ true
     found = ap (is_of kind) (sym e) ∙ sym f ∙ g
 

@@ -6,24 +6,11 @@ ghost use Rattle.walks.specs.Answers.{guarded};
 use kinds::limits::{Kind, Walk};
 use kinds::refusals::Refusal;
 use store_check::store_forms::check_rules;
-use stores::rule_store::RuleStore;
 
-fn is_of(found: RuleStore, kind: Kind) -> bool
+fn is_of(found: Option<Kind>, kind: Kind) -> bool
     ensures { result ≡ is_of kind found }
 {
-    let RuleStore::Of(other) = found else {
-        return false;
-    };
-    match kind {
-        Kind::Plain => match other {
-            Kind::Plain => true,
-            Kind::Preference => false,
-        },
-        Kind::Preference => match other {
-            Kind::Plain => false,
-            Kind::Preference => true,
-        },
-    }
+    found == Some(kind)
 }
 
 // Whether the store is of the kind, has few enough atoms, the number is below 2^n + extra and the budget allowed.
@@ -37,8 +24,7 @@ pub fn check_call(
     requires { extra ≤ 1 }
     ensures { result ≡ guarded Err kind words.now (λ p. ltb number (p + extra)) budget (Ok tt) }
 {
-    let found = check_rules(words);
-    if !is_of(found, kind) {
+    if !is_of(check_rules(words), kind) {
         return Err(Refusal::RuleStore);
     }
     let n = words[1] as usize;
