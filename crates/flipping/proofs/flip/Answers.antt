@@ -12,10 +12,10 @@ use Rattle.flipping.proofs.flip.Goals as goal
 
 pub returns-in_err-kind : goal.returns-in_err-kind
 returns-in_err-kind c =
-    let r = no_store c.args.rules.now c.args.index.now c.args.list.now c.args.set c.args.atom c.args.out.now (sym c.check_rules.ensures ∙ c.in_err-kind.ensures.ok_part) in
     let p = err_from_is_err_and c.from_residual.result c.from_residual.ensures.1 in
     let v = c.in_err-kind.ensures.value ∙ ap (λ (o : Option Kind). ok_or o RuleStore) c.in_err-kind.ensures.ok_part in
     let f : c.in_err-kind.field-0.0 ≡ RuleStore = cc v in
+    let r = no_store c.args.rules.now c.args.index.now c.args.list.now c.args.set c.args.atom c.args.out.now (sym c.check_rules.ensures ∙ c.in_err-kind.ensures.ok_part) in
     record {
       answer = rw (p.1, p.2, f) r.0;
       output = r.1;
