@@ -1,6 +1,6 @@
-use Prim.Native.Nat.{◌-◌}
 use native.Mathlib.Omega.{arith}
-use mathlib.Core.Path.{sym, ◌∙◌}
+use mathlib.Core.Path.{◌≡◌, sym, ◌∙◌}
+use lib.ListN.{length}
 use Rattle.clause_items.proofs.Gaps.{run_out, run_ends}
 use Rattle.clause_items.proofs.Digits.{digits_begin, digits_again, digits_broken, number_ended}
 use Rattle.clause_items.proofs.numbers.digits_at.Goals as goal
@@ -14,11 +14,10 @@ returns-then-is_separator c = number_ended c.args.line.now c.args.at c.requires.
 pub returns-then-not-is_digit : goal.returns-then-not-is_digit
 returns-then-not-is_digit c = digits_broken c.loop-i.invariant c.loop-i-test.true (sym c.is_digit.ensures ∙ c.if-not-is_digit.true) (sym c.is_separator.ensures ∙ c.if-is_separator.false)
 
-pub with_digit-value-requires : goal.with_digit-value-requires
-with_digit-value-requires c = (c.loop-i.invariant.small, (sym c.is_digit.ensures ∙ c.if-not-is_digit.false))
-
 pub loop-i-preserved : goal.loop-i-preserved
 loop-i-preserved c = digits_again c.loop-i.invariant c.loop-i-test.true (sym c.is_digit.ensures ∙ c.if-not-is_digit.false) c.with_digit-value.ensures
 
 pub returns : goal.returns
-returns c = number_ended c.args.line.now c.args.at c.requires.0 c.requires.1 c.requires.2 c.loop-i.invariant (run_out c.args.line.now c.loop-i.i c.loop-i-test.false)
+returns c =
+    let e : c.loop-i.i ≡ length c.args.line.now = omega (arith, c.requires.0) in
+    rw e at (number_ended c.args.line.now c.args.at c.requires.0 c.requires.1 c.requires.2 c.loop-i.invariant (run_out c.args.line.now c.loop-i.i c.loop-i-test.false))
