@@ -48,12 +48,8 @@ fn with_digit(value: usize, b: u8) -> usize
     requires { (value ≤ largest) × (is_digit b ≡ true) }
     ensures { result ≡ capped (10 * value + (b - byte "0")) }
 {
-    let more = 10 * value + (b - b'0') as usize;
-    if more < Largest::NUMBER {
-        more
-    } else {
-        Largest::NUMBER
-    }
+    let more = 10 * value + usize::from(b - b'0');
+    more.min(Largest::NUMBER)
 }
 
 // A 0 stands alone.
@@ -74,15 +70,15 @@ fn digits_at(line: &[u8], at: usize) -> Option<Number>
     ensures { result ≡ number_at at (drop at line.now) }
 {
     let mut value: usize = 0;
-    for i in at..line.len() {
-        let b = line[i];
-        if is_separator(b) {
-            return Some(Number { value, to: i });
+    for (n, b) in line[at..].iter().enumerate() {
+        if is_separator(*b) {
+            let to = at + n;
+            return Some(Number { value, to });
         }
-        if !is_digit(b) {
+        if !is_digit(*b) {
             return None;
         }
-        value = with_digit(value, b);
+        value = with_digit(value, *b);
     }
     let to = line.len();
     Some(Number { value, to })

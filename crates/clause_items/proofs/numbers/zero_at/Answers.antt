@@ -8,8 +8,8 @@ use Rattle.clause_items.proofs.numbers.zero_at.Goals.{then-line-to-via-then-line
 pub returns-then-line-to : goal.returns-then-line-to
 returns-then-line-to c = zero_alone c.args.line.now c.args.at c.requires.0 c.requires.1 (
     elim c.then-line-to.branch [
-      then-line-to-via-then-line-to w ↦ run_out c.args.line.now (c.args.at + 1) w.if-line-to.true
-    | then-line-to-via-else-line-to+then-is_separator w ↦ run_ends c.args.line.now (c.args.at + 1) w.if-line-to.false (sym w.is_separator.ensures ∙ w.if-is_separator.true)
+      | then-line-to-via-then-line-to w ↦ run_out c.args.line.now (c.args.at + 1) w.if-line-to.true
+      | then-line-to-via-else-line-to+then-is_separator w ↦ run_ends c.args.line.now (c.args.at + 1) w.if-line-to.false (sym w.is_separator.ensures ∙ w.if-is_separator.true)
     ])
 
 pub returns : goal.returns
