@@ -88,13 +88,11 @@ pub fn number_at(line: &[u8], at: usize) -> Option<Number>
     requires { at ≤ length line.now }
     ensures { result ≡ number_at at (drop at line.now) }
 {
-    if line.len() <= at {
-        return None;
-    }
-    if line[at] == b'0' {
+    let first = *line.get(at)?;
+    if first == b'0' {
         return zero_at(line, at);
     }
-    if is_digit(line[at]) {
+    if is_digit(first) {
         return digits_at(line, at);
     }
     None
