@@ -5,25 +5,24 @@ use mathlib.Core.Bool.{Bool, true}
 use mathlib.Core.List.{List}
 use lib.Dec.{leb, ltb}
 use borrow.Author.Tests.{le-leb, lt-ltb}
+use Rattle.std.specs.Prelude.{Some, Ok, Err}
 use Rattle.kinds.specs.Limits.{walk_atoms, budget_limit}
 use Rattle.kinds.specs.declared.limits.Kind.{Kind}
 use Rattle.kinds.specs.declared.limits.Kind.TheVariants.{Plain, Preference}
 use Rattle.kinds.specs.declared.refusals.Refusal.{Refusal}
 use Rattle.stores.specs.Program.{Program}
 use Rattle.stores.specs.RuleStore.{decode, rule_store, is_of}
-use Rattle.stores.specs.declared.rule_store.RuleStore.TheVariants.{Of}
 use Rattle.stores.proofs.RuleStores.{only_decoded, kind_answered}
 use Rattle.walks.specs.declared.answers.Verdict.TheVariants.{Refused as NotJudged}
 use Rattle.walks.specs.declared.answers.NextState.TheVariants.{Refused as NotSearched}
 use Rattle.places.specs.Places.{place}
-use Rattle.walks.specs.declared.answers.Place.TheVariants.{At, Refused as NotPlaced}
 use Rattle.walks.specs.Walk.{preferred_verdict, stable_verdict, next_verdict}
 use Rattle.walks.specs.Answers.{guarded, preferred_answer, stable_answer, next_answer, place_answer}
 use Rattle.walks.proofs.Meanings.{preferred_means, stable_means}
 use Rattle.walks.proofs.NextStates.{next_means}
 use Rattle.answers.specs.Judged.{Called, Judges}
 
-same_kind : (k : Kind) → is_of k (Of k) ≡ true
+same_kind : (k : Kind) → is_of k (Some k) ≡ true
 same_kind Plain = refl
 same_kind Preference = refl
 
@@ -32,7 +31,7 @@ module _ {kind : Kind} {rules : List ℕ} {p : Program} {budget : ℕ} (c : Call
   passes : {A : Type 0} (refuse : Refusal → A) (inside : ℕ → Bool) (answer : Program → A) → inside (2 ^ p.atoms) ≡ true → guarded refuse kind rules inside budget (answer (decode rules)) ≡ answer p
   passes refuse inside answer t =
       let e : decode rules ≡ p = sym (only_decoded rules p c.store) in
-      let s : is_of kind (rule_store rules) ≡ true = ap (is_of kind) (kind_answered rules p c.store ∙ ap Of c.is_kind) ∙ same_kind kind in
+      let s : is_of kind (rule_store rules) ≡ true = ap (is_of kind) (kind_answered rules p c.store ∙ ap Some c.is_kind) ∙ same_kind kind in
       let a : leb (decode rules).atoms walk_atoms ≡ true = ap (λ (q : Program). leb q.atoms walk_atoms) e ∙ le-leb p.atoms walk_atoms c.few in
       let i : inside (2 ^ (decode rules).atoms) ≡ true = ap (λ (q : Program). inside (2 ^ q.atoms)) e ∙ t in
       rw (s, a, i, le-leb budget budget_limit c.allowed) (ap answer e)
@@ -52,5 +51,5 @@ judges rules p number budget = record {
     passes c NotSearched (leb number) (λ q. next_verdict q.words q.rules number budget) (le-leb number (2 ^ p.atoms) l),
     next_means p.words p.rules number budget,
   );
-  place = λ c l. passes c NotPlaced (ltb number) (λ q. At (place q.atoms number)) (lt-ltb number (2 ^ p.atoms) l);
+  place = λ c l. passes c Err (ltb number) (λ q. Ok (place q.atoms number)) (lt-ltb number (2 ^ p.atoms) l);
 }

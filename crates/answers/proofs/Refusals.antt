@@ -8,6 +8,7 @@ use mathlib.Core.List.{List, [], ◌++◌}
 use lib.Dec.{T, leb, ltb, leb→le, ltb→lt}
 use lib.ListN.{length, drop}
 use borrow.Author.Tests.{le-leb, lt-leb, leb-false, ltb-false}
+use Rattle.std.specs.Prelude.{Option, Some, None, Result, Ok, Err}
 use Rattle.kinds.specs.Limits.{stream_limit, walk_atoms, budget_limit}
 use Rattle.kinds.specs.declared.limits.Kind.{Kind}
 use Rattle.kinds.specs.declared.limits.Kind.TheVariants.{Plain, Preference}
@@ -15,22 +16,17 @@ use Rattle.kinds.specs.declared.refusals.Refusal.{Refusal}
 use Rattle.kinds.specs.declared.refusals.Refusal.TheVariants.{Output, RuleStore, TooManyAtoms, SetNumber, Budget, NameStore}
 use Rattle.rules.specs.Lists.{over}
 use Rattle.stores.specs.RuleStore.{decode, is_store, rule_store, is_of}
-use Rattle.stores.specs.declared.rule_store.RuleStore.{RuleStore as Store}
-use Rattle.stores.specs.declared.rule_store.RuleStore.TheVariants.{Of, Refused as NotStore}
 use Rattle.stores.proofs.RuleStores.{store_law, kind_answered, of_kind_lem}
 use Rattle.name_store.specs.NameStore.{are_names}
 use Rattle.name_store.proofs.NameStores.{names_law}
 use Rattle.faults.proofs.EarliestFault.{said_refused, said_accepted}
 use Rattle.lines.specs.Said.{refused}
-use Rattle.answers.specs.declared.Written.{Written}
-use Rattle.answers.specs.declared.Written.TheVariants.{Text, Refused as NotWritten}
 use Rattle.answers.specs.Writing.{fitted, written_bytes, stores_answer, stores_text, write_answer, write_output}
 use Rattle.answers.specs.WritingCanonical.{stores_canonical, canonical_answer, canonical_output}
 use Rattle.answers.specs.Translating.{translation_text, stores_translation, translate_answer, translate_output}
 use Rattle.walks.specs.declared.answers.Verdict.TheVariants.{Refused as NotJudged}
 use Rattle.walks.specs.declared.answers.NextState.TheVariants.{Refused as NotSearched}
 use Rattle.walks.specs.Walk.{preferred_verdict, stable_verdict, next_verdict}
-use Rattle.walks.specs.declared.answers.Place.TheVariants.{At, Refused as NotPlaced}
 use Rattle.places.specs.Places.{place}
 use Rattle.walks.specs.Answers.{unlimited, guarded, preferred_answer, stable_answer, next_answer, place_answer}
 use Rattle.walks.proofs.Meanings.{preferred_means, stable_means}
@@ -90,72 +86,72 @@ past n limit = (λ h t. omega (arith, leb→le n limit t), λ h. step (leb n lim
 no_store_of : (kind : Kind) (rules : List ℕ) → NoStoreOf kind rules ↔ (T (is_of kind (rule_store rules)) → ⊥)
 no_store_of kind rules = (
   λ h t. step (rule_store rules) refl h t,
-  λ h p s k. h (subst (λ (r : Store). T (is_of kind r)) (sym (kind_answered rules p s)) (subst (λ (c : Kind). T (is_of kind (Of c))) (sym k) (same kind))),
+  λ h p s k. h (subst (λ (r : Option Kind). T (is_of kind r)) (sym (kind_answered rules p s)) (subst (λ (c : Kind). T (is_of kind (Some c))) (sym k) (same kind))),
 )
   where
-    same : (k : Kind) → T (is_of k (Of k))
+    same : (k : Kind) → T (is_of k (Some k))
     same Plain = tt
     same Preference = tt
 
-    is_kind : (k j : Kind) → T (is_of k (Of j)) → j ≡ k
+    is_kind : (k j : Kind) → T (is_of k (Some j)) → j ≡ k
     is_kind Plain Plain t = refl
     is_kind Plain Preference t = absurd t
     is_kind Preference Plain t = absurd t
     is_kind Preference Preference t = refl
 
-    none : (k : Kind) → T (is_of k NotStore) → ⊥
+    none : (k : Kind) → T (is_of k None) → ⊥
     none Plain t = t
     none Preference t = t
 
-    step : (r : Store) → rule_store rules ≡ r → NoStoreOf kind rules → T (is_of kind r) → ⊥
-    step (Of k) e h t = let o = of_kind_lem rules k e in h (decode rules) o.0 (o.1 ∙ is_kind kind k t)
-    step NotStore e h t = none kind t
+    step : (r : Option Kind) → rule_store rules ≡ r → NoStoreOf kind rules → T (is_of kind r) → ⊥
+    step (Some k) e h t = let o = of_kind_lem rules k e in h (decode rules) o.0 (o.1 ∙ is_kind kind k t)
+    step None e h t = none kind t
 
 -- an output, by its answer
 
-written_inj : (x y : Refusal) → NotWritten x ≡ NotWritten y → x ≡ y
+written_inj : (x y : Refusal) → ◌≡◌ {A = Result ℕ Refusal} (Err x) (Err y) → x ≡ y
 written_inj x y e = cc
 
-never_text : {x : Refusal} {size : ℕ} → NotWritten x ≡ Text size → ⊥
+never_text : {x : Refusal} {size : ℕ} → Err x ≡ Ok size → ⊥
 never_text e = let z : ◌≡◌ {A = ℕ} 0 1 = cc in omega arith
 
-no_refusal : {size : ℕ} {r : Refusal} → Text size ≡ NotWritten r → ⊥
+no_refusal : {size : ℕ} {r : Refusal} → Ok size ≡ Err r → ⊥
 no_refusal e = let z : ◌≡◌ {A = ℕ} 0 1 = cc in omega arith
 
-size_of : {k size : ℕ} → Text k ≡ Text size ↔ (size ≡ k)
-size_of {k} {size} = (λ e. let z : k ≡ size = cc in sym z, λ e. ap Text (sym e))
+size_of : {k size : ℕ} → ◌≡◌ {A = Result ℕ Refusal} (Ok k) (Ok size) ↔ (size ≡ k)
+size_of {k} {size} = (λ e. let z : k ≡ size = cc in sym z, λ e. ap Ok (sym e))
 
-none_other : {v : Written} {size : ℕ} (r : Refusal) → v ≡ Text size → v ≡ NotWritten r ↔ NoOther r
+none_other : {v : Result ℕ Refusal} {size : ℕ} (r : Refusal) → v ≡ Ok size → v ≡ Err r ↔ NoOther r
 none_other r e = (λ f. no_refusal (sym e ∙ f), λ h. absurd h)
 
 module _ (text : List ℕ) (room : ℕ) where
-  fitted_refused : (r : Refusal) → fitted text room ≡ NotWritten r ↔ Tested Output (TooShort text room) NoOther r
-  fitted_refused r = refused_by NotWritten written_inj (leb (length text) room) (past (length text) room) Output NoOther r (λ t. none_other r refl)
+  fitted_refused : (r : Refusal) → fitted text room ≡ Err r ↔ Tested Output (TooShort text room) NoOther r
+  fitted_refused r = refused_by Err written_inj (leb (length text) room) (past (length text) room) Output NoOther r (λ t. none_other r refl)
 
-  fitted_written : (size : ℕ) → fitted text room ≡ Text size ↔ ((TooShort text room → ⊥) × (size ≡ length text))
-  fitted_written size = passed_by NotWritten written_inj (leb (length text) room) (past (length text) room) Output (Text size) never_text (λ t. size_of)
+  fitted_written : (size : ℕ) → fitted text room ≡ Ok size ↔ ((TooShort text room → ⊥) × (size ≡ length text))
+  fitted_written size = passed_by Err written_inj (leb (length text) room) (past (length text) room) Output (Ok size) never_text (λ t. size_of)
 
 -- what is written, by the answer
-writes : (answer : Written) (text before : List ℕ) → ((size : ℕ) → answer ≡ Text size → size ≡ length text) → Writes answer text before (over (written_bytes answer text) before)
+writes : (answer : Result ℕ Refusal) (text before : List ℕ) → ((size : ℕ) → answer ≡ Ok size → size ≡ length text) → Writes answer text before (over (written_bytes answer text) before)
 writes answer text before sizes = record {
-  refused = λ r e. ap (λ (a : Written). over (written_bytes a text) before) e;
-  written = λ size e. ap (λ (a : Written). over (written_bytes a text) before) e ∙ ap (λ (k : ℕ). text ++ drop k before) (sym (sizes size e));
+  refused = λ r e. ap (λ (a : Result ℕ Refusal). over (written_bytes a text) before) e;
+  written = λ size e. ap (λ (a : Result ℕ Refusal). over (written_bytes a text) before) e ∙ ap (λ (k : ℕ). text ++ drop k before) (sym (sizes size e));
 }
 
 -- a writer, from its two tests
 module _ {NoRules : Type 0} (rules names text before : List ℕ) (a b : Bool) (law : NoRules ↔ (T a → ⊥)) (named : T a → NoNames rules names ↔ (T b → ⊥)) where
-  abbrev answer : Written
-  answer = cond a (cond b (fitted text (length before)) (NotWritten NameStore)) (NotWritten RuleStore)
+  abbrev answer : Result ℕ Refusal
+  answer = cond a (cond b (fitted text (length before)) (Err NameStore)) (Err RuleStore)
 
-  passes : (size : ℕ) → answer ≡ Text size ↔ Passes NoRules (StoresPass rules names text (length before) (size ≡ length text))
+  passes : (size : ℕ) → answer ≡ Ok size ↔ Passes NoRules (StoresPass rules names text (length before) (size ≡ length text))
   passes size =
-      passed_by NotWritten written_inj a law RuleStore (Text size) never_text (λ t.
-      passed_by NotWritten written_inj b (named t) NameStore (Text size) never_text (λ u. fitted_written text (length before) size))
+      passed_by Err written_inj a law RuleStore (Ok size) never_text (λ t.
+      passed_by Err written_inj b (named t) NameStore (Ok size) never_text (λ u. fitted_written text (length before) size))
 
   writes_text : WritesText NoRules rules names text before answer (over (written_bytes answer text) before)
   writes_text = record {
-    refused = λ r. refused_by NotWritten written_inj a law RuleStore (StoresRefused rules names text (length before)) r (λ t.
-        refused_by NotWritten written_inj b (named t) NameStore (Tested Output (TooShort text (length before)) NoOther) r (λ u. fitted_refused text (length before) r));
+    refused = λ r. refused_by Err written_inj a law RuleStore (StoresRefused rules names text (length before)) r (λ t.
+        refused_by Err written_inj b (named t) NameStore (Tested Output (TooShort text (length before)) NoOther) r (λ u. fitted_refused text (length before) r));
     written = passes;
     output = writes answer text before (λ size e. ((passes size).0 e).1.1.1);
   }
@@ -177,10 +173,10 @@ canonical_refuses rules names before = stores_text_lem rules names (stores_canon
 kind_is : (rules : List ℕ) → T (is_of Preference (rule_store rules)) → (decode rules).kind ≡ Preference
 kind_is rules t = step (rule_store rules) refl t
   where
-    step : (r : Store) → rule_store rules ≡ r → T (is_of Preference r) → (decode rules).kind ≡ Preference
-    step (Of Plain) e t = absurd t
-    step (Of Preference) e t = (of_kind_lem rules Preference e).1
-    step NotStore e t = absurd t
+    step : (r : Option Kind) → rule_store rules ≡ r → T (is_of Preference r) → (decode rules).kind ≡ Preference
+    step (Some Plain) e t = absurd t
+    step (Some Preference) e t = (of_kind_lem rules Preference e).1
+    step None e t = absurd t
 
 no_preference_names : (rules bytes : List ℕ) → T (is_of Preference (rule_store rules)) → NoNames rules bytes ↔ (T (are_names Preference (decode rules).atoms bytes) → ⊥)
 no_preference_names rules bytes t = subst (λ (k : Kind). NoNames rules bytes ↔ (T (are_names k (decode rules).atoms bytes) → ⊥)) (kind_is rules t) (no_names rules bytes)
@@ -226,7 +222,7 @@ verdict_refuses rules number budget = record {
   next_state = λ r. call_refused NotSearched (λ x y e. cc) Preference rules (λ top. top < number) (leb number) (past number) budget
       (next_verdict (decode rules).words (decode rules).rules number budget)
       (λ v. (next_means (decode rules).words (decode rules).rules number budget).never_refused) r;
-  place = λ r. number_refused NotPlaced (λ x y e. cc) Preference rules (λ top. top ≤ number) (ltb number) (outside number) (At (place (decode rules).atoms number)) NoOther r (λ v. (
+  place = λ r. number_refused Err (λ x y e. cc) Preference rules (λ top. top ≤ number) (ltb number) (outside number) (Ok (place (decode rules).atoms number)) NoOther r (λ v. (
     λ e. absurd (let z : ◌≡◌ {A = ℕ} 0 1 = cc in omega arith),
     λ h. absurd h,
   ));

@@ -1,5 +1,5 @@
 -- Which refusals the entry points over the index of rules give (document 02, W-209), and what the lent buffers then hold.
-use Rattle.std.specs.Prelude.{ℕ, ◌^◌, ◌≤◌, ◌<◌, ◌≡◌, ◌↔◌, ◌⊎◌, ◌≢◌, List, ◌++◌, length, drop}
+use Rattle.std.specs.Prelude.{ℕ, ◌^◌, ◌≤◌, ◌<◌, ◌≡◌, ◌↔◌, ◌⊎◌, ◌≢◌, Result, Ok, Err, List, ◌++◌, length, drop}
 use Rattle.kinds.specs.Limits.{walk_atoms}
 use Rattle.kinds.specs.declared.refusals.Refusal.{Refusal}
 use Rattle.kinds.specs.declared.refusals.Refusal.TheVariants.{Output, RuleStore, TooManyAtoms, SetNumber, RuleIndex}
@@ -11,10 +11,7 @@ use Rattle.rule_index.specs.Index.{index_of}
 use Rattle.rule_index.specs.Flip.{after_flip}
 use Rattle.rule_index.specs.Growth.{with_rule, grown_store}
 use Rattle.rule_index.specs.Meanings.{Rising}
-use Rattle.rule_index.specs.Answers.{store_index, index_answer, index_output, flip_list, flip_answer, flip_output, add_answer, add_store, add_index}
-use Rattle.rule_index.specs.declared.Filled.{Filled}
-use Rattle.rule_index.specs.declared.Filled.TheVariants.{Words, Refused as NotFilled}
-use Rattle.rule_index.specs.declared.Grown.TheVariants.{Stores, Refused as NotGrown}
+use Rattle.rule_index.specs.Answers.{grown_sizes, store_index, index_answer, index_output, flip_list, flip_answer, flip_output, add_answer, add_store, add_index}
 use Rattle.answers.specs.Refusals.{Tested, NoOther, NoStore, TooShort}
 
 -- 10, of a rule too: the words are no rule with which the store would be of the form
@@ -33,18 +30,18 @@ abbrev pub Outside : List ℕ → ℕ → ℕ → Type 0
 Outside rules set atom = (2 ^ (decode rules).atoms ≤ set) ⊎ ((decode rules).atoms ≤ atom)
 
 -- what is written into a lent output of words
-pub record Fills (answer : Filled) (result before after : List ℕ) : Type 0 where
-  pub refused : (r : Refusal) → answer ≡ NotFilled r → after ≡ before
-  pub filled : (size : ℕ) → answer ≡ Words size → (size ≡ length result) × (after ≡ result ++ drop size before)
+pub record Fills (answer : Result ℕ Refusal) (result before after : List ℕ) : Type 0 where
+  pub refused : (r : Refusal) → answer ≡ Err r → after ≡ before
+  pub filled : (size : ℕ) → answer ≡ Ok size → (size ≡ length result) × (after ≡ result ++ drop size before)
 
 -- the index of a store of either kind: 10, 9
 pub record IndexRefuses (rules before : List ℕ) : Type 0 where
-  pub refused : (r : Refusal) → index_answer rules (length before) ≡ NotFilled r ↔ Tested RuleStore (NoStore rules) (Tested Output (TooShort (store_index rules) (length before)) NoOther) r
+  pub refused : (r : Refusal) → index_answer rules (length before) ≡ Err r ↔ Tested RuleStore (NoStore rules) (Tested Output (TooShort (store_index rules) (length before)) NoOther) r
   pub output : Fills (index_answer rules (length before)) (store_index rules) before (index_output rules before)
 
 -- a flip: 10, 19, 11, 12, 9
 pub record FlipRefuses (rules index list : List ℕ) (set atom : ℕ) (before : List ℕ) : Type 0 where
-  pub refused : (r : Refusal) → flip_answer rules index list set atom (length before) ≡ NotFilled r
+  pub refused : (r : Refusal) → flip_answer rules index list set atom (length before) ≡ Err r
       ↔ Tested RuleStore (NoStore rules)
       (Tested RuleIndex (NoIndex rules index ⊎ NoList rules list)
       (Tested TooManyAtoms (walk_atoms < (decode rules).atoms)
@@ -54,13 +51,13 @@ pub record FlipRefuses (rules index list : List ℕ) (set atom : ℕ) (before : 
 
 -- a rule added: 10, 19, 9 for either output
 pub record AddRefuses (rules index words before index_before : List ℕ) : Type 0 where
-  pub refused : (r : Refusal) → add_answer rules index words (length before) (length index_before) ≡ NotGrown r
+  pub refused : (r : Refusal) → add_answer rules index words (length before) (length index_before) ≡ Err r
       ↔ Tested RuleStore (NoGrowth rules words)
       (Tested RuleIndex (NoIndex rules index)
       (Tested Output (TooShort (grown_store rules words) (length before) ⊎ TooShort (store_index (grown_store rules words)) (length index_before)) NoOther)) r
-  pub kept : (r : Refusal) → add_answer rules index words (length before) (length index_before) ≡ NotGrown r
+  pub kept : (r : Refusal) → add_answer rules index words (length before) (length index_before) ≡ Err r
       → (add_store rules index words before index_before ≡ before) × (add_index rules index words before index_before ≡ index_before)
-  pub grown : (size index_size : ℕ) → add_answer rules index words (length before) (length index_before) ≡ Stores size index_size
+  pub grown : (size index_size : ℕ) → add_answer rules index words (length before) (length index_before) ≡ Ok (grown_sizes size index_size)
       → (size ≡ length (grown_store rules words)) × (add_store rules index words before index_before ≡ grown_store rules words ++ drop size before)
       × (index_size ≡ length (store_index (grown_store rules words))) × (add_index rules index words before index_before ≡ store_index (grown_store rules words) ++ drop index_size index_before)
 

@@ -1,5 +1,5 @@
 -- What the answers of the verdicts and of the next state mean (document 01, "Verdicts"), where nothing is refused.
-use Rattle.std.specs.Prelude.{ℕ, ◌^◌, ◌≤◌, ◌<◌, ◌≡◌, List}
+use Rattle.std.specs.Prelude.{ℕ, ◌^◌, ◌≤◌, ◌<◌, ◌≡◌, Ok, List}
 use Rattle.kinds.specs.Limits.{walk_atoms, budget_limit}
 use Rattle.kinds.specs.declared.limits.Kind.{Kind}
 use Rattle.kinds.specs.declared.limits.Kind.TheVariants.{Plain, Preference}
@@ -7,7 +7,6 @@ use Rattle.stores.specs.Program.{Program}
 use Rattle.stores.specs.RuleStore.{StoreOf}
 use Rattle.walks.specs.Walk.{preferred_verdict, stable_verdict, next_verdict}
 use Rattle.places.specs.Places.{place}
-use Rattle.walks.specs.declared.answers.Place.TheVariants.{At}
 use Rattle.walks.specs.Answers.{preferred_answer, stable_answer, next_answer, place_answer}
 use Rattle.walks.specs.Meanings.{PreferredMeans, StableMeans, NextMeans}
 
@@ -27,4 +26,4 @@ pub record Judges (rules : List ℕ) (p : Program) (number budget : ℕ) : Type 
   pub next_state : Called Preference rules p budget → number ≤ 2 ^ p.atoms
       → (next_answer rules number budget ≡ next_verdict p.words p.rules number budget) × NextMeans p.words p.rules number budget
   -- a set's place asks for no budget
-  pub place : Called Preference rules p 0 → number < 2 ^ p.atoms → place_answer rules number ≡ At (place p.atoms number)
+  pub place : Called Preference rules p 0 → number < 2 ^ p.atoms → place_answer rules number ≡ Ok (place p.atoms number)

@@ -1,5 +1,5 @@
 -- Which refusals each entry point gives (document 01, "Who can be turned back"), and what the lent buffers then hold.
-use Rattle.std.specs.Prelude.{ℕ, ◌^◌, ◌≤◌, ◌<◌, ◌≡◌, ◌↔◌, ◌⊎◌, List, ◌++◌, length, drop}
+use Rattle.std.specs.Prelude.{ℕ, ◌^◌, ◌≤◌, ◌<◌, ◌≡◌, ◌↔◌, ◌⊎◌, Result, Ok, Err, List, ◌++◌, length, drop}
 use Rattle.kinds.specs.Limits.{stream_limit, walk_atoms, budget_limit}
 use Rattle.kinds.specs.declared.limits.Kind.{Kind}
 use Rattle.kinds.specs.declared.limits.Kind.TheVariants.{Plain, Preference}
@@ -11,18 +11,15 @@ use Rattle.stores.specs.RuleStore.{StoreOf, encode, decode}
 use Rattle.name_store.specs.NameStore.{NamesOf, encode_names}
 use Rattle.faults.specs.EarliestFault.{Refuses, Accepts}
 use Rattle.clauses.specs.Sentences.{RefusesClauses, AcceptsClauses}
-use Rattle.answers.specs.declared.Read.{Read}
-use Rattle.answers.specs.declared.Read.TheVariants.{Accepted, Refused as NotRead}
-use Rattle.answers.specs.Reading.{read_answer, read_rules, read_names}
+use Rattle.answers.specs.declared.ReadSizes.{ReadSizes}
+use Rattle.answers.specs.declared.ReadRefusal.{ReadRefusal}
+use Rattle.answers.specs.Reading.{read_sizes, read_refusal, read_answer, read_rules, read_names}
 use Rattle.answers.specs.ReadingClauses.{clauses_answer, clauses_rules, clauses_names}
-use Rattle.answers.specs.declared.Written.{Written}
-use Rattle.answers.specs.declared.Written.TheVariants.{Text, Refused as NotWritten}
 use Rattle.answers.specs.Writing.{stores_text, write_answer, write_output}
 use Rattle.answers.specs.WritingCanonical.{stores_canonical, canonical_answer, canonical_output}
 use Rattle.answers.specs.Translating.{translation_text, stores_translation, translate_answer, translate_output}
 use Rattle.walks.specs.declared.answers.Verdict.TheVariants.{Refused as NotJudged}
 use Rattle.walks.specs.declared.answers.NextState.TheVariants.{Refused as NotSearched}
-use Rattle.walks.specs.declared.answers.Place.TheVariants.{Refused as NotPlaced}
 use Rattle.walks.specs.Answers.{preferred_answer, stable_answer, next_answer, place_answer}
 use Rattle.answers.specs.Printed.{refused_text, shown}
 use Rattle.answers.specs.Listed.{whole_listing}
@@ -63,21 +60,21 @@ abbrev pub StoresPass : List ℕ → List ℕ → List ℕ → ℕ → Type 0 �
 StoresPass rules names result room Rest = Passes (NoNames rules names) (Passes (TooShort result room) Rest)
 
 -- what is written into a lent output: nothing on a refusal; after success the bytes past the written part keep their content
-pub record Writes (answer : Written) (text before after : List ℕ) : Type 0 where
-  pub refused : (r : Refusal) → answer ≡ NotWritten r → after ≡ before
-  pub written : (size : ℕ) → answer ≡ Text size → after ≡ text ++ drop size before
+pub record Writes (answer : Result ℕ Refusal) (text before after : List ℕ) : Type 0 where
+  pub refused : (r : Refusal) → answer ≡ Err r → after ≡ before
+  pub written : (size : ℕ) → answer ≡ Ok size → after ≡ text ++ drop size before
 
 abbrev pub NoRoom : Program → List (List ℕ) → ℕ → ℕ → Type 0
 NoRoom p names words bytes = TooShort (encode p) words ⊎ TooShort (encode_names names) bytes
 
 -- a reader of a text that it refuses or accepts: its refusal with the line, then 9 for either output
-pub record Reads (Refuses : Refusal → ℕ → Type 0) (Accepts : Program → List (List ℕ) → Type 0) (answer : Read) (rules names rules' names' : List ℕ) : Type 0 where
-  pub refused : (r : Refusal) (line : ℕ) → answer ≡ NotRead r line
+pub record Reads (Refuses : Refusal → ℕ → Type 0) (Accepts : Program → List (List ℕ) → Type 0) (answer : Result ReadSizes ReadRefusal) (rules names rules' names' : List ℕ) : Type 0 where
+  pub refused : (r : Refusal) (line : ℕ) → answer ≡ Err (read_refusal r line)
       ↔ (Refuses r line ⊎ ((p : Program) × (ns : List (List ℕ)) × Accepts p ns × NoRoom p ns (length rules) (length names) × (r ≡ Output) × (line ≡ 0)))
-  pub accepted : (words bytes : ℕ) → answer ≡ Accepted words bytes
+  pub accepted : (words bytes : ℕ) → answer ≡ Ok (read_sizes words bytes)
       ↔ ((p : Program) × (ns : List (List ℕ)) × Accepts p ns × (NoRoom p ns (length rules) (length names) → ⊥) × (words ≡ length (encode p)) × (bytes ≡ length (encode_names ns)))
-  pub kept : (r : Refusal) (line : ℕ) → answer ≡ NotRead r line → (rules' ≡ rules) × (names' ≡ names)
-  pub filled : (words bytes : ℕ) → answer ≡ Accepted words bytes → (p : Program) (ns : List (List ℕ)) → Accepts p ns → (rules' ≡ encode p ++ drop words rules) × (names' ≡ encode_names ns ++ drop bytes names)
+  pub kept : (r : Refusal) (line : ℕ) → answer ≡ Err (read_refusal r line) → (rules' ≡ rules) × (names' ≡ names)
+  pub filled : (words bytes : ℕ) → answer ≡ Ok (read_sizes words bytes) → (p : Program) (ns : List (List ℕ)) → Accepts p ns → (rules' ≡ encode p ++ drop words rules) × (names' ≡ encode_names ns ++ drop bytes names)
 
 -- the reader: 1, then 2 to 8 with their line (crate `faults`)
 abbrev pub ReadRefuses : List ℕ → List ℕ → List ℕ → Type 0
@@ -89,9 +86,9 @@ ClausesRefuse text rules names =
     Reads (RefusesClauses text) (AcceptsClauses text) (clauses_answer text (length rules) (length names)) rules names (clauses_rules text rules names) (clauses_names text rules names)
 
 -- a writer of a text that two stores give: 10 where there is no rule store for it, 14, 9
-pub record WritesText (NoRules : Type 0) (rules names text before : List ℕ) (answer : Written) (after : List ℕ) : Type 0 where
-  pub refused : (r : Refusal) → answer ≡ NotWritten r ↔ Tested RuleStore NoRules (StoresRefused rules names text (length before)) r
-  pub written : (size : ℕ) → answer ≡ Text size ↔ Passes NoRules (StoresPass rules names text (length before) (size ≡ length text))
+pub record WritesText (NoRules : Type 0) (rules names text before : List ℕ) (answer : Result ℕ Refusal) (after : List ℕ) : Type 0 where
+  pub refused : (r : Refusal) → answer ≡ Err r ↔ Tested RuleStore NoRules (StoresRefused rules names text (length before)) r
+  pub written : (size : ℕ) → answer ≡ Ok size ↔ Passes NoRules (StoresPass rules names text (length before) (size ≡ length text))
   pub output : Writes answer text before after
 
 -- the writer
@@ -122,7 +119,7 @@ pub record VerdictRefuses (rules : List ℕ) (number budget : ℕ) : Type 0 wher
   pub stable : (r : Refusal) → stable_answer rules number budget ≡ NotJudged r ↔ CallRefused Plain rules (λ top. top ≤ number) budget r
   pub next_state : (r : Refusal) → next_answer rules number budget ≡ NotSearched r ↔ CallRefused Preference rules (λ top. top < number) budget r
   -- a set's place: 10 (a plain store too), 11, 12
-  pub place : (r : Refusal) → place_answer rules number ≡ NotPlaced r ↔ NumberRefused Preference rules (λ top. top ≤ number) NoOther r
+  pub place : (r : Refusal) → place_answer rules number ≡ Err r ↔ NumberRefused Preference rules (λ top. top ≤ number) NoOther r
 
 -- the two programs: all that is printed where the lent output has room for it, else nothing
 pub record PrintsInto (text before : List ℕ) : Type 0 where

@@ -2,16 +2,22 @@
 // What the entry points over texts answer.
 use kinds::refusals::Refusal;
 
-// The reader: the words and bytes written, or the refusal with its line (0 where there is none).
+// The words and bytes that the reader has written.
 #[derive(Clone, Copy)]
-pub enum Read {
-    Accepted { words: usize, bytes: usize },
-    Refused { refusal: Refusal, line: usize },
+pub struct ReadSizes {
+    pub words: usize,
+    pub bytes: usize,
 }
 
-// The writer and the translator: the bytes written, or the refusal.
+// A refusal with its line (0 where there is none).
 #[derive(Clone, Copy)]
-pub enum Written {
-    Text { bytes: usize },
-    Refused { refusal: Refusal },
+pub struct ReadRefusal {
+    pub refusal: Refusal,
+    pub line: usize,
 }
+
+// The reader: what it has written, or why it has not.
+pub type Read = Result<ReadSizes, ReadRefusal>;
+
+// The writer and the translator: the bytes written, or the refusal.
+pub type Written = Result<usize, Refusal>;

@@ -6,7 +6,7 @@ ghost use Rattle.stores.specs.RuleStore.{are_rules};
 
 use kinds::limits::{Kind, Plain};
 use list_check::list_forms::{lists_form, not_form};
-use stores::rule_store::RuleCheck;
+use stores::rule_store::RuleEnd;
 
 // The rule at `at`, after `used` occurrences in earlier rules.
 pub fn rule_form(
@@ -17,12 +17,12 @@ pub fn rule_form(
     used: usize,
     marks: &mut [u16],
     stamp: u16,
-) -> RuleCheck
+) -> Option<RuleEnd>
     requires { (at ≤ length words.now) × (used ≤ occurrence_limit kind) × (atoms ≤ length marks.old) × (stamp ≤ 65532) × Below stamp marks.old }
     ensures { (result ≡ rule_check kind atoms used at words.now) × Below (stamp + 3) marks.new }
 {
     if words.len() - at < 3 {
-        return RuleCheck::Broken;
+        return None;
     }
     let second = at + 1;
     let third = at + 2;
@@ -32,24 +32,24 @@ pub fn rule_form(
     let nots = words[third] as usize;
     let places = heads + bodies + nots;
     if words.len() - lists < places {
-        return RuleCheck::Broken;
+        return None;
     }
     let sum = used + places;
     if kind.occurrences() < sum {
-        return RuleCheck::Broken;
+        return None;
     }
     let nots_fit = not_form(kind, nots);
     if !nots_fit {
-        return RuleCheck::Broken;
+        return None;
     }
     let lists_fit = lists_form(words, lists, heads, bodies, nots, atoms, marks, stamp);
     if !lists_fit {
-        return RuleCheck::Broken;
+        return None;
     }
-    RuleCheck::Next {
+    Some(RuleEnd {
         at: lists + places,
         used: sum,
-    }
+    })
 }
 
 // The rules from `start` on, after which no word follows.
@@ -68,15 +68,11 @@ fn rules_form(
     let mut used: usize = 0;
     for i in 0..rules {
         let stamp = (3 * i + 1) as u16;
-        let RuleCheck::Next {
-            at: next,
-            used: sum,
-        } = rule_form(words, at, kind, atoms, used, marks, stamp)
-        else {
+        let Some(end) = rule_form(words, at, kind, atoms, used, marks, stamp) else {
             return false;
         };
-        at = next;
-        used = sum;
+        at = end.at;
+        used = end.used;
     }
     at == words.len()
 }

@@ -5,15 +5,14 @@ use kinds::refusals::Refusal;
 pub mod marks;
 
 // The words written, or the refusal.
+pub type Filled = Result<usize, Refusal>;
+
+// The words of the store and of its index.
 #[derive(Clone, Copy)]
-pub enum Filled {
-    Words { words: usize },
-    Refused { refusal: Refusal },
+pub struct GrownSizes {
+    pub words: usize,
+    pub index_words: usize,
 }
 
-// The words of the store and of its index, or the refusal.
-#[derive(Clone, Copy)]
-pub enum Grown {
-    Stores { words: usize, index_words: usize },
-    Refused { refusal: Refusal },
-}
+// The sizes of both, or the refusal.
+pub type Grown = Result<GrownSizes, Refusal>;

@@ -6,7 +6,6 @@ ghost use Rattle.stores.specs.RuleStore.{kind_of, word_count, is_role, are_words
 use kinds::limits::{Counts, Kind, Preference};
 use rule_check::rule_forms::marked_rules;
 use stores::roles::{Role, role_of};
-use stores::rule_store::RuleStore;
 
 // No class above `classes`.
 fn role_form(role: Role, classes: usize) -> bool
@@ -111,19 +110,19 @@ fn kind_of(word: u16) -> Kind
 }
 
 // Whether the words are the rule store of a program, and of which kind.
-pub fn check_rules(words: &[u16]) -> RuleStore
+pub fn check_rules(words: &[u16]) -> Option<Kind>
     ensures { result ≡ rule_store words.now }
 {
     if words.len() < 4 {
-        return RuleStore::Refused;
+        return None;
     }
     let word = words[0];
     if 1 < word {
-        return RuleStore::Refused;
+        return None;
     }
     let kind = kind_of(word);
     if program_form(words, kind) {
-        return RuleStore::Of(kind);
+        return Some(kind);
     }
-    RuleStore::Refused
+    None
 }

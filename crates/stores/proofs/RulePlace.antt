@@ -9,15 +9,15 @@ use lib.Dec.{T, eqb}
 use lib.ListN.{length, get_or, take, drop, length-drop}
 use lib.Seq.{get_or-drop, drop-drop}
 use borrow.Author.Tests.{not-true, not-false}
+use Rattle.std.specs.Prelude.{Option, Some, None}
 use Rattle.kinds.specs.Limits.{occurrence_limit, rule_limit}
 use Rattle.kinds.specs.declared.limits.Kind.{Kind}
 use Rattle.kinds.specs.declared.limits.Kind.TheVariants.{Plain, Preference}
 use Rattle.rules.specs.Rules.{Rule, rule}
 use Rattle.rules.proofs.Lists.{none_left}
-use Rattle.stores.specs.Checking.{Below, rule_check}
+use Rattle.stores.specs.Checking.{Below, rule_end, rule_check}
 use Rattle.stores.specs.RuleStore.{are_rules, heads, bodies, nots, places, rule_at, are_lists, is_not, is_rule}
-use Rattle.stores.specs.declared.rule_store.RuleCheck.{RuleCheck}
-use Rattle.stores.specs.declared.rule_store.RuleCheck.TheVariants.{Next, Broken}
+use Rattle.stores.specs.declared.rule_store.RuleEnd.{RuleEnd}
 use Rattle.stores.proofs.Marks.{below_more}
 use Rattle.stores.proofs.RuleTests.{T-is, RuleTested, rule_tested}
 
@@ -30,12 +30,12 @@ rules_small Plain = omega arith
 rules_small Preference = omega arith
 
 -- what an answer says of the test
-is_broken_lem : (t : Bool) (i u : ℕ) → Broken ≡ cond t (Next i u) Broken → t ≡ false
+is_broken_lem : (t : Bool) (i u : ℕ) → None ≡ cond t (Some (rule_end i u)) None → t ≡ false
 is_broken_lem true i u e = absurd (let z : ◌≡◌ {A = ℕ} 0 1 = cc in omega arith)
 is_broken_lem false i u e = refl
 
-is_next_lem : (t : Bool) (i u j v : ℕ) → Next j v ≡ cond t (Next i u) Broken → (t ≡ true) × (j ≡ i) × (v ≡ u)
-is_next_lem true i u j v e = (refl, cc, cc)
+is_next_lem : (t : Bool) (i u j v : ℕ) → Some (rule_end j v) ≡ cond t (Some (rule_end i u)) None → (t ≡ true) × (j ≡ i) × (v ≡ u)
+is_next_lem true i u j v e = let q : rule_end j v ≡ rule_end i u = cc in (refl, ap (λ (r : RuleEnd). r.at) q, ap (λ (r : RuleEnd). r.used) q)
 is_next_lem false i u j v e = absurd (let z : ◌≡◌ {A = ℕ} 0 1 = cc in omega arith)
 
 module _ (ws : List ℕ) (at : ℕ) where
@@ -81,31 +81,31 @@ module _ (ws : List ℕ) (at : ℕ) where
       }
 
   module _ (kind : Kind) (n used : ℕ) where
-    broken : (RuleTested kind n used (drop at ws) → ⊥) → Broken ≡ rule_check kind n used at ws
+    broken : (RuleTested kind n used (drop at ws) → ⊥) → None ≡ rule_check kind n used at ws
     unfolding rule_check
     broken f = step (is_rule kind n used (drop at ws)) (λ t. f ((rule_tested kind n used (drop at ws)).0 t))
       where
-        step : (t : Bool) → (T t → ⊥) → Broken ≡ cond t (Next (at + (3 + places (drop at ws))) (used + places (drop at ws))) Broken
+        step : (t : Bool) → (T t → ⊥) → None ≡ cond t (Some (rule_end (at + (3 + places (drop at ws))) (used + places (drop at ws)))) None
         step true g = absurd (g tt)
         step false g = refl
 
-    pub cut_short : length ws < at + (3 + atom_count) → at ≤ length ws → Broken ≡ rule_check kind n used at ws
+    pub cut_short : length ws < at + (3 + atom_count) → at ≤ length ws → None ≡ rule_check kind n used at ws
     cut_short o l = broken (λ t. omega (arith, t.inside, places_at, length-drop at ws))
 
-    pub too_many_lem : occurrence_limit kind < used + atom_count → Broken ≡ rule_check kind n used at ws
+    pub too_many_lem : occurrence_limit kind < used + atom_count → None ≡ rule_check kind n used at ws
     too_many_lem o = broken (λ t. omega (arith, t.fits, places_at))
 
-    pub filled_not : {x : Bool} → x ≡ is_not kind not_count → not x ≡ true → Broken ≡ rule_check kind n used at ws
+    pub filled_not : {x : Bool} → x ≡ is_not kind not_count → not x ≡ true → None ≡ rule_check kind n used at ws
     filled_not {x} e f = broken (λ t. subst T (ap (is_not kind) nots_at ∙ sym e ∙ not-true x f) t.nots_fit)
 
-    pub list_wrong : {x : Bool} → x ≡ are_lists n listed → not x ≡ true → Broken ≡ rule_check kind n used at ws
+    pub list_wrong : {x : Bool} → x ≡ are_lists n listed → not x ≡ true → None ≡ rule_check kind n used at ws
     list_wrong {x} e f = broken (λ t. subst T (ap (are_lists n) rule_at_lem ∙ sym e ∙ not-true x f) t.lists_fit)
 
     pub passed :
         at + 3 + atom_count ≤ length ws → used + atom_count ≤ occurrence_limit kind
         → {x : Bool} → x ≡ is_not kind not_count → not x ≡ false
         → {y : Bool} → y ≡ are_lists n listed → not y ≡ false
-        → Next (at + 3 + atom_count) (used + atom_count) ≡ rule_check kind n used at ws
+        → Some (rule_end (at + 3 + atom_count) (used + atom_count)) ≡ rule_check kind n used at ws
     unfolding rule_check
     passed i f {x} e p {y} g q =
         let next : at + 3 + atom_count ≡ at + (3 + places (drop at ws)) = omega (arith, places_at) in
@@ -117,9 +117,9 @@ module _ (ws : List ℕ) (at : ℕ) where
           nots_fit = T-is (ap (is_not kind) nots_at ∙ sym e ∙ not-false x p);
           lists_fit = T-is (ap (are_lists n) rule_at_lem ∙ sym g ∙ not-false y q);
         } in
-        ap₂ Next next sum ∙ step (is_rule kind n used (drop at ws)) ((rule_tested kind n used (drop at ws)).1 tested)
+        ap₂ (λ (a u : ℕ). Some (rule_end a u)) next sum ∙ step (is_rule kind n used (drop at ws)) ((rule_tested kind n used (drop at ws)).1 tested)
       where
-        step : (t : Bool) → T t → Next (at + (3 + places (drop at ws))) (used + places (drop at ws)) ≡ cond t (Next (at + (3 + places (drop at ws))) (used + places (drop at ws))) Broken
+        step : (t : Bool) → T t → Some (rule_end (at + (3 + places (drop at ws))) (used + places (drop at ws))) ≡ cond t (Some (rule_end (at + (3 + places (drop at ws))) (used + places (drop at ws)))) None
         step true k = refl
         step false k = absurd k
 
@@ -158,12 +158,12 @@ module _ {words : List ℕ} {start : ℕ} {kind : Kind} {atoms rules : ℕ} {mar
     unfolding are_rules
     turn = let n : rules - i ≡ suc (rules - (i + 1)) = omega arith in sym (ap (λ (j : ℕ). are_rules kind atoms used j (drop at words)) n) ∙ m.rest
 
-    module _ {got : RuleCheck} (g : got ≡ rule_check kind atoms used at words) where
-      pub stops : got ≡ Broken → false ≡ are_rules kind atoms 0 rules (drop start words)
+    module _ {got : Option RuleEnd} (g : got ≡ rule_check kind atoms used at words) where
+      pub stops : got ≡ None → false ≡ are_rules kind atoms 0 rules (drop start words)
       unfolding rule_check
       stops e = simp (is_broken_lem (is_rule kind atoms used (drop at words)) (at + (3 + places (drop at words))) (used + places (drop at words)) (sym e ∙ g)) at turn
 
-      pub goes_on : {marks' : List ℕ} {at' used' : ℕ} → got ≡ Next at' used' → Below (3 * i + 1 + 3) marks' → length marks' ≡ length marks → Passing words start kind atoms rules marks₀ marks' at' used' (i + 1)
+      pub goes_on : {marks' : List ℕ} {at' used' : ℕ} → got ≡ Some (rule_end at' used') → Below (3 * i + 1 + 3) marks' → length marks' ≡ length marks → Passing words start kind atoms rules marks₀ marks' at' used' (i + 1)
       unfolding rule_check
       goes_on {marks'} {at'} {used'} e b l =
           let w : List ℕ = drop at words in

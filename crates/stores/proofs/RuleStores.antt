@@ -8,6 +8,7 @@ use native.Mathlib.Omega.{arith}
 use lib.Dec.{T, leb, leb→le, le→leb, eqb→eq}
 use lib.ListN.{length, take, drop, get_or, length-append, length-take, take-append-drop}
 use lib.Seq.{length-take-le, take_at, drop_at, drop-drop}
+use Rattle.std.specs.Prelude.{Some, None}
 use Rattle.kinds.specs.Sizes.{store_words}
 use Rattle.kinds.specs.Limits.{atom_limit, rule_limit, occurrence_limit, class_limit}
 use Rattle.kinds.specs.declared.limits.Kind.{Kind}
@@ -17,7 +18,6 @@ use Rattle.rules.specs.Rules.{Rule, occurrences}
 use Rattle.rules.proofs.Booleans.{eq_to_eqb}
 use Rattle.stores.specs.Program.{Program, ProgramForm, ClassesForm, RuleForm}
 use Rattle.stores.specs.RuleStore.{kind_word, rule_words, encode, StoreOf, kind_of, word_count, places, rule_at, rules_from, decode, are_classes, are_rules, is_program, is_store, rule_store}
-use Rattle.stores.specs.declared.rule_store.RuleStore.TheVariants.{Of, Refused}
 use Rattle.stores.proofs.RuleTests.{and_iff, words_law, rule_law, rule_words_lem, occurrences_places, rule_front, past_front, rule_encoded}
 
 -- the rules
@@ -208,26 +208,26 @@ words_fit p f =
 
 -- the answer of the check
 
-picked : (b : Bool) (k j : Kind) → cond b (Of k) Refused ≡ Of j → T b × (k ≡ j)
+picked : (b : Bool) (k j : Kind) → cond b (Some k) None ≡ Some j → T b × (k ≡ j)
 picked true k j e = (tt, cc)
 picked false k j e = absurd (let z : ◌≡◌ {A = ℕ} 0 1 = cc in omega arith)
 
-turned_back : (b : Bool) (k : Kind) → cond b (Of k) Refused ≡ Refused ↔ (T b → ⊥)
+turned_back : (b : Bool) (k : Kind) → cond b (Some k) None ≡ None ↔ (T b → ⊥)
 turned_back true k = (λ e. absurd (let z : ◌≡◌ {A = ℕ} 0 1 = cc in omega arith), λ h. absurd (h tt))
 turned_back false k = (λ e h. h, λ h. refl)
 
-pick_true : (b : Bool) → T b → (k : Kind) → cond b (Of k) Refused ≡ Of k
+pick_true : (b : Bool) → T b → (k : Kind) → cond b (Some k) None ≡ Some k
 pick_true true h k = refl
 pick_true false h k = absurd h
 
-pub of_kind_lem : (ws : List ℕ) (k : Kind) → rule_store ws ≡ Of k → StoreOf ws (decode ws) × ((decode ws).kind ≡ k)
+pub of_kind_lem : (ws : List ℕ) (k : Kind) → rule_store ws ≡ Some k → StoreOf ws (decode ws) × ((decode ws).kind ≡ k)
 unfolding rule_store decode
 of_kind_lem ws k e = let t = picked (is_store ws) (kind_of (get_or ws 0 0)) k e in (decoded ws t.0, t.1)
 
-pub kind_answered : (ws : List ℕ) (p : Program) → StoreOf ws p → rule_store ws ≡ Of p.kind
+pub kind_answered : (ws : List ℕ) (p : Program) → StoreOf ws p → rule_store ws ≡ Some p.kind
 unfolding rule_store decode
-kind_answered ws p s = pick_true (is_store ws) ((store_law ws).1 (p, s)) (kind_of (get_or ws 0 0)) ∙ ap (λ (q : Program). Of q.kind) (sym (only_decoded ws p s))
+kind_answered ws p s = pick_true (is_store ws) ((store_law ws).1 (p, s)) (kind_of (get_or ws 0 0)) ∙ ap (λ (q : Program). Some q.kind) (sym (only_decoded ws p s))
 
-pub refused : (ws : List ℕ) → rule_store ws ≡ Refused ↔ (T (is_store ws) → ⊥)
+pub refused : (ws : List ℕ) → rule_store ws ≡ None ↔ (T (is_store ws) → ⊥)
 unfolding rule_store
 refused ws = turned_back (is_store ws) (kind_of (get_or ws 0 0))

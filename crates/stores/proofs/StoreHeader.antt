@@ -8,12 +8,12 @@ use lib.Dec.{T, leb, leb→le}
 use lib.ListN.{length, get_or, take, drop, replicate, length-take, length-drop}
 use lib.Seq.{drop-drop}
 use borrow.Author.Tests.{not-true, not-false, le-leb, lt-leb}
+use Rattle.std.specs.Prelude.{Some, None}
 use Rattle.kinds.specs.Limits.{atom_limit, rule_limit, occurrence_limit, class_limit, within}
 use Rattle.kinds.specs.declared.limits.Kind.{Kind}
 use Rattle.kinds.specs.declared.limits.Kind.TheVariants.{Plain, Preference}
 use Rattle.stores.specs.Checking.{Below}
 use Rattle.stores.specs.RuleStore.{header_counts, kind_of, word_count, are_words, are_classes, are_rules, is_program, is_store, rule_store}
-use Rattle.stores.specs.declared.rule_store.RuleStore.TheVariants.{Of, Refused}
 use Rattle.stores.proofs.RuleTests.{T-is, and_iff}
 use Rattle.stores.proofs.RuleStores.{classes_law, words_count}
 
@@ -85,12 +85,12 @@ module _ (ws : List ℕ) (kind : Kind) where
 
 -- the whole
 module _ (ws : List ℕ) where
-  pub no_header : length ws < 4 → Refused ≡ rule_store ws
+  pub no_header : length ws < 4 → None ≡ rule_store ws
   unfolding rule_store is_store
   no_header h = simp (lt-leb 4 (length ws) h)
 
   module _ (h : 4 ≤ length ws) where
-    pub no_kind : 1 < get_or ws 0 0 → Refused ≡ rule_store ws
+    pub no_kind : 1 < get_or ws 0 0 → None ≡ rule_store ws
     unfolding rule_store is_store
     no_kind l = simp (le-leb 4 (length ws) h, lt-leb (get_or ws 0 0) 1 l)
 
@@ -99,10 +99,10 @@ module _ (ws : List ℕ) where
       unfolding is_store
       tested = simp (le-leb 4 (length ws) h, le-leb (get_or ws 0 0) 1 l) (ap (λ (j : Kind). is_program j (get_or ws 1 0) (get_or ws 2 0) (get_or ws 3 0) (drop 4 ws)) (sym e) ∙ sym q)
 
-      pub answers_kind : x ≡ true → Of kind ≡ rule_store ws
+      pub answers_kind : x ≡ true → Some kind ≡ rule_store ws
       unfolding rule_store
-      answers_kind f = simp (tested, f) (ap Of e)
+      answers_kind f = simp (tested, f) (ap Some e)
 
-      pub answers_refused : x ≡ false → Refused ≡ rule_store ws
+      pub answers_refused : x ≡ false → None ≡ rule_store ws
       unfolding rule_store
       answers_refused f = simp (tested, f)

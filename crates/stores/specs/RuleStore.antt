@@ -1,5 +1,5 @@
 -- The rule store of a program, and the test whether words are one (document 01, "The rule store is a slice of u16").
-use Rattle.std.specs.Prelude.{ℕ, zero, suc, ◌+◌, ◌≡◌, Bool, true, false, not, ◌&&◌, cond, List, [], ◌∷◌, ◌++◌, leb, ltb, eqb, length, get_or, take, drop}
+use Rattle.std.specs.Prelude.{ℕ, zero, suc, ◌+◌, ◌≡◌, Bool, true, false, not, ◌&&◌, cond, Option, Some, None, List, [], ◌∷◌, ◌++◌, leb, ltb, eqb, length, get_or, take, drop}
 use Rattle.kinds.specs.Limits.{occurrence_limit, class_limit, within}
 use Rattle.kinds.specs.declared.limits.Counts.{Counts}
 use Rattle.kinds.specs.declared.limits.Kind.{Kind}
@@ -9,8 +9,6 @@ use Rattle.rules.specs.Rules.{Rule, rule}
 use Rattle.stores.specs.Program.{Program, ProgramForm, role_of}
 use Rattle.stores.specs.declared.roles.Role.{Role}
 use Rattle.stores.specs.declared.roles.Role.TheVariants.{Minimised, Varying, Fixed, Unknown}
-use Rattle.stores.specs.declared.rule_store.RuleStore.{RuleStore}
-use Rattle.stores.specs.declared.rule_store.RuleStore.TheVariants.{Of, Refused}
 
 abbrev pub kind_word : Kind → ℕ
 kind_word Plain = 0
@@ -120,15 +118,15 @@ is_store ws =
     leb 4 (length ws)
     && (leb (get_or ws 0 0) 1 && is_program (kind_of (get_or ws 0 0)) (get_or ws 1 0) (get_or ws 2 0) (get_or ws 3 0) (drop 4 ws))
 
--- what the words are: the store of a program of some kind, or refused
-unfoldable pub rule_store : List ℕ → RuleStore
-rule_store ws = cond (is_store ws) (Of (kind_of (get_or ws 0 0))) Refused
+-- what the words are: the store of a program of some kind, or none
+unfoldable pub rule_store : List ℕ → Option Kind
+rule_store ws = cond (is_store ws) (Some (kind_of (get_or ws 0 0))) None
 
 -- a store of the kind asked for
-abbrev pub is_of : Kind → RuleStore → Bool
-is_of Plain (Of Plain) = true
-is_of Plain (Of Preference) = false
-is_of Plain Refused = false
-is_of Preference (Of Plain) = false
-is_of Preference (Of Preference) = true
-is_of Preference Refused = false
+abbrev pub is_of : Kind → Option Kind → Bool
+is_of Plain (Some Plain) = true
+is_of Plain (Some Preference) = false
+is_of Plain None = false
+is_of Preference (Some Plain) = false
+is_of Preference (Some Preference) = true
+is_of Preference None = false

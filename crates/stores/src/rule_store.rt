@@ -1,18 +1,10 @@
-// What the check of a rule store answers.
-use kinds::limits::Kind;
+// What the check of a rule store keeps and gives.
 
-// What a slice of words is: the store of a program of some kind, or none (refusal 10).
+// Behind a rule of the form: the place of the next one, and the occurrences so far.
 #[derive(Clone, Copy)]
-pub enum RuleStore {
-    Of(Kind),
-    Refused,
-}
-
-// A rule is of the form, with the place of the next one and the occurrences so far, or it is not.
-#[derive(Clone, Copy)]
-pub enum RuleCheck {
-    Next { at: usize, used: usize },
-    Broken,
+pub struct RuleEnd {
+    pub at: usize,
+    pub used: usize,
 }
 
 // Of a checked store: how many atoms and rules it has, and where its rules start.

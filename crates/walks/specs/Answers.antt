@@ -1,5 +1,5 @@
 -- The answers over a store's words: refusals 10, 11, 12, 13 in this order, then what is asked for (document 01, "Who can be turned back").
-use Rattle.std.specs.Prelude.{ℕ, ◌^◌, Bool, cond, List, leb, ltb}
+use Rattle.std.specs.Prelude.{ℕ, ◌^◌, Bool, cond, Result, Ok, Err, List, leb, ltb}
 use Rattle.kinds.specs.Limits.{walk_atoms, budget_limit}
 use Rattle.kinds.specs.declared.limits.Kind.{Kind}
 use Rattle.kinds.specs.declared.limits.Kind.TheVariants.{Plain, Preference}
@@ -10,8 +10,6 @@ use Rattle.walks.specs.declared.answers.Verdict.{Verdict}
 use Rattle.walks.specs.declared.answers.Verdict.TheVariants.{Refused as VerdictRefused}
 use Rattle.walks.specs.declared.answers.NextState.{NextState}
 use Rattle.walks.specs.declared.answers.NextState.TheVariants.{Refused as NextRefused}
-use Rattle.walks.specs.declared.answers.Place.{Place}
-use Rattle.walks.specs.declared.answers.Place.TheVariants.{At, Refused as PlaceRefused}
 use Rattle.places.specs.Places.{place}
 use Rattle.walks.specs.Walk.{preferred_verdict, stable_verdict, next_verdict}
 
@@ -38,5 +36,5 @@ unfoldable pub next_answer : List ℕ → ℕ → ℕ → NextState
 next_answer ws start budget = guarded NextRefused Preference ws (leb start) budget (next_verdict (decode ws).words (decode ws).rules start budget)
 
 -- a set's place (document 02, W-206)
-unfoldable pub place_answer : List ℕ → ℕ → Place
-place_answer ws set = unlimited PlaceRefused Preference ws (ltb set) (At (place (decode ws).atoms set))
+unfoldable pub place_answer : List ℕ → ℕ → Result ℕ Refusal
+place_answer ws set = unlimited Err Preference ws (ltb set) (Ok (place (decode ws).atoms set))

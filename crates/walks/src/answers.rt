@@ -21,9 +21,5 @@ pub enum NextState {
     Refused { refusal: Refusal },
 }
 
-// Where a set stands in the order of the walks.
-#[derive(Clone, Copy)]
-pub enum Place {
-    At { place: u64 },
-    Refused { refusal: Refusal },
-}
+// Where a set stands in the order of the walks, or the refusal.
+pub type Place = Result<u64, Refusal>;

@@ -16,7 +16,7 @@ pub returns-in_default : goal.returns-in_default
 returns-in_default c = stops c.loop-i.invariant c.loop-i-test.true c.rule_form.ensures.0 c.in_default.is
 
 pub loop-i-preserved : goal.loop-i-preserved
-loop-i-preserved c = goes_on c.loop-i.invariant c.loop-i-test.true c.rule_form.ensures.0 c.in-Next.is c.rule_form.ensures.1 c.rule_form.auto.marks
+loop-i-preserved c = goes_on c.loop-i.invariant c.loop-i-test.true c.rule_form.ensures.0 c.in-Some.is c.rule_form.ensures.1 c.rule_form.auto.marks
 
 pub returns : goal.returns
 returns c = all_passed c.loop-i.invariant c.loop-i-test.false
