@@ -25,13 +25,6 @@ pub struct ClauseCounts {
     pub occurrences: usize,
 }
 
-// A literal more, or one occurrence too many.
-#[derive(Clone, Copy)]
-pub enum Taken {
-    Next(ClauseCounts),
-    Full,
-}
-
 // The class words of the header's atoms, behind the four words of a store's header.
 pub fn start(atoms: usize, clauses: usize, words: &mut [u16]) -> ClauseCounts
     requires { (atoms ≤ atom_limit Kind.Preference) × (clauses ≤ rule_limit Kind.Preference) × (length words.old ≡ store_words) }
@@ -57,17 +50,17 @@ fn take_positive(
     words: &mut [u16],
     bodies: &[u16],
     marks: &mut [u16],
-) -> Taken
+) -> Option<ClauseCounts>
     requires held_clauses { HeldClauses (held counts words.old bodies.now) counts words.old bodies.now }
     requires marked { Marked (held counts words.old bodies.now) marks.old }
     requires atom_lt_atoms { (atom < counts.atoms) × (stamp ≡ counts.rules + 1) }
     ensures { TakenIs (held counts words.old bodies.now) counts (positive atom) words.new bodies.now marks.new result }
 {
     if marks[atom] == stamp {
-        return Taken::Next(counts);
+        return Some(counts);
     }
     if counts.occurrences == Preference::OCCURRENCES {
-        return Taken::Full;
+        return None;
     }
     marks[atom] = stamp;
     let place = counts.words + 3 + counts.heads;
@@ -75,7 +68,7 @@ fn take_positive(
     let mut next = counts;
     next.heads += 1;
     next.occurrences += 1;
-    Taken::Next(next)
+    Some(next)
 }
 
 // Behind the body atoms; its mark stands behind those of the head atoms.
@@ -86,7 +79,7 @@ fn take_negative(
     words: &[u16],
     bodies: &mut [u16],
     marks: &mut [u16],
-) -> Taken
+) -> Option<ClauseCounts>
     requires held_clauses { HeldClauses (held counts words.now bodies.old) counts words.now bodies.old }
     requires marked { Marked (held counts words.now bodies.old) marks.old }
     requires atom_lt_atoms { (atom < counts.atoms) × (stamp ≡ counts.rules + 1) }
@@ -94,10 +87,10 @@ fn take_negative(
 {
     let mark = Preference::ATOMS + atom;
     if marks[mark] == stamp {
-        return Taken::Next(counts);
+        return Some(counts);
     }
     if counts.occurrences == Preference::OCCURRENCES {
-        return Taken::Full;
+        return None;
     }
     marks[mark] = stamp;
     let place = counts.bodies;
@@ -105,9 +98,10 @@ fn take_negative(
     let mut next = counts;
     next.bodies += 1;
     next.occurrences += 1;
-    Taken::Next(next)
+    Some(next)
 }
 
+// A literal more; no counts where there is one occurrence too many.
 pub fn take_literal(
     counts: ClauseCounts,
     positive: bool,
@@ -115,7 +109,7 @@ pub fn take_literal(
     words: &mut [u16],
     bodies: &mut [u16],
     marks: &mut [u16],
-) -> Taken
+) -> Option<ClauseCounts>
     requires held_clauses { HeldClauses (held counts words.old bodies.old) counts words.old bodies.old }
     requires marked { Marked (held counts words.old bodies.old) marks.old }
     requires atom_lt_atoms { atom < counts.atoms }
