@@ -65,10 +65,11 @@ fn take_positive(
     marks[atom] = stamp;
     let place = counts.words + 3 + counts.heads;
     words[place] = atom as u16;
-    let mut next = counts;
-    next.heads += 1;
-    next.occurrences += 1;
-    Some(next)
+    Some(ClauseCounts {
+        heads: counts.heads + 1,
+        occurrences: counts.occurrences + 1,
+        ..counts
+    })
 }
 
 // Behind the body atoms; its mark stands behind those of the head atoms.
@@ -95,10 +96,11 @@ fn take_negative(
     marks[mark] = stamp;
     let place = counts.bodies;
     bodies[place] = atom as u16;
-    let mut next = counts;
-    next.bodies += 1;
-    next.occurrences += 1;
-    Some(next)
+    Some(ClauseCounts {
+        bodies: counts.bodies + 1,
+        occurrences: counts.occurrences + 1,
+        ..counts
+    })
 }
 
 // A literal more; no counts where there is one occurrence too many.
@@ -132,10 +134,11 @@ pub fn end_clause(counts: ClauseCounts, words: &mut [u16], bodies: &[u16]) -> Cl
     let count = counts.bodies;
     let behind = put_counts(heads, count, 0, words, at);
     let end = emit(&bodies[..count], words, behind + heads);
-    let mut next = counts;
-    next.rules += 1;
-    next.words = end;
-    next.heads = 0;
-    next.bodies = 0;
-    next
+    ClauseCounts {
+        rules: counts.rules + 1,
+        words: end,
+        heads: 0,
+        bodies: 0,
+        ..counts
+    }
 }
