@@ -21,10 +21,8 @@ use Rattle.output.proofs.Emitting.{sets_front}
 use Rattle.stores.specs.RuleStore.{rule_words, word_count}
 use Rattle.stores.proofs.RuleStores.{rules_length}
 use Rattle.gathering.specs.declared.gathered.Gathered.{Gathered}
-use Rattle.std.specs.Prelude.{Result, Ok}
+use Rattle.std.specs.Prelude.{Option, Some, None, Result, Ok}
 use Rattle.numbering.specs.declared.numbers.RuleCounts.{RuleCounts}
-use Rattle.numbering.specs.declared.numbers.RuleNumbers.{RuleNumbers}
-use Rattle.numbering.specs.declared.numbers.RuleNumbers.TheVariants as Lists
 use Rattle.lines.specs.declared.stage.Stage.{Stage}
 use Rattle.lines.specs.declared.stage.Stage.TheVariants.{Declaring, Fixing, Ruling}
 use Rattle.lines.specs.declared.forms.DeclaredShape.{DeclaredShape}
@@ -268,11 +266,11 @@ module _ {kind : Kind} {st : SoFar} {g : Gathered} {words bytes : List ℕ} (h :
               go true false u = subst (MarksSay marks₁) (sym u) (record { below = record { mark = λ x. omega (arith, w.numbered.below.mark x, is-stamp) }; room = n ∙ m.room })
 
 -- the answer for a rule's line
-module _ {names : List (List ℕ)} {l : List ℕ} {stamp : ℕ} {before : List ℕ} {at : ℕ} {marks after : List ℕ} {r : RuleNumbers} (h : RuleIs names l stamp before at marks after r) where
-  pub line_numbered : {c : RuleCounts} → r ≡ Lists.Rule c → LineNumbered names l stamp before at marks after c
+module _ {names : List (List ℕ)} {l : List ℕ} {stamp : ℕ} {before : List ℕ} {at : ℕ} {marks after : List ℕ} {r : Option RuleCounts} (h : RuleIs names l stamp before at marks after r) where
+  pub line_numbered : {c : RuleCounts} → r ≡ Some c → LineNumbered names l stamp before at marks after c
   line_numbered e = subst (RuleSays names l stamp before at marks after) e h.says
 
-  pub line_otherwise : r ≡ Lists.Otherwise → NoRule names (typed_form l)
+  pub line_otherwise : r ≡ None → NoRule names (typed_form l)
   line_otherwise e = subst (RuleSays names l stamp before at marks after) e h.says
 
 -- a blank line

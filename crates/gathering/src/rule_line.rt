@@ -16,7 +16,7 @@ use lines::forms::Shape;
 use lines::stage::Stage;
 use lines::{forms, scan};
 use numbering::numbers;
-use numbering::numbers::{RuleCounts, RuleNumbers};
+use numbering::numbers::RuleCounts;
 use output::words::push;
 
 pub fn is_ruling(stage: Stage) -> bool
@@ -113,12 +113,10 @@ fn add_rule(
     ensures line_is { LineIs kind (state_of kind gathered words.old bytes.now) (form_of line.now) words.new bytes.now starts.now firsts.now links.now result }
     ensures marks_are { MarksAre marks.new result }
 {
-    let counts = gathered.counts;
-    let atoms = counts.atoms;
-    let rules = counts.rules;
+    let Counts { atoms, rules, .. } = gathered.counts;
     let at = gathered.words + 3;
     let stamp = (3 * rules + 1) as u16;
-    let RuleNumbers::Rule(rule) = numbers::rule_numbers(
+    let Some(rule) = numbers::rule_numbers(
         line,
         bytes,
         &starts[..atoms],
