@@ -18,7 +18,7 @@ use kinds::limits::{Counts, Kind, Preference};
 use kinds::refusals::Refusal;
 use lines::scan;
 use made_names::declared::any_declared;
-use name_store::index;
+use name_store::indexed::NameIndex;
 
 // Only a preference file has conditions.
 pub fn opens_condition(line: &[u8], kind: Kind) -> bool
@@ -77,9 +77,13 @@ fn add_condition(
 {
     let atoms = gathered.counts.atoms;
     let made = gathered.made;
-    let then = index::find(bytes, &starts[..atoms], firsts, links, name).ok_or(
-        Refusal::Undeclared,
-    )?;
+    let names = NameIndex {
+        bytes,
+        starts: &starts[..atoms],
+        firsts,
+        links,
+    };
+    let then = names.find(name).ok_or(Refusal::Undeclared)?;
     if Preference::ATOMS < atoms + made + connectives {
         return Err(Refusal::Limit);
     }
@@ -87,10 +91,7 @@ fn add_condition(
     let parse = parse_condition(
         spoken,
         made,
-        bytes,
-        &starts[..atoms],
-        firsts,
-        links,
+        &names,
         &mut table,
     )
     .ok_or(Refusal::BrokenCondition)?;
@@ -125,9 +126,13 @@ fn test_condition(
 {
     let atoms = gathered.counts.atoms;
     let made = gathered.made;
-    let scanned = scan_condition(spoken, bytes, &starts[..atoms], firsts, links).ok_or(
-        Refusal::BrokenCondition,
-    )?;
+    let names = NameIndex {
+        bytes,
+        starts: &starts[..atoms],
+        firsts,
+        links,
+    };
+    let scanned = scan_condition(spoken, &names).ok_or(Refusal::BrokenCondition)?;
     let connectives = scanned.connectives;
     if scanned.deep {
         return Err(Refusal::DeepBrackets);
@@ -135,7 +140,7 @@ fn test_condition(
     if refused {
         return Err(Refusal::Name);
     }
-    if any_declared(made, connectives, bytes, &starts[..atoms], firsts, links) {
+    if any_declared(made, connectives, &names) {
         return Err(Refusal::DeclaredTwice);
     }
     if scanned.undeclared {

@@ -9,6 +9,7 @@ ghost use Rattle.lines.specs.Conditions.{names_in};
 ghost use Rattle.numbering.specs.Numbers.{undeclared};
 ghost use Rattle.condition_parts.specs.Places.{is_opening, is_leading};
 ghost use Rattle.condition_parts.specs.Parts.{disjunctions, conjunctions, single, Readable, PartIs, ParseIs};
+ghost use Rattle.name_store.specs.IndexedNames.{names_of};
 
 use crate::places::{opening_at, word_at};
 use crate::rows;
@@ -16,6 +17,7 @@ use crate::rows::put_row;
 use lines::scan;
 use lines::scan::Item;
 use name_store::index;
+use name_store::indexed::NameIndex;
 
 // The place behind a part, its atom, and the row of the connective that comes next.
 #[derive(Clone, Copy)]
@@ -37,15 +39,11 @@ fn name_at(
     s: &[u8],
     at: usize,
     next: usize,
-    bytes: &[u8],
-    starts: &[u16],
-    firsts: &[u16],
-    links: &[u16],
+    names: &NameIndex,
 ) -> Option<Part>
-    requires at_in_bounds { (at ≤ length s.now) × (undeclared (decode_names (length starts.now) bytes.now) (names_in (tokens (drop at s.now))) ≡ false) }
+    requires at_in_bounds { (at ≤ length s.now) × (undeclared (names_of names.now) (names_in (tokens (drop at s.now))) ≡ false) }
     requires s_value { (is_opening (tokens (drop at s.now)) ≡ false) × (is_leading not_word (tokens (drop at s.now)) ≡ false) }
-    requires indexed { Indexed (decode_names (length starts.now) bytes.now) bytes.now starts.now firsts.now links.now }
-    ensures { (made : ℕ) (table : List ℕ) → PartIs single (decode_names (length starts.now) bytes.now) s.now at made next table table result }
+    ensures { (made : ℕ) (table : List ℕ) → PartIs single (names_of names.now) s.now at made next table table result }
 {
     if word_at(s, at, b"and").is_some() || word_at(s, at, b"or").is_some() {
         return None;
@@ -53,7 +51,7 @@ fn name_at(
     let Item { gap, size } = scan::item_at(s, at)?;
     let start = at + gap;
     let place = start + size;
-    let atom = index::find(bytes, starts, firsts, links, &s[start..place])?;
+    let atom = names.find(&s[start..place])?;
     Some(Part { place, atom, next })
 }
 
@@ -64,32 +62,25 @@ pub fn or_level(
     at: usize,
     made: usize,
     next: usize,
-    bytes: &[u8],
-    starts: &[u16],
-    firsts: &[u16],
-    links: &[u16],
+    names: &NameIndex,
     table: &mut [u16],
 ) -> Option<Part>
-    requires readable { Readable (decode_names (length starts.now) bytes.now) s.now at made next table.old }
-    requires indexed { Indexed (decode_names (length starts.now) bytes.now) bytes.now starts.now firsts.now links.now }
-    ensures { PartIs disjunctions (decode_names (length starts.now) bytes.now) s.now at made next table.old table.new result }
+    requires { Readable (names_of names.now) s.now at made next table.old }
+    ensures { PartIs disjunctions (names_of names.now) s.now at made next table.old table.new result }
 {
-    let mut part = and_level(s, at, made, next, bytes, starts, firsts, links, table)?;
+    let mut part = and_level(s, at, made, next, names, table)?;
     while let Some(to) = word_at(s, part.place, b"or") {
         let right = and_level(
             s,
             to,
             made,
             part.next + 1,
-            bytes,
-            starts,
-            firsts,
-            links,
+            names,
             table,
         )?;
         put_row(table, part.next, rows::OR, part.atom, right.atom);
         part = Part {
-            atom: starts.len() + made + part.next,
+            atom: names.starts.len() + made + part.next,
             ..right
         };
     }
@@ -103,32 +94,25 @@ pub fn and_level(
     at: usize,
     made: usize,
     next: usize,
-    bytes: &[u8],
-    starts: &[u16],
-    firsts: &[u16],
-    links: &[u16],
+    names: &NameIndex,
     table: &mut [u16],
 ) -> Option<Part>
-    requires readable { Readable (decode_names (length starts.now) bytes.now) s.now at made next table.old }
-    requires indexed { Indexed (decode_names (length starts.now) bytes.now) bytes.now starts.now firsts.now links.now }
-    ensures { PartIs conjunctions (decode_names (length starts.now) bytes.now) s.now at made next table.old table.new result }
+    requires { Readable (names_of names.now) s.now at made next table.old }
+    ensures { PartIs conjunctions (names_of names.now) s.now at made next table.old table.new result }
 {
-    let mut part = not_level(s, at, made, next, bytes, starts, firsts, links, table)?;
+    let mut part = not_level(s, at, made, next, names, table)?;
     while let Some(to) = word_at(s, part.place, b"and") {
         let right = not_level(
             s,
             to,
             made,
             part.next + 1,
-            bytes,
-            starts,
-            firsts,
-            links,
+            names,
             table,
         )?;
         put_row(table, part.next, rows::AND, part.atom, right.atom);
         part = Part {
-            atom: starts.len() + made + part.next,
+            atom: names.starts.len() + made + part.next,
             ..right
         };
     }
@@ -142,23 +126,19 @@ pub fn not_level(
     at: usize,
     made: usize,
     next: usize,
-    bytes: &[u8],
-    starts: &[u16],
-    firsts: &[u16],
-    links: &[u16],
+    names: &NameIndex,
     table: &mut [u16],
 ) -> Option<Part>
-    requires readable { Readable (decode_names (length starts.now) bytes.now) s.now at made next table.old }
-    requires indexed { Indexed (decode_names (length starts.now) bytes.now) bytes.now starts.now firsts.now links.now }
-    ensures { PartIs single (decode_names (length starts.now) bytes.now) s.now at made next table.old table.new result }
+    requires { Readable (names_of names.now) s.now at made next table.old }
+    ensures { PartIs single (names_of names.now) s.now at made next table.old table.new result }
 {
     let Some(to) = word_at(s, at, b"not") else {
-        return bracket(s, at, made, next, bytes, starts, firsts, links, table);
+        return bracket(s, at, made, next, names, table);
     };
-    let part = not_level(s, to, made, next + 1, bytes, starts, firsts, links, table)?;
+    let part = not_level(s, to, made, next + 1, names, table)?;
     put_row(table, next, rows::NOT, part.atom, 0);
     Some(Part {
-        atom: starts.len() + made + next,
+        atom: names.starts.len() + made + next,
         ..part
     })
 }
@@ -170,21 +150,17 @@ pub fn bracket(
     at: usize,
     made: usize,
     next: usize,
-    bytes: &[u8],
-    starts: &[u16],
-    firsts: &[u16],
-    links: &[u16],
+    names: &NameIndex,
     table: &mut [u16],
 ) -> Option<Part>
-    requires readable { Readable (decode_names (length starts.now) bytes.now) s.now at made next table.old }
-    requires indexed { Indexed (decode_names (length starts.now) bytes.now) bytes.now starts.now firsts.now links.now }
+    requires readable { Readable (names_of names.now) s.now at made next table.old }
     requires s_value { is_leading not_word (tokens (drop at s.now)) ≡ false }
-    ensures { PartIs single (decode_names (length starts.now) bytes.now) s.now at made next table.old table.new result }
+    ensures { PartIs single (names_of names.now) s.now at made next table.old table.new result }
 {
     let Some(inner) = opening_at(s, at) else {
-        return name_at(s, at, next, bytes, starts, firsts, links);
+        return name_at(s, at, next, names);
     };
-    let part = or_level(s, inner, made, next, bytes, starts, firsts, links, table)?;
+    let part = or_level(s, inner, made, next, names, table)?;
     let place = scan::closed_at(s, part.place)?;
     Some(Part { place, ..part })
 }
@@ -193,17 +169,13 @@ pub fn bracket(
 pub fn parse_condition(
     s: &[u8],
     made: usize,
-    bytes: &[u8],
-    starts: &[u16],
-    firsts: &[u16],
-    links: &[u16],
+    names: &NameIndex,
     table: &mut [u16],
 ) -> Option<Parse>
-    requires readable { Readable (decode_names (length starts.now) bytes.now) s.now 0 made 0 table.old }
-    requires indexed { Indexed (decode_names (length starts.now) bytes.now) bytes.now starts.now firsts.now links.now }
-    ensures { ParseIs (decode_names (length starts.now) bytes.now) s.now made table.old table.new result }
+    requires { Readable (names_of names.now) s.now 0 made 0 table.old }
+    ensures { ParseIs (names_of names.now) s.now made table.old table.new result }
 {
-    let part = or_level(s, 0, made, 0, bytes, starts, firsts, links, table)?;
+    let part = or_level(s, 0, made, 0, names, table)?;
     scan::nothing_at(s, part.place).then_some(Parse {
         atom: part.atom,
         connectives: part.next,

@@ -5,12 +5,14 @@ ghost use Rattle.name_store.specs.NameIndex.{name_hash, Indexed};
 ghost use Rattle.lines.specs.Tokens.{tokens};
 ghost use Rattle.lines.specs.Conditions.{pairs};
 ghost use Rattle.condition_scan.specs.Scans.{word_symbol, is_fitting, after_of, Countable, StepIs, ScanIs};
+ghost use Rattle.name_store.specs.IndexedNames.{names_of};
 
 use crate::sorts::{Sort, sort_of};
 use kinds::limits::Preference;
 use lines::scan::{Bracket, bracket_at};
 use name_store::index;
 use numbering::hashed_items::{HashedItem, hashed_item_at};
+use name_store::indexed::NameIndex;
 
 // A token as the scan tells it from others: `and` and `or` are joints.
 #[derive(Clone, Copy)]
@@ -52,19 +54,15 @@ pub struct Scan {
 fn word_symbol(
     word: &[u8],
     hash: usize,
-    bytes: &[u8],
-    starts: &[u16],
-    firsts: &[u16],
-    links: &[u16],
+    names: &NameIndex,
 ) -> Symbol
-    requires indexed { Indexed (decode_names (length starts.now) bytes.now) bytes.now starts.now firsts.now links.now }
-    requires hash_value { hash ≡ name_hash word.now }
-    ensures { result ≡ word_symbol (decode_names (length starts.now) bytes.now) word.now }
+    requires { hash ≡ name_hash word.now }
+    ensures { result ≡ word_symbol (names_of names.now) word.now }
 {
     match sort_of(word) {
         Sort::Not => Symbol::Negation,
         Sort::And | Sort::Or => Symbol::Joint,
-        Sort::Name => match index::find_hashed(bytes, starts, firsts, links, word, hash) {
+        Sort::Name => match names.find_hashed(word, hash) {
             Some(_) => Symbol::Declared,
             None => Symbol::Undeclared,
         },
@@ -74,14 +72,10 @@ fn word_symbol(
 fn step_at(
     s: &[u8],
     at: usize,
-    bytes: &[u8],
-    starts: &[u16],
-    firsts: &[u16],
-    links: &[u16],
+    names: &NameIndex,
 ) -> Option<Step>
-    requires at_in_bounds { at ≤ length s.now }
-    requires indexed { Indexed (decode_names (length starts.now) bytes.now) bytes.now starts.now firsts.now links.now }
-    ensures { StepIs (decode_names (length starts.now) bytes.now) s.now at result }
+    requires { at ≤ length s.now }
+    ensures { StepIs (names_of names.now) s.now at result }
 {
     let Some(HashedItem { gap, size, hash }) = hashed_item_at(s, at) else {
         return match bracket_at(s, at) {
@@ -98,7 +92,7 @@ fn step_at(
     };
     let start = at + gap;
     let to = start + size;
-    let symbol = word_symbol(&s[start..to], hash, bytes, starts, firsts, links);
+    let symbol = word_symbol(&s[start..to], hash, names);
     Some(Step { to, symbol })
 }
 
@@ -149,14 +143,10 @@ fn after(seen: Seen, symbol: Symbol) -> Seen
 
 pub fn scan_condition(
     s: &[u8],
-    bytes: &[u8],
-    starts: &[u16],
-    firsts: &[u16],
-    links: &[u16],
+    names: &NameIndex,
 ) -> Option<Scan>
-    requires s_value { pairs 0 (tokens s.now) ≡ true }
-    requires indexed { Indexed (decode_names (length starts.now) bytes.now) bytes.now starts.now firsts.now links.now }
-    ensures { ScanIs (decode_names (length starts.now) bytes.now) (tokens s.now) result }
+    requires { pairs 0 (tokens s.now) ≡ true }
+    ensures { ScanIs (names_of names.now) (tokens s.now) result }
 {
     let mut at: usize = 0;
     let mut seen = Seen {
@@ -166,7 +156,7 @@ pub fn scan_condition(
         connectives: 0,
         undeclared: false,
     };
-    while let Some(step) = step_at(s, at, bytes, starts, firsts, links) {
+    while let Some(step) = step_at(s, at, names) {
         if !fits(step.symbol, seen.part) {
             return None;
         }

@@ -18,6 +18,7 @@ use kinds::refusals::Refusal;
 use lines::forms;
 use lines::forms::{DeclaredShape, Keyword, Shape};
 use lines::stage::Stage;
+use name_store::indexed::NameIndex;
 use numbering::entries;
 use numbering::entries::Unentered;
 
@@ -50,7 +51,13 @@ fn past_limit(
     requires indexed { Indexed (decode_names (length starts.old) bytes.old) bytes.old starts.old firsts.old links.old }
     ensures { result ≡ past_refusal (some (among (decode_names (length starts.old) bytes.old)) (items (drop at line.now)) || twice [] (items (drop at line.now))) }
 {
-    if entries::any_known(line, at, bytes, starts, firsts, links)
+    let names = NameIndex {
+        bytes,
+        starts,
+        firsts,
+        links,
+    };
+    if entries::any_known(line, at, &names)
         || entries::any_twice(line, at, bytes, starts, firsts, links)
     {
         return Refusal::DeclaredTwice;

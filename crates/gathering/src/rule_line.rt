@@ -15,6 +15,7 @@ use kinds::refusals::Refusal;
 use lines::forms::Shape;
 use lines::stage::Stage;
 use lines::{forms, scan};
+use name_store::indexed::NameIndex;
 use numbering::numbers;
 use numbering::numbers::RuleCounts;
 use output::words::push;
@@ -116,17 +117,13 @@ fn add_rule(
     let Counts { atoms, rules, .. } = gathered.counts;
     let at = gathered.words + 3;
     let stamp = (3 * rules + 1) as u16;
-    let Some(rule) = numbers::rule_numbers(
-        line,
+    let names = NameIndex {
         bytes,
-        &starts[..atoms],
+        starts: &starts[..atoms],
         firsts,
         links,
-        marks,
-        stamp,
-        words,
-        at,
-    ) else {
+    };
+    let Some(rule) = numbers::rule_numbers(line, &names, marks, stamp, words, at) else {
         return Err(rule_refusal(line, kind));
     };
     if rule.twice {

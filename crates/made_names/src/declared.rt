@@ -5,21 +5,22 @@ ghost use Rattle.rules.specs.Lists.{All, some, from};
 ghost use Rattle.names.specs.Names.{made_name, allowed};
 ghost use Rattle.name_store.specs.NameStore.{decode_names, among};
 ghost use Rattle.name_store.specs.NameIndex.{Indexed};
+ghost use Rattle.name_store.specs.IndexedNames.{names_of};
 
 use crate::writing::emit_made;
 use kinds::limits::{Kind, Preference};
 use name_store::index::find;
+use name_store::indexed::NameIndex;
 
 // `T.` and the digits of the largest number.
 const LONGEST: usize = 22;
 
-fn is_declared(number: usize, bytes: &[u8], starts: &[u16], firsts: &[u16], links: &[u16]) -> bool
-    requires { Indexed (decode_names (length starts.now) bytes.now) bytes.now starts.now firsts.now links.now }
-    ensures { result ≡ among (decode_names (length starts.now) bytes.now) (made_name number) }
+fn is_declared(number: usize, names: &NameIndex) -> bool
+    ensures { result ≡ among (names_of names.now) (made_name number) }
 {
     let mut name = [0u8; LONGEST];
     let size = emit_made(number, &mut name, 0);
-    find(bytes, starts, firsts, links, &name[..size]).is_some()
+    names.find(&name[..size]).is_some()
 }
 
 // The last number that a name of so many made atoms can have: no greater number is in any name.
@@ -34,19 +35,15 @@ fn last_named(made: usize, count: usize) -> usize
 pub fn any_declared(
     made: usize,
     count: usize,
-    bytes: &[u8],
-    starts: &[u16],
-    firsts: &[u16],
-    links: &[u16],
+    names: &NameIndex,
 ) -> bool
-    requires indexed { Indexed (decode_names (length starts.now) bytes.now) bytes.now starts.now firsts.now links.now }
-    requires all { All (λ x. T (allowed Kind.Preference x)) (decode_names (length starts.now) bytes.now) }
+    requires all { All (λ x. T (allowed Kind.Preference x)) (names_of names.now) }
     requires made_bound { (made ≤ atom_limit Kind.Preference) × (count < 2 ^ 32) }
-    ensures { result ≡ some (λ t. among (decode_names (length starts.now) bytes.now) (made_name t)) (from (suc made) count) }
+    ensures { result ≡ some (λ t. among (names_of names.now) (made_name t)) (from (suc made) count) }
 {
     let last = last_named(made, count);
     for number in made + 1..=last {
-        if is_declared(number, bytes, starts, firsts, links) {
+        if is_declared(number, names) {
             return true;
         }
     }

@@ -9,14 +9,11 @@ use Rattle.condition_line.proofs.AddedCondition.{unknown_line, full_line, readab
 use Rattle.condition_line.proofs.condition_line.keep_condition.Reads as keep-condition-reads
 use Rattle.condition_parts.proofs.parts.parse_condition.Reads as parse-condition-reads
 use Rattle.condition_rules.proofs.put_condition.Reads as put-condition-reads
-use Rattle.name_store.proofs.index.find.Reads as find-reads
+use Rattle.name_store.proofs.indexed.NameIndex.find.Reads as find-reads
 use Rattle.condition_line.proofs.condition_line.add_condition.Goals as goal
 
-pub slice_bounds-find-end : goal.slice_bounds-find-end
-slice_bounds-find-end c = sym (known_starts c.requires.held_index)
-
-pub find-requires : goal.find-requires
-find-requires c = known_index c.requires.held_index
+pub invariant_of-names : goal.invariant_of-names
+invariant_of-names c = record { indexed = known_index c.requires.held_index }
 
 pub returns-in_err-then : goal.returns-in_err-then
 returns-in_err-then c = refused_line_lem c.in_err-then.ensures.value c.in_err-then.ensures.ok_part (err_from_is_err_and c.from_residual.result c.from_residual.ensures.1) (unknown_line c.requires.held c.requires.held_index c.args.spoken.now c.args.name.now c.requires.tested c.find.ensures c.in_err-then.ensures.ok_part)
@@ -30,15 +27,9 @@ overflow_add-atoms-2 c = let s = held_small c.requires.held in omega (arith, s.a
 pub returns-then-atoms-made-gt-ATOMS : goal.returns-then-atoms-made-gt-ATOMS
 returns-then-atoms-made-gt-ATOMS c = record { says = full_line c.requires.held c.requires.held_index c.args.spoken.now c.args.name.now c.requires.tested c.find.ensures c.in_ok-then.ensures.ok_part c.if-atoms-made-gt-ATOMS.true }
 
-pub slice_bounds-parse_condition-end : goal.slice_bounds-parse_condition-end
-slice_bounds-parse_condition-end c = sym (known_starts c.requires.held_index)
-
 pub parse_condition-requires : goal.parse_condition-requires
-parse_condition-requires c =
-    record {
-      readable = readable c.requires.held c.requires.held_index c.args.spoken.now c.args.name.now c.requires.tested c.find.ensures c.in_ok-then.ensures.ok_part c.if-atoms-made-gt-ATOMS.false (length-replicate {A = ℕ} 768 0);
-      indexed = known_index c.requires.held_index;
-    }
+parse_condition-requires c = readable c.requires.held c.requires.held_index c.args.spoken.now c.args.name.now c.requires.tested c.find.ensures c.in_ok-then.ensures.ok_part c.if-atoms-made-gt-ATOMS.false (length-replicate {A = ℕ} 768 0);
+      indexed = known_index c.requires.held_index
 
 pub returns-in_err-parse : goal.returns-in_err-parse
 returns-in_err-parse c = refused_line_lem c.in_err-parse.ensures.value c.in_err-parse.ensures.ok_part (err_from_is_err_and c.from_residual-in_err-parse.result c.from_residual-in_err-parse.ensures.1) (faulty_line c.requires.held c.requires.held_index c.args.spoken.now c.args.name.now c.requires.tested c.find.ensures c.in_ok-then.ensures.ok_part c.if-atoms-made-gt-ATOMS.false (length-replicate {A = ℕ} 768 0) c.parse_condition.ensures c.in_err-parse.ensures.ok_part)

@@ -8,15 +8,12 @@ use Rattle.condition_scan.proofs.scan.scan_condition.Reads as scan-condition-rea
 use Rattle.made_names.proofs.declared.any_declared.Reads as any-declared-reads
 use Rattle.condition_line.proofs.condition_line.test_condition.Goals as goal
 
-pub slice_bounds-scan_condition-end : goal.slice_bounds-scan_condition-end
-slice_bounds-scan_condition-end c = sym (known_starts c.requires.held_index)
+pub invariant_of-names : goal.invariant_of-names
+invariant_of-names c = record { indexed = known_index c.requires.held_index }
 
 pub scan_condition-requires : goal.scan_condition-requires
-scan_condition-requires c =
-    record {
-      s_value = c.requires.spoken_len_bound.2;
-      indexed = known_index c.requires.held_index;
-    }
+scan_condition-requires c = c.requires.spoken_len_bound.2;
+      indexed = known_index c.requires.held_index
 
 pub returns-in_err-scanned : goal.returns-in_err-scanned
 returns-in_err-scanned c = refused_line_lem c.in_err-scanned.ensures.value c.in_err-scanned.ensures.ok_part (err_from_is_err_and c.from_residual.result c.from_residual.ensures.1) (unparsed_line c.requires.held c.requires.held_index c.requires.spoken_len_bound.1 c.args.spoken.now c.args.name.now c.scan_condition.ensures c.in_err-scanned.ensures.ok_part)
@@ -27,13 +24,9 @@ returns-then-scanned c = record { says = deep_line c.requires.held c.requires.he
 pub returns-then-refused : goal.returns-then-refused
 returns-then-refused c = record { says = refused_line c.requires.held c.requires.held_index c.requires.spoken_len_bound.1 c.args.spoken.now c.args.name.now c.scan_condition.ensures c.in_ok-scanned.ensures.ok_part c.if-scanned.false c.requires.spoken_len_bound.3 c.if-refused.true }
 
-pub slice_bounds-any_declared-end : goal.slice_bounds-any_declared-end
-slice_bounds-any_declared-end c = sym (known_starts c.requires.held_index)
-
 pub any_declared-requires : goal.any_declared-requires
 any_declared-requires c =
     record {
-      indexed = known_index c.requires.held_index;
       all = all_allowed c.requires.held c.requires.held_index c.requires.spoken_len_bound.1 c.args.spoken.now c.args.name.now;
       made_bound = (omega (arith, c.requires.held.made_fits), omega (arith, few_here c.requires.held c.requires.held_index c.requires.spoken_len_bound.1 c.args.spoken.now c.args.name.now c.scan_condition.ensures c.in_ok-scanned.ensures.ok_part c.requires.spoken_len_bound.0));
     }

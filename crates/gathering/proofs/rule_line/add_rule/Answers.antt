@@ -19,8 +19,8 @@ overflow_add-stamp c = let s = held_small c.requires.held in omega arith
 pub overflow_cast-stamp : goal.overflow_cast-stamp
 overflow_cast-stamp c = let s = held_small c.requires.held in omega arith
 
-pub slice_bounds-rule_numbers-end : goal.slice_bounds-rule_numbers-end
-slice_bounds-rule_numbers-end c = sym (known_starts c.requires.held_index)
+pub invariant_of-names : goal.invariant_of-names
+invariant_of-names c = record { indexed = known_index c.requires.held_index }
 
 pub rule_numbers-requires : goal.rule_numbers-requires
 rule_numbers-requires c =
@@ -35,7 +35,6 @@ rule_numbers-requires c =
     let stamps : 3 * c.args.gathered.counts.rules + 1 + 2 < 65536 = omega arith in
     record {
       starts_len_bound = (few, marked, range, stamps);
-      indexed = known_index x;
       below = m.below;
     }
 

@@ -5,7 +5,8 @@ use Rattle.kinds.specs.declared.limits.Kind.TheVariants.{Preference}
 use Rattle.names.specs.Names.{made_name}
 use Rattle.name_store.specs.NameStore.{decode_names, among}
 use Rattle.made_names.proofs.NextNames.{Looking}
+use Rattle.name_store.specs.IndexedNames.{names_of}
 use Rattle.made_names.proofs.declared.any_declared.Given as goal
 
 abbrev pub invariant-loop-number : goal.invariant-loop-number
-invariant-loop-number l = (l.last ≤ atom_limit Preference) × Looking (λ t. among (decode_names (length l.starts) l.bytes) (made_name t)) l.made l.count l.last l.number
+invariant-loop-number l = (l.last ≤ atom_limit Preference) × Looking (λ t. among (names_of l.names) (made_name t)) l.made l.count l.last l.number

@@ -7,6 +7,7 @@ use Rattle.numbering.proofs.HashedNames.{hashed_end, hashed_item_lem, hashed_nam
 use Rattle.numbering.proofs.NameNumbers.{numbering, numbers_closed, numbers_unclosed, number_inside, number_long, not_declared, known_name, atom_marked, word_range, number_again, number_new}
 use native.Mathlib.Omega.{arith}
 use Rattle.numbering.proofs.numbers.numbers_at.Goals as goal
+use Rattle.name_store.specs.IndexedNames.{names_of}
 use Rattle.numbering.proofs.numbers.numbers_at.Goals.{else-mark, then-mark}
 
 pub loop-gap-init : goal.loop-gap-init
