@@ -9,7 +9,6 @@ ghost use Rattle.name_store.specs.IndexedNames.{names_of};
 
 use crate::writing::emit_made;
 use kinds::limits::{Kind, Preference};
-use name_store::index::find;
 use name_store::indexed::NameIndex;
 
 // `T.` and the digits of the largest number.
