@@ -6,10 +6,6 @@ use mathlib.Core.Path.{sym, ◌∙◌}
 use lib.ListN.{length-replicate}
 use Rattle.gathering.proofs.HeldState.{held_small, known_starts, known_index}
 use Rattle.condition_line.proofs.AddedCondition.{unknown_line, full_line, readable, faulty_line, put_fits, keep_fits, added_line}
-use Rattle.condition_line.proofs.condition_line.keep_condition.Reads as keep-condition-reads
-use Rattle.condition_parts.proofs.parts.parse_condition.Reads as parse-condition-reads
-use Rattle.condition_rules.proofs.put_condition.Reads as put-condition-reads
-use Rattle.name_store.proofs.index.find.Reads as find-reads
 use Rattle.condition_line.proofs.condition_line.add_condition.Goals as goal
 
 pub slice_bounds-find-end : goal.slice_bounds-find-end
