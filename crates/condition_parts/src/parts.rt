@@ -4,6 +4,7 @@ ghost use Rattle.std.specs.Prelude.{◌≡◌, false, List, ℕ, ◌≤◌, leng
 ghost use Rattle.kinds.specs.Words.{not_word};
 ghost use Rattle.name_store.specs.NameStore.{decode_names};
 ghost use Rattle.name_store.specs.NameIndex.{Indexed};
+ghost use Rattle.conditions.specs.declared.table.TableRow.{TableRow};
 ghost use Rattle.lines.specs.Tokens.{tokens};
 ghost use Rattle.lines.specs.Conditions.{names_in};
 ghost use Rattle.numbering.specs.Numbers.{undeclared};
@@ -12,8 +13,8 @@ ghost use Rattle.condition_parts.specs.Parts.{disjunctions, conjunctions, single
 ghost use Rattle.name_store.specs.IndexedNames.{names_of};
 
 use crate::places::{opening_at, word_at};
-use crate::rows;
 use crate::rows::put_row;
+use conditions::table::{Connective, TableRow};
 use lines::scan;
 use lines::scan::Item;
 use name_store::index;
@@ -43,7 +44,7 @@ fn name_at(
 ) -> Option<Part>
     requires at_in_bounds { (at ≤ length s.now) × (undeclared (names_of names.now) (names_in (tokens (drop at s.now))) ≡ false) }
     requires s_value { (is_opening (tokens (drop at s.now)) ≡ false) × (is_leading not_word (tokens (drop at s.now)) ≡ false) }
-    ensures { (made : ℕ) (table : List ℕ) → PartIs single (names_of names.now) s.now at made next table table result }
+    ensures { (made : ℕ) (table : List TableRow) → PartIs single (names_of names.now) s.now at made next table table result }
 {
     if word_at(s, at, b"and").is_some() || word_at(s, at, b"or").is_some() {
         return None;
@@ -63,7 +64,7 @@ pub fn or_level(
     made: usize,
     next: usize,
     names: &NameIndex,
-    table: &mut [u16],
+    table: &mut [TableRow],
 ) -> Option<Part>
     requires { Readable (names_of names.now) s.now at made next table.old }
     ensures { PartIs disjunctions (names_of names.now) s.now at made next table.old table.new result }
@@ -78,7 +79,7 @@ pub fn or_level(
             names,
             table,
         )?;
-        put_row(table, part.next, rows::OR, part.atom, right.atom);
+        put_row(table, part.next, Connective::Or, part.atom, right.atom);
         part = Part {
             atom: names.starts.len() + made + part.next,
             ..right
@@ -95,7 +96,7 @@ pub fn and_level(
     made: usize,
     next: usize,
     names: &NameIndex,
-    table: &mut [u16],
+    table: &mut [TableRow],
 ) -> Option<Part>
     requires { Readable (names_of names.now) s.now at made next table.old }
     ensures { PartIs conjunctions (names_of names.now) s.now at made next table.old table.new result }
@@ -110,7 +111,7 @@ pub fn and_level(
             names,
             table,
         )?;
-        put_row(table, part.next, rows::AND, part.atom, right.atom);
+        put_row(table, part.next, Connective::And, part.atom, right.atom);
         part = Part {
             atom: names.starts.len() + made + part.next,
             ..right
@@ -127,7 +128,7 @@ pub fn not_level(
     made: usize,
     next: usize,
     names: &NameIndex,
-    table: &mut [u16],
+    table: &mut [TableRow],
 ) -> Option<Part>
     requires { Readable (names_of names.now) s.now at made next table.old }
     ensures { PartIs single (names_of names.now) s.now at made next table.old table.new result }
@@ -136,7 +137,7 @@ pub fn not_level(
         return bracket(s, at, made, next, names, table);
     };
     let part = not_level(s, to, made, next + 1, names, table)?;
-    put_row(table, next, rows::NOT, part.atom, 0);
+    put_row(table, next, Connective::Not, part.atom, 0);
     Some(Part {
         atom: names.starts.len() + made + next,
         ..part
@@ -151,7 +152,7 @@ pub fn bracket(
     made: usize,
     next: usize,
     names: &NameIndex,
-    table: &mut [u16],
+    table: &mut [TableRow],
 ) -> Option<Part>
     requires readable { Readable (names_of names.now) s.now at made next table.old }
     requires s_value { is_leading not_word (tokens (drop at s.now)) ≡ false }
@@ -170,7 +171,7 @@ pub fn parse_condition(
     s: &[u8],
     made: usize,
     names: &NameIndex,
-    table: &mut [u16],
+    table: &mut [TableRow],
 ) -> Option<Parse>
     requires { Readable (names_of names.now) s.now 0 made 0 table.old }
     ensures { ParseIs (names_of names.now) s.now made table.old table.new result }

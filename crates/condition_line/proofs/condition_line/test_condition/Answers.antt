@@ -3,17 +3,13 @@ use native.Mathlib.Omega.{arith}
 use mathlib.Core.Path.{sym}
 use Rattle.gathering.proofs.HeldState.{known_starts, known_index}
 use Rattle.condition_line.proofs.ConditionSteps.{refused_line_lem, all_allowed, unparsed_line, few_here, deep_line, refused_line, taken_line, undeclared_line, tested}
-use Rattle.condition_line.proofs.condition_line.add_condition.Reads as add-condition-reads
-use Rattle.condition_scan.proofs.scan.scan_condition.Reads as scan-condition-reads
-use Rattle.made_names.proofs.declared.any_declared.Reads as any-declared-reads
 use Rattle.condition_line.proofs.condition_line.test_condition.Goals as goal
 
 pub invariant_of-names : goal.invariant_of-names
 invariant_of-names c = record { indexed = known_index c.requires.held_index }
 
 pub scan_condition-requires : goal.scan_condition-requires
-scan_condition-requires c = c.requires.spoken_len_bound.2;
-      indexed = known_index c.requires.held_index
+scan_condition-requires c = c.requires.spoken_len_bound.2
 
 pub returns-in_err-scanned : goal.returns-in_err-scanned
 returns-in_err-scanned c = refused_line_lem c.in_err-scanned.ensures.value c.in_err-scanned.ensures.ok_part (err_from_is_err_and c.from_residual.result c.from_residual.ensures.1) (unparsed_line c.requires.held c.requires.held_index c.requires.spoken_len_bound.1 c.args.spoken.now c.args.name.now c.scan_condition.ensures c.in_err-scanned.ensures.ok_part)

@@ -8,6 +8,7 @@ use Rattle.numbering.proofs.NameNumbers.{numbering, numbers_closed, numbers_uncl
 use native.Mathlib.Omega.{arith}
 use Rattle.numbering.proofs.numbers.numbers_at.Goals as goal
 use Rattle.name_store.specs.IndexedNames.{names_of}
+use Rattle.name_store.specs.IndexedNames.{names_of}
 use Rattle.numbering.proofs.numbers.numbers_at.Goals.{else-mark, then-mark}
 
 pub loop-gap-init : goal.loop-gap-init
