@@ -15,24 +15,23 @@ use Rattle.rules.proofs.Lists.{part_rest, map_at}
 use Rattle.stores.specs.RuleStore.{places, rule_at, rules_from}
 use Rattle.stores.specs.StoredRules.{StoredRule, StoredRules}
 use Rattle.stores.proofs.RuleStores.{rules_count}
-use Rattle.stores.proofs.RuleLists.{head_part, body_part, head_is, body_is}
 use Rattle.masks.specs.Masks.{place_mask, breakable, care_of, want_of, care_at, want_at}
 
 -- the masks of one rule, and the test
 
-module _ (ws : List ℕ) where
-  module _ (n hm bm : ℕ) (eh : hm ≡ place_mask n (head_part ws)) (eb : bm ≡ place_mask n (body_part ws)) (q : Bool) (eq : q ≡ breakable hm bm) where
+module _ (ws : List ℕ) {heads bodies : List ℕ} (hs : heads ≡ (rule_at ws).head) (bs : bodies ≡ (rule_at ws).body) where
+  module _ (n hm bm : ℕ) (eh : hm ≡ place_mask n heads) (eb : bm ≡ place_mask n bodies) (q : Bool) (eq : q ≡ breakable hm bm) where
     care_is : cond q (bit_or hm bm) 0 ≡ care_at n (rule_at ws)
     unfolding care_of
     care_is =
         (λ i. cond (eq i) (bit_or hm bm) 0)
-        ∙ λ i. cond (breakable ((eh ∙ ap (place_mask n) (head_is ws)) i) ((eb ∙ ap (place_mask n) (body_is ws)) i)) (bit_or ((eh ∙ ap (place_mask n) (head_is ws)) i) ((eb ∙ ap (place_mask n) (body_is ws)) i)) 0
+        ∙ λ i. cond (breakable ((eh ∙ ap (place_mask n) hs) i) ((eb ∙ ap (place_mask n) bs) i)) (bit_or ((eh ∙ ap (place_mask n) hs) i) ((eb ∙ ap (place_mask n) bs) i)) 0
 
     want_is : cond q bm 1 ≡ want_at n (rule_at ws)
     unfolding want_of
     want_is =
         (λ i. cond (eq i) bm 1)
-        ∙ λ i. cond (breakable ((eh ∙ ap (place_mask n) (head_is ws)) i) ((eb ∙ ap (place_mask n) (body_is ws)) i)) ((eb ∙ ap (place_mask n) (body_is ws)) i) 1
+        ∙ λ i. cond (breakable ((eh ∙ ap (place_mask n) hs) i) ((eb ∙ ap (place_mask n) bs) i)) ((eb ∙ ap (place_mask n) bs) i) 1
 
     pub read_unbreakable : q ≡ false → (0 ≡ care_at n (rule_at ws)) × (1 ≡ want_at n (rule_at ws))
     read_unbreakable e = (ap (λ (b : Bool). cond b (bit_or hm bm) 0) (sym e) ∙ care_is, ap (λ (b : Bool). cond b bm 1) (sym e) ∙ want_is)

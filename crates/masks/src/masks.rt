@@ -10,7 +10,7 @@ ghost use Rattle.stores.specs.StoredRules.{StoredRule, StoredRules};
 ghost use Rattle.masks.specs.FilledMasks.{MasksOf};
 
 use stores::roles::{Role, role_of};
-use stores::rule_words::rule_size;
+use stores::rule_words::{rule_lists, rule_size};
 
 #[derive(Clone, Copy)]
 pub struct RuleMasks {
@@ -60,10 +60,9 @@ fn read_rule(words: &[u16], n: usize) -> RuleMasks
     requires stored_rule { StoredRule n words.now }
     ensures { (result.care ≡ care_at n (rule_at words.now)) × (result.want ≡ want_at n (rule_at words.now)) }
 {
-    let body = 3 + words[0] as usize;
-    let not = body + words[1] as usize;
-    let heads = mask_of(&words[3..body], n);
-    let bodies = mask_of(&words[body..not], n);
+    let lists = rule_lists(words);
+    let heads = mask_of(lists.heads, n);
+    let bodies = mask_of(lists.bodies, n);
     if !is_breakable(heads, bodies) {
         return RuleMasks { care: 0, want: 1 };
     }

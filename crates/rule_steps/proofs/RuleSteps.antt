@@ -1,6 +1,5 @@
 -- Steps 2 and 3, rule by rule.
 use Prim.Native.Nat.{ℕ, ◌+◌, ◌-◌, ◌≤◌, ◌<◌}
-use native.Mathlib.Nat.{add-sub_cancel_left}
 use native.Mathlib.Omega.{arith}
 use mathlib.Core.Path.{◌≡◌, sym, ap, ap₂, ◌∙◌, subst}
 use mathlib.Core.List.{List, [], ◌∷◌, ◌++◌, map, append_assoc}
@@ -9,8 +8,9 @@ use lib.Seq.{length-take-le}
 use Rattle.rules.specs.Lists.{All, filter}
 use Rattle.rules.specs.Rules.{rule}
 use Rattle.rules.proofs.Lists.{all_imp}
-use Rattle.stores.specs.RuleStore.{heads, bodies, rule_at, rule_words}
+use Rattle.stores.specs.RuleStore.{heads, bodies, places, rule_at, rule_words}
 use Rattle.stores.specs.StoredRules.{StoredRule}
+use Rattle.stores.proofs.RuleLists.{heads_below, bodies_below}
 use Rattle.pairing.specs.Loops.{below, beyond, loop2, loop3}
 use Rattle.pairing.proofs.SumLaws.{length_parts}
 use Rattle.atom_lists.specs.Split.{count_below, lows, highs}
@@ -18,51 +18,28 @@ use Rattle.atom_lists.proofs.ListLaws.{each_raised, each_itself}
 use Rattle.steps.specs.RuleLists.{RuleLists}
 use Rattle.steps.specs.StepWords.{lists2, words2, lists3, words3}
 
--- the lists of the rule at the front of the words, as the code takes them
+-- the lists of the rule at the front of the words
 
-module _ (ws : List ℕ) where
-  abbrev pub head_part : List ℕ
-  head_part = take (3 + heads ws - 3) (drop 3 ws)
-
-  abbrev pub body_part : List ℕ
-  body_part = take (3 + heads ws + bodies ws - (3 + heads ws)) (drop (3 + heads ws) ws)
-
-  head_part_lem : head_part ≡ (rule_at ws).head
+module _ {n : ℕ} {ws : List ℕ} (h : StoredRule n ws) where
+  heads_few : length (rule_at ws).head ≤ places ws
   unfolding rule_at
-  head_part_lem = rw add-sub_cancel_left
+  heads_few = omega (arith, length-take-le (heads ws) (drop 3 ws) (omega (arith, h.inside, length-drop 3 ws)))
 
-  body_part_lem : body_part ≡ (rule_at ws).body
+  bodies_few : length (rule_at ws).body ≤ places ws
   unfolding rule_at
-  body_part_lem = rw add-sub_cancel_left
+  bodies_few = omega (arith, length-take-le (bodies ws) (drop (3 + heads ws) ws) (omega (arith, h.inside, length-drop (3 + heads ws) ws)))
 
-  module _ {n : ℕ} (h : StoredRule n ws) where
-    pub head_length : length head_part ≡ heads ws
-    head_length =
-        let e : 3 + heads ws - 3 ≡ heads ws = omega arith in
-        ap (λ (k : ℕ). length (take k (drop 3 ws))) e ∙ length-take-le (heads ws) (drop 3 ws) (omega (arith, h.inside, length-drop 3 ws))
-
-    pub body_length : length body_part ≡ bodies ws
-    body_length =
-        let e : 3 + heads ws + bodies ws - (3 + heads ws) ≡ bodies ws = omega arith in
-        ap (λ (k : ℕ). length (take k (drop (3 + heads ws) ws))) e ∙ length-take-le (bodies ws) (drop (3 + heads ws) ws) (omega (arith, h.inside, length-drop (3 + heads ws) ws))
-
-    pub heads_below : All (λ a. a < n) head_part
-    heads_below = subst (All (λ a. a < n)) (sym head_part_lem) h.heads
-
-    pub bodies_below : All (λ a. a < n) body_part
-    bodies_below = subst (All (λ a. a < n)) (sym body_part_lem) h.bodies
-
-    pub lists_fit : n ≤ 256 → RuleLists head_part body_part
-    lists_fit l =
-        record {
-          few_heads = omega (arith, head_length, h.few);
-          few_bodies = omega (arith, body_length, h.few);
-          heads_below = few head_part heads_below;
-          bodies_below = few body_part bodies_below;
-        }
-      where
-        few : (xs : List ℕ) → All (λ a. a < n) xs → All (λ a. a < 256) xs
-        few = all_imp (λ a. a < n) (λ a. a < 256) (λ a k. omega arith)
+  pub lists_fit : {hs bs : List ℕ} → hs ≡ (rule_at ws).head → bs ≡ (rule_at ws).body → n ≤ 256 → RuleLists hs bs
+  lists_fit {hs} {bs} eh eb l =
+      record {
+        few_heads = omega (arith, ap length eh, heads_few, h.few);
+        few_bodies = omega (arith, ap length eb, bodies_few, h.few);
+        heads_below = few hs (heads_below h eh);
+        bodies_below = few bs (bodies_below h eb);
+      }
+    where
+      few : (xs : List ℕ) → All (λ a. a < n) xs → All (λ a. a < 256) xs
+      few = all_imp (λ a. a < n) (λ a. a < 256) (λ a k. omega arith)
 
 -- the steps by the lists of a rule
 
@@ -78,9 +55,9 @@ module _ (m n : ℕ) where
       omega (arith, length-append (filter (beyond m) h) others, length-map (filter (beyond m) b) (λ a. n + a), length_parts (below m) h, length_parts (below m) b) in
       rw (third, each_itself (below m) h, each_itself (below m) b, each_itself (beyond m) h, each_raised (beyond m) n b)
 
-  pub by_rule2 : (ws : List ℕ) → words2 m n (rule_at ws) ≡ lists2 m n (head_part ws) (body_part ws)
+  pub by_rule2 : {ws hs bs : List ℕ} → hs ≡ (rule_at ws).head → bs ≡ (rule_at ws).body → words2 m n (rule_at ws) ≡ lists2 m n hs bs
   unfolding words2
-  by_rule2 ws = ap₂ words_by2 (sym (head_part_lem ws)) (sym (body_part_lem ws)) ∙ by_lists2 (head_part ws) (body_part ws)
+  by_rule2 {ws} {hs} {bs} eh eb = ap₂ words_by2 (sym eh) (sym eb) ∙ by_lists2 hs bs
 
 module _ (q s u : ℕ) where
   abbrev words_by3 : List ℕ → List ℕ → List ℕ
@@ -99,6 +76,6 @@ module _ (q s u : ℕ) where
       let lists = append_assoc heads (u ∷ []) ((bodies ++ filter (beyond q) b) ++ filter (beyond q) h) ∙ ap (λ (l : List ℕ). heads ++ (u ∷ l)) (append_assoc bodies (filter (beyond q) b) (filter (beyond q) h)) in
       rw (first, second, third, each_raised (below q) s h, each_raised (below q) s b, each_itself (beyond q) h, each_itself (beyond q) b) (ap (λ (l : List ℕ). (length (filter (below q) h) + 1) ∷ length b ∷ (length h - length (filter (below q) h)) ∷ l) lists)
 
-  pub by_rule3 : (ws : List ℕ) → words3 q s u (rule_at ws) ≡ lists3 q s u (head_part ws) (body_part ws)
+  pub by_rule3 : {ws hs bs : List ℕ} → hs ≡ (rule_at ws).head → bs ≡ (rule_at ws).body → words3 q s u (rule_at ws) ≡ lists3 q s u hs bs
   unfolding words3
-  by_rule3 ws = ap₂ words_by3 (sym (head_part_lem ws)) (sym (body_part_lem ws)) ∙ by_lists3 (head_part ws) (body_part ws)
+  by_rule3 {ws} {hs} {bs} eh eb = ap₂ words_by3 (sym eh) (sym eb) ∙ by_lists3 hs bs

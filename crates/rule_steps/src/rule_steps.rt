@@ -11,7 +11,7 @@ ghost use Rattle.steps.specs.StepWords.{lists2, words2, lists3, words3};
 use atom_lists::split::{Split, count_below, emit_split};
 use output::words::{emit, push};
 use steps::offsets::Offsets;
-use stores::rule_words::rule_size;
+use stores::rule_words::{rule_lists, rule_size};
 
 // Minimised head atoms, if minimised body atoms, not the other head atoms, not N. of the other body atoms: four lists,
 // each from its own place on.
@@ -53,9 +53,8 @@ fn step2_rule(words: &[u16], minimised: u16, n: u16, out: &mut [u16], at: usize)
     requires { (n ≤ 256) × StoredRule n words.now × InRange at (words2 minimised n (rule_at words.now)) }
     ensures { Emitted out.old at (words2 minimised n (rule_at words.now)) out.new result }
 {
-    let body = 3 + words[0] as usize;
-    let end = body + words[1] as usize;
-    step2_lists(&words[3..body], &words[body..end], minimised, n, out, at)
+    let lists = rule_lists(words);
+    step2_lists(lists.heads, lists.bodies, minimised, n, out, at)
 }
 
 pub fn step2(words: &[u16], count: u16, minimised: u16, n: u16, out: &mut [u16], at: usize) -> usize
@@ -106,17 +105,8 @@ fn step3_rule(words: &[u16], unfixed: u16, o: Offsets, out: &mut [u16], at: usiz
     requires { Small o × StoredRule o.n words.now × InRange at (words3 unfixed o.s o.u (rule_at words.now)) }
     ensures { Emitted out.old at (words3 unfixed o.s o.u (rule_at words.now)) out.new result }
 {
-    let body = 3 + words[0] as usize;
-    let end = body + words[1] as usize;
-    step3_lists(
-        &words[3..body],
-        &words[body..end],
-        unfixed,
-        o.s,
-        o.u,
-        out,
-        at,
-    )
+    let lists = rule_lists(words);
+    step3_lists(lists.heads, lists.bodies, unfixed, o.s, o.u, out, at)
 }
 
 pub fn step3(

@@ -1,4 +1,4 @@
--- The lists of the rule at the front, and what the loop over the marks keeps.
+-- Whether a rule is kept, and what the loop over the marks keeps.
 use Prim.Native.Nat.{ℕ, suc, ◌+◌, ◌-◌, ◌^◌, ◌≤◌, ◌<◌}
 use mathlib.Core.Path.{◌≡◌, sym, ap, ◌∙◌}
 use mathlib.Core.Bool.{Bool, true, false, not, ◌||◌}
@@ -13,27 +13,13 @@ use borrow.Author.Tests.{eq-eqb, ne_eqb, not-true, not-false}
 use Rattle.kinds.specs.Limits.{walk_atoms}
 use Rattle.rules.specs.Lists.{All, some}
 use Rattle.rules.specs.Sets.{has}
-use Rattle.rules.proofs.Lists.{part_sized}
-use Rattle.stores.specs.RuleStore.{heads, bodies, nots, rule_at}
-use Rattle.stores.specs.StoredRules.{StoredRule}
+use Rattle.stores.specs.RuleStore.{rule_at}
 use Rattle.masks.proofs.MaskBits.{bit_test}
-use Rattle.stores.proofs.RuleLists.{bodies_below, nots_below}
 use Rattle.stable_verdict.specs.ReductMarks.{is_keeping, marked_at}
 
--- the lists of the rule at the front, as the code takes them
-module _ (ws : List ℕ) where
-  abbrev body_part : List ℕ
-  body_part = take (3 + heads ws + bodies ws - (3 + heads ws)) (drop (3 + heads ws) ws)
-
-  abbrev not_part : List ℕ
-  not_part = take (3 + heads ws + bodies ws + nots ws - (3 + heads ws + bodies ws)) (drop (3 + heads ws + bodies ws) ws)
-
-  pub lists_below : StoredRule walk_atoms ws → All (λ a. a < walk_atoms) body_part × All (λ a. a < walk_atoms) not_part
-  lists_below h = (bodies_below ws walk_atoms h, nots_below ws walk_atoms h)
-
-  pub kept_read : (m : ℕ) (b : Bool) → b ≡ some (has m) not_part → not b ≡ is_keeping m (rule_at ws)
-  unfolding rule_at
-  kept_read m b e = ap not (e ∙ ap (some (has m)) (part_sized (3 + heads ws + bodies ws) (nots ws) (drop (3 + heads ws + bodies ws) ws)))
+-- whether the reduct keeps the rule at the front
+pub kept_read : {ws nots : List ℕ} → nots ≡ (rule_at ws).nots → (m : ℕ) (b : Bool) → b ≡ some (has m) nots → not b ≡ is_keeping m (rule_at ws)
+kept_read e m b is = ap not (is ∙ ap (some (has m)) e)
 
 -- the set mark with so many before it, one mark further
 module _ (before : ℕ) (ms : List Bool) (left j : ℕ) (e : marked_at before ms ≡ j + marked_at left (drop j ms)) where

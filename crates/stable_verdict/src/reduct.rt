@@ -11,7 +11,7 @@ ghost use Rattle.masks.specs.Masks.{care_at, want_at};
 ghost use Rattle.stable_verdict.specs.ReductMarks.{is_keeping, marks_of, marked_at};
 
 use masks::masks::fill_rules;
-use stores::rule_words::rule_size;
+use stores::rule_words::{rule_lists, rule_size};
 
 fn is_in(set: u64, atom: u16) -> bool
     requires { atom < walk_atoms }
@@ -32,10 +32,7 @@ fn is_kept(words: &[u16], of: u64) -> bool
     requires { StoredRule walk_atoms words.now }
     ensures { result ≡ is_keeping of (rule_at words.now) }
 {
-    let body = 3 + words[0] as usize;
-    let not = body + words[1] as usize;
-    let end = not + words[2] as usize;
-    !some_in(of, &words[not..end])
+    !some_in(of, rule_lists(words).nots)
 }
 
 // Puts the masks of the rule at the front, its `not` list left out, at place `at`.

@@ -9,13 +9,13 @@ use Rattle.stores.specs.RuleStore.{heads, bodies, nots, rule_at}
 use Rattle.stores.specs.StoredRules.{StoredRule}
 
 module _ (ws : List ℕ) where
-  abbrev pub head_part : List ℕ
+  abbrev head_part : List ℕ
   head_part = take (3 + heads ws - 3) (drop 3 ws)
 
-  abbrev pub body_part : List ℕ
+  abbrev body_part : List ℕ
   body_part = take (3 + heads ws + bodies ws - (3 + heads ws)) (drop (3 + heads ws) ws)
 
-  abbrev pub not_part : List ℕ
+  abbrev not_part : List ℕ
   not_part = take (3 + heads ws + bodies ws + nots ws - (3 + heads ws + bodies ws)) (drop (3 + heads ws + bodies ws) ws)
 
   pub head_is : head_part ≡ (rule_at ws).head
@@ -30,12 +30,13 @@ module _ (ws : List ℕ) where
   unfolding rule_at
   nots_are = part_sized (3 + heads ws + bodies ws) (nots ws) (drop (3 + heads ws + bodies ws) ws)
 
-  module _ (n : ℕ) (h : StoredRule n ws) where
-    pub heads_below : All (λ a. a < n) head_part
-    heads_below = subst (All (λ a. a < n)) (sym head_is) h.heads
+-- the atoms of each list of a stored rule are below n
+module _ {n : ℕ} {ws : List ℕ} (h : StoredRule n ws) {xs : List ℕ} where
+  pub heads_below : xs ≡ (rule_at ws).head → All (λ a. a < n) xs
+  heads_below e = subst (All (λ a. a < n)) (sym e) h.heads
 
-    pub bodies_below : All (λ a. a < n) body_part
-    bodies_below = subst (All (λ a. a < n)) (sym body_is) h.bodies
+  pub bodies_below : xs ≡ (rule_at ws).body → All (λ a. a < n) xs
+  bodies_below e = subst (All (λ a. a < n)) (sym e) h.bodies
 
-    pub nots_below : All (λ a. a < n) not_part
-    nots_below = subst (All (λ a. a < n)) (sym nots_are) h.nots
+  pub nots_below : xs ≡ (rule_at ws).nots → All (λ a. a < n) xs
+  nots_below e = subst (All (λ a. a < n)) (sym e) h.nots

@@ -1,14 +1,9 @@
 -- The line of a rule, part by part.
-use Prim.Native.Nat.{ℕ, ◌+◌, ◌-◌, ◌<◌}
-use native.Mathlib.Nat.{add-sub_cancel_left}
-use mathlib.Core.Path.{refl, sym, ap}
+use Prim.Native.Nat.{ℕ}
+use mathlib.Core.Path.{◌≡◌, refl, sym, ap}
 use mathlib.Core.List.{List, [], ◌∷◌, ◌++◌}
-use lib.ListN.{take, drop}
-use Rattle.rules.specs.Lists.{All}
 use Rattle.rules.specs.Rules.{Rule}
-use Rattle.rules.proofs.Lists.{part_sized}
-use Rattle.stores.specs.RuleStore.{heads, bodies, nots, rule_at}
-use Rattle.stores.specs.StoredRules.{StoredRule}
+use Rattle.stores.specs.RuleStore.{rule_at}
 use Rattle.kinds.specs.Words.{space, open_bracket, close_bracket, line_end_lem, rule_word, head_word, body_word, not_word}
 use Rattle.text.specs.Text.{open_text, rule_line}
 use Rattle.text.specs.Items.{atom_items, atom_part, rule_item}
@@ -38,29 +33,15 @@ module _ (names : List (List ℕ)) where
   pub body_rest : Rule ℕ → List ℕ
   body_rest r = atom_part names before_body r.body ++ not_rest r
 
-  module _ (ws : List ℕ) where
-    pub head_ahead : Ahead (rule_item names (rule_at ws)) (atom_part names before_head (take (3 + heads ws - 3) (drop 3 ws))) (body_rest (rule_at ws))
-    unfolding rule_item rule_line open_text atom_part atom_items body_rest not_rest rule_at
-    head_ahead = record { is = ap (λ (l : List ℕ). atom_part names before_head l ++ body_rest (rule_at ws)) (sym (part_sized 3 (heads ws) (drop 3 ws))) }
+  module _ (ws : List ℕ) {xs : List ℕ} where
+    pub head_ahead : xs ≡ (rule_at ws).head → Ahead (rule_item names (rule_at ws)) (atom_part names before_head xs) (body_rest (rule_at ws))
+    unfolding rule_item rule_line open_text atom_part atom_items body_rest not_rest
+    head_ahead e = record { is = ap (λ (l : List ℕ). atom_part names before_head l ++ body_rest (rule_at ws)) (sym e) }
 
-    pub body_ahead : Ahead (body_rest (rule_at ws)) (atom_part names before_body (take (3 + heads ws + bodies ws - (3 + heads ws)) (drop (3 + heads ws) ws))) (not_rest (rule_at ws))
-    unfolding body_rest rule_at
-    body_ahead = record { is = ap (λ (l : List ℕ). atom_part names before_body l ++ not_rest (rule_at ws)) (sym (part_sized (3 + heads ws) (bodies ws) (drop (3 + heads ws) ws))) }
+    pub body_ahead : xs ≡ (rule_at ws).body → Ahead (body_rest (rule_at ws)) (atom_part names before_body xs) (not_rest (rule_at ws))
+    unfolding body_rest
+    body_ahead e = record { is = ap (λ (l : List ℕ). atom_part names before_body l ++ not_rest (rule_at ws)) (sym e) }
 
-    pub not_ahead : Ahead (not_rest (rule_at ws)) (atom_part names before_not (take (3 + heads ws + bodies ws + nots ws - (3 + heads ws + bodies ws)) (drop (3 + heads ws + bodies ws) ws))) after_not
-    unfolding not_rest rule_at
-    not_ahead = record { is = ap (λ (l : List ℕ). atom_part names before_not l ++ after_not) (sym (part_sized (3 + heads ws + bodies ws) (nots ws) (drop (3 + heads ws + bodies ws) ws))) }
-
--- the atoms of each list are below n
-module _ {n : ℕ} {ws : List ℕ} (h : StoredRule n ws) where
-  pub heads_below : All (λ a. a < n) (take (3 + heads ws - 3) (drop 3 ws))
-  unfolding rule_at
-  heads_below = rw add-sub_cancel_left h.heads
-
-  pub bodies_below : All (λ a. a < n) (take (3 + heads ws + bodies ws - (3 + heads ws)) (drop (3 + heads ws) ws))
-  unfolding rule_at
-  bodies_below = rw add-sub_cancel_left h.bodies
-
-  pub nots_below : All (λ a. a < n) (take (3 + heads ws + bodies ws + nots ws - (3 + heads ws + bodies ws)) (drop (3 + heads ws + bodies ws) ws))
-  unfolding rule_at
-  nots_below = rw add-sub_cancel_left h.nots
+    pub not_ahead : xs ≡ (rule_at ws).nots → Ahead (not_rest (rule_at ws)) (atom_part names before_not xs) after_not
+    unfolding not_rest
+    not_ahead e = record { is = ap (λ (l : List ℕ). atom_part names before_not l ++ after_not) (sym e) }

@@ -9,7 +9,7 @@ ghost use Rattle.text.specs.Items.{stored_names, atom_part, rule_item, rule_item
 
 use crate::atoms::emit_atoms;
 use output::bytes::emit;
-use stores::rule_words::rule_size;
+use stores::rule_words::{rule_lists, rule_size};
 
 // One list of a rule, after what stands before it.
 fn emit_part(
@@ -32,12 +32,10 @@ fn emit_rule(words: &[u16], names: &[u8], starts: &[u16], out: &mut [u8], at: us
     requires { Placed (stored_names names.now starts.now) names.now starts.now × StoredRule (length starts.now) words.now × InRange at (rule_item (stored_names names.now starts.now) (rule_at words.now)) }
     ensures { Emitted out.old at (rule_item (stored_names names.now starts.now) (rule_at words.now)) out.new result }
 {
-    let body = 3 + words[0] as usize;
-    let not = body + words[1] as usize;
-    let end = not + words[2] as usize;
-    let headed = emit_part(b"(rule (head", &words[3..body], names, starts, out, at);
-    let bodied = emit_part(b") (body", &words[body..not], names, starts, out, headed);
-    let negated = emit_part(b") (not", &words[not..end], names, starts, out, bodied);
+    let lists = rule_lists(words);
+    let headed = emit_part(b"(rule (head", lists.heads, names, starts, out, at);
+    let bodied = emit_part(b") (body", lists.bodies, names, starts, out, headed);
+    let negated = emit_part(b") (not", lists.nots, names, starts, out, bodied);
     emit(b"))\n", out, negated)
 }
 
