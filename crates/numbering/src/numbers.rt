@@ -61,11 +61,7 @@ pub fn numbers_at(
     let mut i = from;
     let mut end = at;
     let mut twice = false;
-    loop {
-        let Some(HashedItem { gap, size, hash }) = hashed_item_at(line, i) else {
-            let place = scan::closed_at(line, i)?;
-            return Some(Numbers { place, end, twice });
-        };
+    while let Some(HashedItem { gap, size, hash }) = hashed_item_at(line, i) {
         let start = i + gap;
         let to = start + size;
         let atom = index::find_hashed(bytes, starts, firsts, links, &line[start..to], hash)?;
@@ -75,6 +71,8 @@ pub fn numbers_at(
         end = push(atom as u16, out, end);
         i = to;
     }
+    let place = scan::closed_at(line, i)?;
+    Some(Numbers { place, end, twice })
 }
 
 // The three lists from `from` on, each with a stamp of its own.

@@ -19,16 +19,16 @@ pub closed_at-requires : goal.closed_at-requires
 closed_at-requires c = c.loop-gap.invariant.2.inside
 
 pub returns-in_err-place : goal.returns-in_err-place
-returns-in_err-place c = rw c.from_residual.ensures (numbers_unclosed c.loop-gap.invariant.2 refl (hashed_end c.args.line.now c.loop-gap.i c.hashed_item_at.ensures c.in_default.is) c.closed_at.ensures c.in_err-place.was)
+returns-in_err-place c = rw c.from_residual-in_err-place.ensures (numbers_unclosed c.loop-gap.invariant.2 refl (hashed_end c.args.line.now c.loop-gap.i c.hashed_item_at.ensures c.in_default.is) c.closed_at.ensures c.in_err-place.was)
 
-pub shape_of-marks-in_default : goal.shape_of-marks-in_default
-shape_of-marks-in_default c = c.loop-gap.invariant.0
+pub shape_of-marks : goal.shape_of-marks
+shape_of-marks c = c.loop-gap.invariant.0
 
-pub shape_of-out-in_default : goal.shape_of-out-in_default
-shape_of-out-in_default c = c.loop-gap.invariant.1
+pub shape_of-out : goal.shape_of-out
+shape_of-out c = c.loop-gap.invariant.1
 
-pub returns-in_default : goal.returns-in_default
-returns-in_default c = numbers_closed c.loop-gap.invariant.2 refl (hashed_end c.args.line.now c.loop-gap.i c.hashed_item_at.ensures c.in_default.is) c.closed_at.ensures c.in_ok-place.was
+pub returns : goal.returns
+returns c = numbers_closed c.loop-gap.invariant.2 refl (hashed_end c.args.line.now c.loop-gap.i c.hashed_item_at.ensures c.in_default.is) c.closed_at.ensures c.in_ok-place.was
 
 pub overflow_add-start : goal.overflow_add-start
 overflow_add-start c = omega (arith, number_inside c.loop-gap.invariant.2 refl (hashed_item_lem c.args.line.now c.loop-gap.i c.hashed_item_at.ensures c.in-Some.is))
@@ -47,7 +47,7 @@ find_hashed-requires c =
     }
 
 pub returns-in_err-atom : goal.returns-in_err-atom
-returns-in_err-atom c = rw c.from_residual-in_err-atom.ensures (not_declared c.loop-gap.invariant.2 refl (hashed_item_lem c.args.line.now c.loop-gap.i c.hashed_item_at.ensures c.in-Some.is) c.find_hashed.ensures c.in_err-atom.was)
+returns-in_err-atom c = rw c.from_residual.ensures (not_declared c.loop-gap.invariant.2 refl (hashed_item_lem c.args.line.now c.loop-gap.i c.hashed_item_at.ensures c.in-Some.is) c.find_hashed.ensures c.in_err-atom.was)
 
 pub mark-requires : goal.mark-requires
 mark-requires c = atom_marked c.loop-gap.invariant.2 refl (hashed_item_lem c.args.line.now c.loop-gap.i c.hashed_item_at.ensures c.in-Some.is) c.find_hashed.ensures c.in_ok-atom.was
