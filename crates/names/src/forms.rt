@@ -67,53 +67,48 @@ pub fn house_form(bytes: &[u8]) -> bool
     is_first_byte(bytes[0]) && all_name_bytes(&bytes[1..])
 }
 
-// The number from 1 to 256 that digits say without leading zero, 0 for other bytes.
-pub fn atom_number(bytes: &[u8]) -> usize
+// The number from 1 to 256 that digits say without leading zero, none for other bytes.
+pub fn atom_number(bytes: &[u8]) -> Option<usize>
     ensures { result ≡ atom_number bytes.now }
 {
     if bytes.len() == 0 {
-        return 0;
+        return None;
     }
     if 3 < bytes.len() {
-        return 0;
+        return None;
     }
     if bytes[0] == b'0' {
-        return 0;
+        return None;
     }
     let mut value: usize = 0;
-    for i in 0..bytes.len() {
-        let b = bytes[i];
-        if !is_digit(b) {
-            return 0;
+    for b in bytes {
+        if !is_digit(*b) {
+            return None;
         }
-        value = 10 * value + (b - b'0') as usize;
+        value = 10 * value + (*b - b'0') as usize;
     }
-    if value <= Preference::ATOMS { value } else { 0 }
+    if value <= Preference::ATOMS {
+        Some(value)
+    } else {
+        None
+    }
 }
 
-// The number behind `T.`, 0 for other bytes.
-pub fn made_number(bytes: &[u8]) -> usize
+// The number behind `T.`, none for other bytes.
+pub fn made_number(bytes: &[u8]) -> Option<usize>
     ensures { result ≡ made_number bytes.now }
 {
-    if bytes.len() < 2 {
-        return 0;
+    match bytes {
+        [b'T', b'.', rest @ ..] => atom_number(rest),
+        _ => None,
     }
-    if bytes[0] == b'T' {
-        if bytes[1] == b'.' {
-            return atom_number(&bytes[2..]);
-        }
-    }
-    0
 }
 
 // A name of both kinds but for its length.
 pub fn common_form(bytes: &[u8]) -> bool
     ensures { result ≡ is_common_name bytes.now }
 {
-    if house_form(bytes) {
-        return true;
-    }
-    0 < made_number(bytes)
+    house_form(bytes) || made_number(bytes).is_some()
 }
 
 // 0 to 16 without leading zero.
