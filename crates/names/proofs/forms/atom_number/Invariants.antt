@@ -1,5 +1,3 @@
-use Prim.Native.Nat.{◌-◌}
-use lib.ListN.{length}
 use Rattle.names.proofs.MadeNumbers.{Digits}
 use Rattle.names.proofs.forms.atom_number.Given as goal
 
