@@ -100,6 +100,10 @@ pub empty_unended : (l : List ℕ) → length l ≡ 0 → false ≡ is_ended l
 empty_unended [] e = refl
 empty_unended (b ∷ l) e = absurd (omega arith)
 
+pub ended_is : (l : List ℕ) {A : Type 0} (f : A → ℕ) (q : Option A) {r : Bool} → MatchOption q (length l ≡ 0) (λ x. (0 < length l) × (f x ≡ get_or l (length l - 1) 0)) → MatchOption q (r ≡ false) (λ x. r ≡ eqb (f x) line_end_lem) → r ≡ is_ended l
+ended_is l f None m n = n ∙ empty_unended l m
+ended_is l f (Some x) m n = n ∙ ap (λ b. eqb b line_end_lem) m.1 ∙ sym (last_byte l (length l - 1) (omega (arith, m.0)))
+
 -- a byte behind which nothing counts
 
 pub mark_ends : (b : ℕ) → b ≡ comment_mark → eqb b comment_mark ≡ is_ending b

@@ -1,5 +1,5 @@
 // The form of a line and the places of its lists (document 01, "The two kinds of file"; document 02, W-205).
-ghost use Rattle.std.specs.Prelude.{◌≡◌, ◌||◌, ◌≤◌, length, drop};
+ghost use Rattle.std.specs.Prelude.{◌≡◌, ◌≤◌, length, drop};
 ghost use Rattle.lines.specs.Tokens.{tokens};
 ghost use Rattle.lines.specs.Forms.{opened_of, declared_form, rule_form, opened_form, named, form_of};
 ghost use Rattle.lines.specs.Shapes.{WholeWord, is_closing_last, name_fit, NamesAre, ListIs, word_of, ShapeIs};
@@ -75,27 +75,23 @@ fn names_at(s: &[u8], from: usize, kind: Kind) -> Option<Names>
     let mut end = from;
     let mut count: usize = 0;
     let mut refused = false;
-    loop {
-        let Some(Item { gap, size }) = scan::item_at(s, end) else {
-            let end = scan::closed_at(s, end)?;
-            return Some(Names {
-                end,
-                count,
-                refused,
-            });
-        };
+    while let Some(Item { gap, size }) = scan::item_at(s, end) {
         let start = end + gap;
         let to = start + size;
         match name_fit(&s[start..to], kind) {
             NameFit::Taken => {}
-            NameFit::Refused => {
-                refused = true;
-            }
+            NameFit::Refused => refused = true,
             NameFit::Wrong => return None,
         }
         count += 1;
         end = to;
     }
+    let end = scan::closed_at(s, end)?;
+    Some(Names {
+        end,
+        count,
+        refused,
+    })
 }
 
 // A bracket with its word, and the names after it.
@@ -126,24 +122,12 @@ fn declared_shape(line: &[u8], from: usize, kind: Kind, word: Keyword) -> Shape
     Shape::Other
 }
 
-pub fn any(a: bool, b: bool, c: bool) -> bool
-    ensures { result ≡ (a || (b || c)) }
-{
-    if a {
-        return true;
-    }
-    b || c
-}
-
 // A closing bracket, and nothing behind it.
 pub fn closes_line(line: &[u8], at: usize) -> bool
     requires { at ≤ length line.now }
     ensures { result ≡ is_closing_last (tokens (drop at line.now)) }
 {
-    let Some(end) = scan::closed_at(line, at) else {
-        return false;
-    };
-    scan::nothing_at(line, end)
+    scan::closed_at(line, at).is_some_and(|end| scan::nothing_at(line, end))
 }
 
 // A rule, behind its word.
@@ -161,7 +145,7 @@ fn rule_shape(line: &[u8], from: usize, kind: Kind) -> Shape
         return Shape::Other;
     };
     if closes_line(line, not.end) {
-        let refused = any(head.refused, body.refused, not.refused);
+        let refused = head.refused | body.refused | not.refused;
         return Shape::Rule { refused };
     }
     Shape::Other

@@ -72,10 +72,7 @@ pub fn line_at(s: &[u8], at: usize) -> usize
 pub fn is_ended(line: &[u8]) -> bool
     ensures { result ≡ is_ended line.now }
 {
-    if line.len() == 0 {
-        return false;
-    }
-    line[line.len() - 1] == b'\n'
+    line.last() == Some(&b'\n')
 }
 
 // How many bytes stand from `at` on before a delimiter.
@@ -123,10 +120,7 @@ pub fn nothing_at(s: &[u8], at: usize) -> bool
     ensures { result ≡ is_empty (tokens (drop at s.now)) }
 {
     let i = at + gap_at(s, at);
-    if s.len() <= i {
-        return true;
-    }
-    is_end(s[i])
+    s.get(i).is_none_or(|b| is_end(*b))
 }
 
 // The place behind the closing bracket at `at`.
@@ -135,13 +129,10 @@ pub fn closed_at(s: &[u8], at: usize) -> Option<usize>
     ensures { ClosedIs s.now at result }
 {
     let i = at + gap_at(s, at);
-    if s.len() <= i {
-        return None;
+    match s.get(i) {
+        Some(b')') => Some(i + 1),
+        _ => None,
     }
-    if s[i] == b')' {
-        return Some(i + 1);
-    }
-    None
 }
 
 // The bracket at `at`.
@@ -150,16 +141,11 @@ pub fn bracket_at(s: &[u8], at: usize) -> Bracket
     ensures { BracketIs s.now at result }
 {
     let i = at + gap_at(s, at);
-    if s.len() <= i {
-        return Bracket::Absent;
+    match s.get(i) {
+        Some(b'(') => Bracket::Opening(i),
+        Some(b')') => Bracket::Closing(i),
+        _ => Bracket::Absent,
     }
-    if s[i] == b'(' {
-        return Bracket::Opening(i);
-    }
-    if s[i] == b')' {
-        return Bracket::Closing(i);
-    }
-    Bracket::Absent
 }
 
 // Whether `tag` stands at `at`.

@@ -66,8 +66,8 @@ pub fn hash(name: &[u8]) -> usize
     ensures { result ≡ name_hash name.now }
 {
     let mut h: usize = 0;
-    for i in 0..name.len() {
-        h = hash_step(h, name[i]);
+    for b in name {
+        h = hash_step(h, *b);
     }
     h
 }
@@ -167,9 +167,9 @@ pub fn enter_new(
         firsts,
         links,
     };
-    let None = index.find(name) else {
+    if index.find(name).is_some() {
         return false;
-    };
+    }
     enter(name, starts, firsts, links, atom, at);
     true
 }
