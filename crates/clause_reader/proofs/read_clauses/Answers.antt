@@ -19,15 +19,6 @@ returns-then-text-gt-TEXT c =
       names = r.1.1;
     }
 
-pub slice_bounds-read_lines-end : goal.slice_bounds-read_lines-end
-slice_bounds-read_lines-end c = refl
-
-pub slice_bounds-read_lines-end-2 : goal.slice_bounds-read_lines-end-2
-slice_bounds-read_lines-end-2 c = refl
-
-pub slice_bounds-read_lines-end-3 : goal.slice_bounds-read_lines-end-3
-slice_bounds-read_lines-end-3 c = refl
-
 pub read_lines-requires : goal.read_lines-requires
 read_lines-requires c =
     record {
@@ -35,26 +26,8 @@ read_lines-requires c =
       empty = empty_scratch (length-replicate {A = ℕ} store_words 0) (length-replicate {A = ℕ} (occurrence_limit Preference) 0) (unmarked (2 * atom_limit Preference)) (length-replicate {A = ℕ} (2 * atom_limit Preference) 0);
     }
 
-pub slice_bounds-put_names-end : goal.slice_bounds-put_names-end
-slice_bounds-put_names-end c = refl
-
-pub put_names-used-requires : goal.put_names-used-requires
-put_names-used-requires c = atoms_fit c.args.text.now c.args.rules.now c.args.names.now c.if-text-gt-TEXT.false c.read_lines.ensures c.in_ok-counts.was
-
-pub slice_bounds-deliver-end : goal.slice_bounds-deliver-end
-slice_bounds-deliver-end c = sym c.read_lines.auto.words
-
-pub slice_bounds-deliver-end-2 : goal.slice_bounds-deliver-end-2
-slice_bounds-deliver-end-2 c = sym c.put_names-used.auto.bytes
-
 pub deliver-requires : goal.deliver-requires
 deliver-requires c = lines_held c.args.text.now c.args.rules.now c.args.names.now c.if-text-gt-TEXT.false c.read_lines.ensures c.in_ok-counts.was c.put_names-used.ensures (length-replicate {A = ℕ} store_bytes 0) c.preference_counts-gathered.ensures
-
-pub shape_of-rules : goal.shape_of-rules
-shape_of-rules c = c.deliver.auto.rules
-
-pub shape_of-names : goal.shape_of-names
-shape_of-names c = c.deliver.auto.names
 
 pub returns : goal.returns
 returns c =

@@ -7,13 +7,6 @@ use Rattle.clause_reader.proofs.clause_line.read_item.Goals as goal
 pub returns-then-is_full : goal.returns-then-is_full
 returns-then-is_full c = progress_surplus c.args.line.now c.args.at c.requires.1 c.requires.0 c.item_at.ensures c.in-Ends.is (sym c.is_full.ensures ∙ c.if-is_full.true)
 
-pub end_clause-after-requires : goal.end_clause-after-requires
-end_clause-after-requires c =
-    record {
-      held_clauses = c.requires.0.holds;
-      rules_lt_clauses = omega (arith, no_surplus c.requires.0 (sym c.is_full.ensures ∙ c.if-is_full.false), c.requires.0.holds.rules_are);
-    }
-
 pub read_literal-requires : goal.read_literal-requires
 read_literal-requires c = let t = literal_found c.args.line.now c.args.at c.requires.1 c.requires.0 c.item_at.ensures c.in-Literal.is in (c.requires.0, t.0, t.1)
 

@@ -5,10 +5,5 @@ use Rattle.clause_reader.proofs.reading.read_header.Goals as goal
 pub start-requires : goal.start-requires
 start-requires c = let f = header_fits c.args.line.now c.header_of.ensures c.in_ok-header.was in (f.0, f.1, c.requires.words_room)
 
-pub returns-in_err-header : goal.returns-in_err-header
-returns-in_err-header c =
-    let p = err_from_is_err_and c.from_residual.result c.from_residual.ensures.1 in
-    rw (p.1, p.2) (header_refused c.args.line.now c.requires c.header_of.ensures c.in_err-header.was)
-
 pub returns : goal.returns
 returns c = header_taken c.args.line.now c.requires c.header_of.ensures c.in_ok-header.was c.start.ensures

@@ -10,9 +10,6 @@ use Rattle.clause_reader.proofs.reading.read_line.Goals.{then-line-eq99-via-then
 pub returns-then-not-is_ended : goal.returns-then-not-is_ended
 returns-then-not-is_ended c = record { says = line_unended (state_of c.args.reading c.args.words.now c.args.bodies.now) c.args.line.now (sym c.is_ended.ensures ∙ c.if-not-is_ended.true) }
 
-pub bounds-line-0 : goal.bounds-line-0
-bounds-line-0 c = ended_filled c.args.line.now (sym c.is_ended.ensures ∙ c.if-not-is_ended.false)
-
 pub returns-then-line-eq99 : goal.returns-then-line-eq99
 returns-then-line-eq99 c =
     let s = state_of c.args.reading c.args.words.now c.args.bodies.now in
@@ -22,12 +19,6 @@ returns-then-line-eq99 c =
       | then-line-eq99-via-else-line-eq99+then-skip-line w ↦ line_blank s c.args.line.now e w.if-line-eq99.false w.skip.ensures w.if-skip-line.true
     ] in
     record { says = (k, c.requires) }
-
-pub read_header-requires : goal.read_header-requires
-read_header-requires c = subst (λ r. HeldReading r c.args.words.now c.args.bodies.now c.args.marks.now) c.in-None.is c.requires
-
-pub read_items-requires : goal.read_items-requires
-read_items-requires c = subst (λ r. HeldReading r c.args.words.now c.args.bodies.now c.args.marks.now) c.in-Some.is c.requires
 
 pub returns-in-None : goal.returns-in-None
 returns-in-None c = step_is (line_unheaded (state_of c.args.reading c.args.words.now c.args.bodies.now) c.args.line.now (sym c.is_ended.ensures ∙ c.if-not-is_ended.false) c.if-line-eq99.false c.skip.ensures c.if-skip-line.false (ap (λ r. state_of r c.args.words.now c.args.bodies.now) c.in-None.is)) c.read_header.ensures
