@@ -55,9 +55,9 @@ module _ (m n : ℕ) where
       omega (arith, length-append (filter (beyond m) h) others, length-map (filter (beyond m) b) (λ a. n + a), length_parts (below m) h, length_parts (below m) b) in
       rw (third, each_itself (below m) h, each_itself (below m) b, each_itself (beyond m) h, each_raised (beyond m) n b)
 
-  pub by_rule2 : {ws hs bs : List ℕ} → hs ≡ (rule_at ws).head → bs ≡ (rule_at ws).body → words2 m n (rule_at ws) ≡ lists2 m n hs bs
+  pub by_rule2 : (ws : List ℕ) {hs bs : List ℕ} → hs ≡ (rule_at ws).head → bs ≡ (rule_at ws).body → words2 m n (rule_at ws) ≡ lists2 m n hs bs
   unfolding words2
-  by_rule2 {ws} {hs} {bs} eh eb = ap₂ words_by2 (sym eh) (sym eb) ∙ by_lists2 hs bs
+  by_rule2 ws {hs} {bs} eh eb = ap₂ words_by2 (sym eh) (sym eb) ∙ by_lists2 hs bs
 
 module _ (q s u : ℕ) where
   abbrev words_by3 : List ℕ → List ℕ → List ℕ
@@ -76,6 +76,6 @@ module _ (q s u : ℕ) where
       let lists = append_assoc heads (u ∷ []) ((bodies ++ filter (beyond q) b) ++ filter (beyond q) h) ∙ ap (λ (l : List ℕ). heads ++ (u ∷ l)) (append_assoc bodies (filter (beyond q) b) (filter (beyond q) h)) in
       rw (first, second, third, each_raised (below q) s h, each_raised (below q) s b, each_itself (beyond q) h, each_itself (beyond q) b) (ap (λ (l : List ℕ). (length (filter (below q) h) + 1) ∷ length b ∷ (length h - length (filter (below q) h)) ∷ l) lists)
 
-  pub by_rule3 : {ws hs bs : List ℕ} → hs ≡ (rule_at ws).head → bs ≡ (rule_at ws).body → words3 q s u (rule_at ws) ≡ lists3 q s u hs bs
+  pub by_rule3 : (ws : List ℕ) {hs bs : List ℕ} → hs ≡ (rule_at ws).head → bs ≡ (rule_at ws).body → words3 q s u (rule_at ws) ≡ lists3 q s u hs bs
   unfolding words3
-  by_rule3 {ws} {hs} {bs} eh eb = ap₂ words_by3 (sym eh) (sym eb) ∙ by_lists3 hs bs
+  by_rule3 ws {hs} {bs} eh eb = ap₂ words_by3 (sym eh) (sym eb) ∙ by_lists3 hs bs
