@@ -7,7 +7,6 @@ use lib.ListN.{length, take, drop}
 use lib.Seq.{drop_at, drop-drop}
 use Rattle.kinds.specs.declared.limits.Kind.TheVariants.{Preference}
 use Rattle.rules.specs.Lists.{All, flat}
-use Rattle.rules.specs.Rules.{occurrences}
 use Rattle.rules.specs.Renumbering.{Within}
 use Rattle.rules.proofs.Lists.{part_rest, part_sized}
 use Rattle.stores.specs.RuleStore.{rule_words, rules_from}

@@ -1,6 +1,4 @@
 use Rattle.remaining_stores.proofs.Leaving.{AtomsPut}
-use lib.ListN.{length}
-use Prim.Native.Nat.{◌-◌}
 use Rattle.remaining_stores.proofs.left.put_atoms.Given as goal
 
 abbrev pub invariant-loop-a : goal.invariant-loop-a

@@ -1,6 +1,5 @@
 use Rattle.remaining_stores.proofs.Leaving.{ClassesLeft}
 use lib.ListN.{length}
-use Prim.Native.Nat.{◌-◌}
 use Rattle.remaining_stores.proofs.left.put_classes.Given as goal
 
 abbrev pub invariant-loop-word : goal.invariant-loop-word

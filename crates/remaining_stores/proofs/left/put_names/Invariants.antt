@@ -1,5 +1,4 @@
 use Rattle.remaining_stores.proofs.Leaving.{NamesLeft}
-use Prim.Native.Nat.{◌-◌}
 use Rattle.remaining_stores.proofs.left.put_names.Given as goal
 
 abbrev pub invariant-loop-kept : goal.invariant-loop-kept

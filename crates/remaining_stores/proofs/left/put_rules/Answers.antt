@@ -1,20 +1,6 @@
-use Rattle.text.proofs.RuleLoop.{rules_begin, rules_end, rule_stored, place_inside, rule_range, rules_again}
-use Rattle.output.proofs.Emitting.{length_kept}
+use Rattle.text.proofs.RuleLoop.{rules_end, rule_stored, place_inside, rule_range, rules_again}
 use native.Mathlib.Omega.{arith}
-use Prim.Native.Nat.{◌-◌}
 use Rattle.remaining_stores.proofs.left.put_rules.Goals as goal
-
-pub loop-init : goal.loop-init
-loop-init c = rules_begin c.requires.0 c.requires.1
-
-pub offset_bounds-words-from : goal.offset_bounds-words-from
-offset_bounds-words-from c = omega (arith, place_inside c.loop.invariant c.loop-test.true)
-
-pub slice_bounds-rule_size-count : goal.slice_bounds-rule_size-count
-slice_bounds-rule_size-count c = omega (arith, place_inside c.loop.invariant c.loop-test.true)
-
-pub slice_bounds-rule_size-start : goal.slice_bounds-rule_size-start
-slice_bounds-rule_size-start c = omega (arith, place_inside c.loop.invariant c.loop-test.true)
 
 pub rule_size-size-requires : goal.rule_size-size-requires
 rule_size-size-requires c = (rule_stored c.loop.invariant c.loop-test.true).inside
@@ -36,9 +22,6 @@ overflow_add-from c = omega (arith, place_inside c.loop.invariant c.loop-test.tr
 
 pub loop-preserved : goal.loop-preserved
 loop-preserved c = rules_again c.loop.invariant c.loop-test.true c.rule_size-size.ensures c.put_rule-next.ensures
-
-pub shape_of-out : goal.shape_of-out
-shape_of-out c = length_kept c.loop.invariant.so
 
 pub returns : goal.returns
 returns c = rules_end c.loop.invariant c.loop-test.false

@@ -1,7 +1,6 @@
 use Rattle.text.proofs.RuleLoop.{RulesLeft}
 use lib.ListN.{length}
 use Rattle.used_atoms.proofs.RuleParts.{moved_words}
-use Prim.Native.Nat.{◌-◌}
 use Rattle.remaining_stores.proofs.left.put_rules.Given as goal
 
 abbrev pub invariant-loop : goal.invariant-loop
