@@ -8,6 +8,7 @@ use lib.Dec.{T, leb}
 use lib.ListN.{length, drop, length-append, length-replicate}
 use lib.Seq.{sets, length-sets}
 use borrow.Author.Tests.{lt-leb, leb-true, not-false}
+use Rattle.std.specs.Prelude.{Result, Ok, Err}
 use Rattle.kinds.specs.Sizes.{longest_name}
 use Rattle.kinds.specs.Limits.{atom_limit, class_limit, within}
 use Rattle.kinds.specs.declared.limits.Kind.{Kind}
@@ -26,10 +27,7 @@ use Rattle.lines.specs.declared.stage.Stage.{Stage}
 use Rattle.lines.specs.declared.stage.Stage.TheVariants.{Declaring, Fixing, Ruling}
 use Rattle.lines.specs.declared.forms.DeclaredShape.{DeclaredShape}
 use Rattle.lines.specs.declared.forms.Shape.{Shape}
-use Rattle.lines.specs.declared.forms.Shape.TheVariants as Shape
 use Rattle.gathering.specs.declared.gathered.Gathered.{Gathered}
-use Rattle.gathering.specs.declared.gathered.Line.{Line}
-use Rattle.gathering.specs.declared.gathered.Line.TheVariants.{Next, Fault}
 use Rattle.lines.specs.Tokens.{items}
 use Rattle.lines.specs.Forms.{Word, atoms, min, vary, fix, LineForm, declares, rules, condition, blank, broken, form_of}
 use Rattle.lines.specs.Faults.{SoFar, counts_of, next, fault, expects, is_ruling, classes_after, class_words, twice, refused_name, first, declared, declare, add_rule, add_condition, step_form}
@@ -264,12 +262,12 @@ module _ {kind : Kind} {st : SoFar} {g : Gathered} {words bytes starts firsts li
               let names : decode_names n bytes' ≡ st.names ++ xs = ap (λ j. decode_names j bytes') a.stored.count ∙ decoded a.stored.index in
               record { index = subst (λ ns. Indexed ns bytes' starts' firsts' links') (sym names) a.stored.index; starts_room = c ∙ x.starts_room; links_room = k ∙ x.links_room }
 
-          pub declared_line : {words₂ : List ℕ} {o : Line} → KeptNames kind g w s.count n used words words₂ o → LineIs kind st f words₂ bytes' starts' firsts' links' o
+          pub declared_line : {words₂ : List ℕ} {o : Result Gathered Refusal} → KeptNames kind g w s.count n used words words₂ o → LineIs kind st f words₂ bytes' starts' firsts' links' o
           unfolding kept_names
           declared_line {words₂} {o} q = record { says = go (fits && leb (classes_after w g.classes) class_limit) refl (step_counts a.once ∙ ap (λ y. first y Limit (next (declared st w xs))) over_is) q.answer q.words }
             where
               go : (t : Bool) → (fits && leb (classes_after w g.classes) class_limit) ≡ t → step_form st f ≡ first (not t) Limit (next (declared st w xs))
-                  → o ≡ first_line (not t) Limit (Next (with_names g w n used end))
+                  → o ≡ first_line (not t) Limit (Ok (with_names g w n used end))
                   → words₂ ≡ sets words g.words (counts_if o (class_words w g.classes s.count))
                   → LineSays kind st f words₂ bytes' starts' firsts' links' o
               go false q z y v = subst (LineSays kind st f words₂ bytes' starts' firsts' links') (sym y) z
@@ -282,16 +280,16 @@ module _ {kind : Kind} {st : SoFar} {g : Gathered} {words bytes starts firsts li
 
 -- a line before the rules, by its shape
 module _ {kind : Kind} {g : Gathered} {words bytes starts firsts links : List ℕ} (h : Held kind (state_of kind g words bytes) g words bytes) (x : HeldIndex g bytes starts firsts links) (l : List ℕ) {r : Shape} (z : ShapeIs kind l (form_of l) r) where
-  pub blank_passed : r ≡ Shape.Blank → LineIs kind (state_of kind g words bytes) (form_of l) words bytes starts firsts links (Next g)
+  pub blank_passed : r ≡ Shape.Blank → LineIs kind (state_of kind g words bytes) (form_of l) words bytes starts firsts links (Ok g)
   blank_passed e = let w : form_of l ≡ blank = subst (ShapeIs kind l (form_of l)) e z in record { says = (ap (step_form (state_of kind g words bytes)) w, h, x) }
 
-  pub rule_early : is_ruling g.stage ≡ false → {b : Bool} → r ≡ Shape.Rule b → LineIs kind (state_of kind g words bytes) (form_of l) words bytes starts firsts links (Fault BrokenForm)
+  pub rule_early : is_ruling g.stage ≡ false → {b : Bool} → r ≡ Shape.Rule b → LineIs kind (state_of kind g words bytes) (form_of l) words bytes starts firsts links (Err BrokenForm)
   unfolding add_rule
   rule_early n {b} e =
       let w : Ruled kind (form_of l) b = subst (ShapeIs kind l (form_of l)) e z in
       record { says = ap (step_form (state_of kind g words bytes)) w.form ∙ rw (sym (ap is_ruling h.stage_is) ∙ n) }
 
-  pub other_early : is_ruling g.stage ≡ false → r ≡ Shape.Other → LineIs kind (state_of kind g words bytes) (form_of l) words bytes starts firsts links (Fault BrokenForm)
+  pub other_early : is_ruling g.stage ≡ false → r ≡ Shape.Other → LineIs kind (state_of kind g words bytes) (form_of l) words bytes starts firsts links (Err BrokenForm)
   unfolding add_condition
   other_early n e = record { says = go (form_of l) (subst (ShapeIs kind l (form_of l)) e z) }
     where

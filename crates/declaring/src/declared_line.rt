@@ -11,7 +11,7 @@ ghost use Rattle.lines.specs.Shapes.{word_of, Declared};
 ghost use Rattle.numbering.specs.Entries.{Room, Short};
 ghost use Rattle.gathering.specs.Gathered.{state_of, Held, HeldIndex, LineIs, past_refusal};
 
-use gathering::gathered::{Gathered, Line};
+use gathering::gathered::Gathered;
 use kept_atoms::kept_atoms::keep_names;
 use kinds::limits::Kind;
 use kinds::refusals::Refusal;
@@ -19,38 +19,21 @@ use lines::forms;
 use lines::forms::{DeclaredShape, Keyword, Shape};
 use lines::stage::Stage;
 use numbering::entries;
-use numbering::entries::Entered;
+use numbering::entries::Unentered;
 
 fn is_expected(kind: Kind, stage: Stage, word: Keyword) -> bool
     ensures { result ≡ expects kind stage (word_of word) }
 {
-    match kind {
-        Kind::Plain => match stage {
-            Stage::Declaring => match word {
-                Keyword::Atoms => true,
-                Keyword::Min => false,
-                Keyword::Vary => false,
-                Keyword::Fix => false,
-            },
-            Stage::Fixing => false,
-            Stage::Ruling => false,
-        },
-        Kind::Preference => match stage {
-            Stage::Declaring => match word {
-                Keyword::Atoms => false,
-                Keyword::Min => true,
-                Keyword::Vary => true,
-                Keyword::Fix => false,
-            },
-            Stage::Fixing => match word {
-                Keyword::Atoms => false,
-                Keyword::Min => false,
-                Keyword::Vary => false,
-                Keyword::Fix => true,
-            },
-            Stage::Ruling => false,
-        },
-    }
+    matches!(
+        (kind, stage, word),
+        (Kind::Plain, Stage::Declaring, Keyword::Atoms)
+            | (
+                Kind::Preference,
+                Stage::Declaring,
+                Keyword::Min | Keyword::Vary
+            )
+            | (Kind::Preference, Stage::Fixing, Keyword::Fix)
+    )
 }
 
 // The refusal of a line with more names than there is room for: a name that stands twice comes before the count.
@@ -67,10 +50,9 @@ fn past_limit(
     requires indexed { Indexed (decode_names (length starts.old) bytes.old) bytes.old starts.old firsts.old links.old }
     ensures { result ≡ past_refusal (some (among (decode_names (length starts.old) bytes.old)) (items (drop at line.now)) || twice [] (items (drop at line.now))) }
 {
-    if entries::any_known(line, at, bytes, starts, firsts, links) {
-        return Refusal::DeclaredTwice;
-    }
-    if entries::any_twice(line, at, bytes, starts, firsts, links) {
+    if entries::any_known(line, at, bytes, starts, firsts, links)
+        || entries::any_twice(line, at, bytes, starts, firsts, links)
+    {
         return Refusal::DeclaredTwice;
     }
     Refusal::Limit
@@ -87,39 +69,44 @@ fn declare_atoms(
     starts: &mut [u16],
     firsts: &mut [u16],
     links: &mut [u16],
-) -> Line
+) -> Result<Gathered, Refusal>
     requires declared { Declared kind line.now (form_of line.now) shape }
     requires line_len_bound { length line.now ≤ text_limit }
     requires held { Held kind (state_of kind gathered words.old bytes.old) gathered words.old bytes.old }
     requires held_index { HeldIndex gathered bytes.old starts.old firsts.old links.old }
     ensures { LineIs kind (state_of kind gathered words.old bytes.old) (form_of line.now) words.new bytes.new starts.new firsts.new links.new result }
 {
-    let stage = gathered.stage;
     let word = shape.word;
-    let expected = is_expected(kind, stage, word);
-    if !expected {
-        return Line::Fault(Refusal::BrokenForm);
+    if !is_expected(kind, gathered.stage, word) {
+        return Err(Refusal::BrokenForm);
     }
     if shape.refused {
-        return Line::Fault(Refusal::Name);
+        return Err(Refusal::Name);
     }
-    let counts = gathered.counts;
-    let before = counts.atoms;
-    let filled = gathered.bytes;
+    let before = gathered.counts.atoms;
     match entries::enter_names(
-        line, shape.from, bytes, starts, firsts, links, before, filled,
+        line,
+        shape.from,
+        bytes,
+        starts,
+        firsts,
+        links,
+        before,
+        gathered.bytes,
     ) {
-        Entered::All { atoms, bytes: used } => keep_names(
+        Ok(entered) => keep_names(
             kind,
             gathered,
             word,
             shape.count,
-            atoms,
-            used,
+            entered.atoms,
+            entered.bytes,
             words,
         ),
-        Entered::Full { at } => Line::Fault(past_limit(line, at, bytes, starts, firsts, links)),
-        Entered::Twice => Line::Fault(Refusal::DeclaredTwice),
+        Err(unentered) => Err(match unentered {
+            Unentered::Full { at } => past_limit(line, at, bytes, starts, firsts, links),
+            Unentered::Twice => Refusal::DeclaredTwice,
+        }),
     }
 }
 
@@ -133,18 +120,17 @@ pub fn read_declared(
     starts: &mut [u16],
     firsts: &mut [u16],
     links: &mut [u16],
-) -> Line
+) -> Result<Gathered, Refusal>
     requires line_len_bound { (length line.now ≤ text_limit) × (is_ruling gathered.stage ≡ false) }
     requires held { Held kind (state_of kind gathered words.old bytes.old) gathered words.old bytes.old }
     requires held_index { HeldIndex gathered bytes.old starts.old firsts.old links.old }
     ensures { LineIs kind (state_of kind gathered words.old bytes.old) (form_of line.now) words.new bytes.new starts.new firsts.new links.new result }
 {
     match forms::shape_of(line, kind) {
-        Shape::Blank => Line::Next(gathered),
+        Shape::Blank => Ok(gathered),
         Shape::Declares(shape) => declare_atoms(
             line, kind, gathered, shape, words, bytes, starts, firsts, links,
         ),
-        Shape::Rule { refused: _ } => Line::Fault(Refusal::BrokenForm),
-        Shape::Other => Line::Fault(Refusal::BrokenForm),
+        Shape::Rule { .. } | Shape::Other => Err(Refusal::BrokenForm),
     }
 }

@@ -6,11 +6,12 @@ use mathlib.Core.List.{List, [], ◌∷◌, ◌++◌}
 use lib.ListN.{length, take, drop}
 use lib.Seq.{take_at}
 use Rattle.kinds.specs.declared.limits.Kind.{Kind}
+use Rattle.std.specs.Prelude.{Ok, Err}
 use Rattle.kinds.specs.declared.refusals.Refusal.TheVariants.{Output}
 use Rattle.name_store.specs.NameStore.{encode_names}
 use Rattle.stores.specs.RuleStore.{kind_word, encode}
 use Rattle.output.specs.Emitted.{Emitted, InRange}
-use Rattle.answers.specs.declared.Read.TheVariants.{Accepted, Refused}
+use Rattle.answers.specs.Reading.{read_sizes, read_refusal}
 use Rattle.gathering.specs.declared.gathered.Gathered.{Gathered}
 use Rattle.lines.specs.Faults.{SoFar}
 use Rattle.lines.specs.Said.{program_of}
@@ -61,14 +62,14 @@ module _ {kind : Kind} {st : SoFar} {g : Gathered} {words bytes : List ℕ} (h :
   bytes_range = record { below = omega (arith, bytes_part_length, (held_small h).bytes) }
 
   module _ (rules names : List ℕ) where
-    pub rules_lack : length rules < g.words → Delivered (program_of st) st.names rules names rules names (Refused Output 0)
+    pub rules_lack : length rules < g.words → Delivered (program_of st) st.names rules names rules names (Err (read_refusal Output 0))
     rules_lack l = rules_short (program_of st) st.names words_length bytes_length rules names l
 
-    pub names_lack : length names < g.bytes → Delivered (program_of st) st.names rules names rules names (Refused Output 0)
+    pub names_lack : length names < g.bytes → Delivered (program_of st) st.names rules names rules names (Err (read_refusal Output 0))
     names_lack l = names_short (program_of st) st.names words_length bytes_length rules names l
 
     pub all_written : g.words ≤ length rules → g.bytes ≤ length names → {words' : List ℕ} {e : ℕ} → Emitted words 0 (header_words kind g) words' e
         → {rules' : List ℕ} {p : ℕ} → Emitted rules 0 (take g.words words') rules' p
         → {names' : List ℕ} {q : ℕ} → Emitted names 0 (take g.bytes bytes) names' q
-        → Delivered (program_of st) st.names rules names rules' names' (Accepted g.words g.bytes)
+        → Delivered (program_of st) st.names rules names rules' names' (Ok (read_sizes g.words g.bytes))
     all_written l m w u v = both_written (program_of st) st.names words_length bytes_length rules names l m (renamed u (words_part w)) (renamed v bytes_part)

@@ -6,9 +6,9 @@ ghost use Rattle.output.specs.Emitted.{Emitted};
 ghost use Rattle.gathering.specs.Gathered.{state_of, Held};
 ghost use Rattle.delivery.specs.Delivered.{Delivered, header_words};
 
-use answers::Read;
+use answers::{Read, ReadRefusal, ReadSizes};
 use gathering::gathered::Gathered;
-use kinds::limits::Kind;
+use kinds::limits::{Counts, Kind};
 use kinds::refusals::Refusal;
 use output::words::push;
 
@@ -25,13 +25,10 @@ pub fn put_header(kind: Kind, gathered: Gathered, words: &mut [u16]) -> usize
     requires { (gathered.counts.atoms < 65536) × (gathered.classes < 65536) × (gathered.counts.rules < 65536) }
     ensures { Emitted words.old 0 (header_words kind gathered) words.new result }
 {
-    let counts = gathered.counts;
-    let atoms = counts.atoms;
-    let classes = gathered.classes;
-    let rules = counts.rules;
+    let Counts { atoms, rules, .. } = gathered.counts;
     let second = push(kind_word(kind), words, 0);
     let third = push(atoms as u16, words, second);
-    let fourth = push(classes as u16, words, third);
+    let fourth = push(gathered.classes as u16, words, third);
     push(rules as u16, words, fourth)
 }
 
@@ -49,22 +46,22 @@ pub fn deliver_all(
     let filled = gathered.words;
     let used = gathered.bytes;
     if rules.len() < filled {
-        return Read::Refused {
+        return Err(ReadRefusal {
             refusal: Refusal::Output,
             line: 0,
-        };
+        });
     }
     if names.len() < used {
-        return Read::Refused {
+        return Err(ReadRefusal {
             refusal: Refusal::Output,
             line: 0,
-        };
+        });
     }
     put_header(kind, gathered, words);
     output::words::emit(&words[..filled], rules, 0);
     output::bytes::emit(&bytes[..used], names, 0);
-    Read::Accepted {
+    Ok(ReadSizes {
         words: filled,
         bytes: used,
-    }
+    })
 }

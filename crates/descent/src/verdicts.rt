@@ -42,7 +42,7 @@ fn past_budget(plan: &[u64; Plan::WORDS], number: u64, budget: u64) -> Verdict
     }
     Verdict::Beaten {
         set: plan[Plan::FOUND],
-        units: units,
+        units,
     }
 }
 

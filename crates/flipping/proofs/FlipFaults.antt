@@ -7,30 +7,29 @@ use mathlib.Core.List.{List}
 use lib.Dec.{leb, ltb}
 use lib.ListN.{length}
 use borrow.Author.Tests.{not-true, not-false, le-leb, lt-leb, ltb-true}
+use Rattle.std.specs.Prelude.{None, Result, Err}
 use Rattle.kinds.specs.Limits.{walk_atoms}
+use Rattle.kinds.specs.declared.refusals.Refusal.{Refusal}
 use Rattle.kinds.specs.declared.refusals.Refusal.TheVariants.{RuleStore as NoStore, TooManyAtoms, SetNumber, RuleIndex}
 use Rattle.rules.proofs.Booleans.{is_true_lem, is_false, both_true}
 use Rattle.stores.specs.RuleStore.{StoreOf, decode, is_store, rule_store}
 use Rattle.stores.specs.StoredRules.{HeaderOf}
 use Rattle.stores.specs.declared.rule_store.Header.{Header}
-use Rattle.stores.specs.declared.rule_store.RuleStore.TheVariants.{Refused as StoreRefused}
 use Rattle.stores.proofs.RuleStores.{store_law, refused}
 use Rattle.stores.proofs.RuleTests.{T-is}
 use Rattle.name_store.proofs.NameStores.{same_equal}
 use Rattle.rule_index.specs.Flip.{is_rising}
 use Rattle.rule_index.specs.Answers.{store_index, is_indexed, is_listed, flip_list, flip_answer, flip_output, fitted}
-use Rattle.rule_index.specs.declared.Filled.{Filled}
-use Rattle.rule_index.specs.declared.Filled.TheVariants.{Refused}
 use Rattle.flipping.specs.Checked.{Checked, fitted_output}
 
 module _ (rules index list : List ℕ) (set atom : ℕ) (before : List ℕ) where
   abbrev ws : List ℕ
   ws = flip_list rules list set atom
 
-  abbrev pub Answered : Filled → List ℕ → Type 0
+  abbrev pub Answered : Result ℕ Refusal → List ℕ → Type 0
   Answered r after = (r ≡ flip_answer rules index list set atom (length before)) × (after ≡ flip_output rules index list set atom before)
 
-  pub no_store : rule_store rules ≡ StoreRefused → Answered (Refused NoStore) before
+  pub no_store : rule_store rules ≡ None → Answered (Err NoStore) before
   unfolding flip_answer flip_output
   no_store e = let t : is_store rules ≡ false = is_false (is_store rules) ((refused rules).0 e) in (rw t, rw t)
 
@@ -38,7 +37,7 @@ module _ (rules index list : List ℕ) (set atom : ℕ) (before : List ℕ) wher
     is_store_lem : is_store rules ≡ true
     is_store_lem = is_true_lem (is_store rules) ((store_law rules).1 (decode rules, e))
 
-    pub no_index : not b ≡ true → Answered (Refused RuleIndex) before
+    pub no_index : not b ≡ true → Answered (Err RuleIndex) before
     unfolding flip_answer flip_output
     no_index n = let t : is_indexed rules index ≡ false = sym i ∙ not-true b n in (rw (is_store_lem, t), rw (is_store_lem, t))
 
@@ -49,7 +48,7 @@ module _ (rules index list : List ℕ) (set atom : ℕ) (before : List ℕ) wher
       rises : (t : Bool) → l ≡ t → is_listed rules list ≡ t
       rises t q = ap (λ (r : ℕ). is_rising 0 r list) (sym h.rules_are) ∙ sym f ∙ q
 
-      pub not_rising : not l ≡ true → Answered (Refused RuleIndex) before
+      pub not_rising : not l ≡ true → Answered (Err RuleIndex) before
       unfolding flip_answer flip_output
       not_rising n = let t : is_listed rules list ≡ false = rises false (not-true l n) in (rw (is_store_lem, is_index, t), rw (is_store_lem, is_index, t))
 
@@ -57,7 +56,7 @@ module _ (rules index list : List ℕ) (set atom : ℕ) (before : List ℕ) wher
         is_list_lem : is_listed rules list ≡ true
         is_list_lem = rises true (not-false l up)
 
-        pub too_many_lem : walk_atoms < header.atoms → Answered (Refused TooManyAtoms) before
+        pub too_many_lem : walk_atoms < header.atoms → Answered (Err TooManyAtoms) before
         unfolding flip_answer flip_output
         too_many_lem n =
             let t : leb (decode rules).atoms walk_atoms ≡ false = lt-leb (decode rules).atoms walk_atoms (omega (arith, h.atoms_are)) in
@@ -70,7 +69,7 @@ module _ (rules index list : List ℕ) (set atom : ℕ) (before : List ℕ) wher
           inside : (t : Bool) → d ≡ t → (ltb set (2 ^ (decode rules).atoms) && ltb atom (decode rules).atoms) ≡ t
           inside t q = ap (λ (n : ℕ). ltb set (2 ^ n) && ltb atom n) (sym h.atoms_are) ∙ sym g ∙ q
 
-          pub outside : not d ≡ true → Answered (Refused SetNumber) before
+          pub outside : not d ≡ true → Answered (Err SetNumber) before
           unfolding flip_answer flip_output
           outside n = let t = inside false (not-true d n) in (rw (is_store_lem, is_index, is_list_lem, are_few, t), rw (is_store_lem, is_index, is_list_lem, are_few, t))
 
@@ -87,6 +86,6 @@ module _ (rules index list : List ℕ) (set atom : ℕ) (before : List ℕ) wher
                   atom_inside = ltb-true atom header.atoms p.1;
                 }
 
-            pub answered : {r : Filled} {after : List ℕ} → (r ≡ fitted ws (length before)) × (after ≡ fitted_output ws before) → Answered r after
+            pub answered : {r : Result ℕ Refusal} {after : List ℕ} → (r ≡ fitted ws (length before)) × (after ≡ fitted_output ws before) → Answered r after
             unfolding flip_answer flip_output
             answered q = let t = inside true (not-false d all) in (rw (is_store_lem, is_index, is_list_lem, are_few, t) q.0, rw (is_store_lem, is_index, is_list_lem, are_few, t) q.1)

@@ -8,8 +8,10 @@ use mathlib.Core.List.{List, ◌++◌}
 use lib.ListN.{length, take, drop}
 use lib.Seq.{sets, sets-eq}
 use borrow.Author.Tests.{le-leb, lt-leb}
+use Rattle.std.specs.Prelude.{Result, Ok, Err}
 use Rattle.kinds.specs.Limits.{rule_limit}
 use Rattle.kinds.specs.declared.limits.Kind.TheVariants.{Plain}
+use Rattle.kinds.specs.declared.refusals.Refusal.{Refusal}
 use Rattle.kinds.specs.declared.refusals.Refusal.TheVariants.{Output}
 use Rattle.rules.specs.Lists.{over}
 use Rattle.stores.specs.RuleStore.{decode}
@@ -20,8 +22,6 @@ use Rattle.restriction.specs.Atoms.{is_member}
 use Rattle.rule_index.specs.Index.{is_standing}
 use Rattle.rule_index.specs.Flip.{is_broken, flipped, after_flip}
 use Rattle.rule_index.specs.Answers.{fitted, filled_words, flip_list}
-use Rattle.rule_index.specs.declared.Filled.{Filled}
-use Rattle.rule_index.specs.declared.Filled.TheVariants.{Words, Refused}
 use Rattle.rule_index.proofs.RuleNumbers.{numbers_few}
 use Rattle.flipping.specs.Checked.{Checked, fitted_output}
 
@@ -46,15 +46,15 @@ module _ {rules : List ℕ} {header : Header} {index list : List ℕ} {set atom 
     pub answer_range : InRange 0 (take size answer')
     answer_range = subst (InRange 0) (sym answer_is) (record { below = omega (arith, few) })
 
-    pub no_room : (before : List ℕ) → length before < size → (Refused Output ≡ fitted ws (length before)) × (before ≡ fitted_output ws before)
+    pub no_room : (before : List ℕ) → length before < size → (Err Output ≡ fitted ws (length before)) × (before ≡ fitted_output ws before)
     no_room before l =
-        let q : Refused Output ≡ fitted ws (length before) = ap (λ (b : Bool). cond b (Words (length ws)) (Refused Output)) (sym (lt-leb (length ws) (length before) (omega (arith, size_is)))) in
-        (q, ap (λ (r : Filled). over (filled_words r ws) before) q)
+        let q : Err Output ≡ fitted ws (length before) = ap (λ (b : Bool). cond b (Ok (length ws)) (Err Output)) (sym (lt-leb (length ws) (length before) (omega (arith, size_is)))) in
+        (q, ap (λ (r : Result ℕ Refusal). over (filled_words r ws) before) q)
 
-    pub copied : (before : List ℕ) → size ≤ length before → {after : List ℕ} {next : ℕ} → Emitted before 0 (take size answer') after next → (Words size ≡ fitted ws (length before)) × (after ≡ fitted_output ws before)
+    pub copied : (before : List ℕ) → size ≤ length before → {after : List ℕ} {next : ℕ} → Emitted before 0 (take size answer') after next → (Ok size ≡ fitted ws (length before)) × (after ≡ fitted_output ws before)
     copied before l {after} p =
         let fits : length ws ≤ length before = omega (arith, size_is) in
-        let q : Words (length ws) ≡ fitted ws (length before) = ap (λ (b : Bool). cond b (Words (length ws)) (Refused Output)) (sym (le-leb (length ws) (length before) fits)) in
+        let q : Ok (length ws) ≡ fitted ws (length before) = ap (λ (b : Bool). cond b (Ok (length ws)) (Err Output)) (sym (le-leb (length ws) (length before) fits)) in
         let written : after ≡ over ws before =
         p.bytes ∙ ap (λ (w : List ℕ). sets before 0 w) answer_is ∙ sets-eq ws before 0 (omega arith) ∙ ap (λ (k : ℕ). ws ++ drop k before) (zero-add (length ws)) in
-        (ap Words size_is ∙ q, written ∙ ap (λ (r : Filled). over (filled_words r ws) before) q)
+        (ap Ok size_is ∙ q, written ∙ ap (λ (r : Result ℕ Refusal). over (filled_words r ws) before) q)

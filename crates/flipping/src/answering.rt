@@ -72,10 +72,8 @@ pub fn flip_checked(
         answer,
     );
     if out.len() < size {
-        return Filled::Refused {
-            refusal: Refusal::Output,
-        };
+        return Err(Refusal::Output);
     }
     emit(&answer[..size], out, 0);
-    Filled::Words { words: size }
+    Ok(size)
 }

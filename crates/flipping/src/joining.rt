@@ -29,10 +29,7 @@ fn first_of(list: &[u16], i: usize, own: &[u16], j: usize, end: usize) -> usize
 {
     let listed = number_at(list, i, end);
     let owned = number_at(own, j, end);
-    if listed <= owned {
-        return listed;
-    }
-    owned
+    listed.min(owned)
 }
 
 // Whether the number at the place is the rule's.

@@ -21,7 +21,7 @@ use rising::is_rising;
 use rule_index::Filled;
 use store_check::header::header_of;
 use store_check::store_forms::check_rules;
-use stores::rule_store::{Header, RuleStore};
+use stores::rule_store::Header;
 
 // A set of so many atoms, and one of them.
 fn is_inside(set: u64, atom: u64, atoms: usize) -> bool
@@ -53,24 +53,16 @@ fn flip_with(
     ensures output { out.new ≡ flip_output rules.now index.now list.now set atom out.old }
 {
     if !is_index(rules, header, index, places) {
-        return Filled::Refused {
-            refusal: Refusal::RuleIndex,
-        };
+        return Err(Refusal::RuleIndex);
     }
     if !is_rising(list, header.rules) {
-        return Filled::Refused {
-            refusal: Refusal::RuleIndex,
-        };
+        return Err(Refusal::RuleIndex);
     }
     if Walk::ATOMS < header.atoms {
-        return Filled::Refused {
-            refusal: Refusal::TooManyAtoms,
-        };
+        return Err(Refusal::TooManyAtoms);
     }
     if !is_inside(set, atom, header.atoms) {
-        return Filled::Refused {
-            refusal: Refusal::SetNumber,
-        };
+        return Err(Refusal::SetNumber);
     }
     flip_checked(rules, header, index, list, set, atom, places, answer, out)
 }
@@ -87,12 +79,7 @@ pub fn flip(
     ensures answer { result ≡ flip_answer rules.now index.now list.now set atom (length out.old) }
     ensures output { out.new ≡ flip_output rules.now index.now list.now set atom out.old }
 {
-    let found = check_rules(rules);
-    let RuleStore::Of(kind) = found else {
-        return Filled::Refused {
-            refusal: Refusal::RuleStore,
-        };
-    };
+    let kind = check_rules(rules).ok_or(Refusal::RuleStore)?;
     let header = header_of(rules, kind);
     let mut places = [0usize; Plain::RULES];
     let mut answer = [0u16; Plain::RULES];

@@ -7,8 +7,8 @@ pub fn is_rising(list: &[u16], rules: usize) -> bool
     ensures { result ≡ is_rising 0 rules list.now }
 {
     let mut bound: usize = 0;
-    for i in 0..list.len() {
-        let rule = list[i] as usize;
+    for number in list {
+        let rule = *number as usize;
         if rule < bound {
             return false;
         }

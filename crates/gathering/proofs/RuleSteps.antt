@@ -21,11 +21,8 @@ use Rattle.output.proofs.Emitting.{sets_front}
 use Rattle.stores.specs.RuleStore.{rule_words, word_count}
 use Rattle.stores.proofs.RuleStores.{rules_length}
 use Rattle.gathering.specs.declared.gathered.Gathered.{Gathered}
-use Rattle.gathering.specs.declared.gathered.Line.{Line}
-use Rattle.gathering.specs.declared.gathered.Line.TheVariants.{Next}
+use Rattle.std.specs.Prelude.{Option, Some, None, Result, Ok}
 use Rattle.numbering.specs.declared.numbers.RuleCounts.{RuleCounts}
-use Rattle.numbering.specs.declared.numbers.RuleNumbers.{RuleNumbers}
-use Rattle.numbering.specs.declared.numbers.RuleNumbers.TheVariants as Lists
 use Rattle.lines.specs.declared.stage.Stage.{Stage}
 use Rattle.lines.specs.declared.stage.Stage.TheVariants.{Declaring, Fixing, Ruling}
 use Rattle.lines.specs.declared.forms.DeclaredShape.{DeclaredShape}
@@ -242,13 +239,13 @@ module _ {kind : Kind} {st : SoFar} {g : Gathered} {words bytes : List ℕ} (h :
               bytes_room = h.bytes_room;
             }
 
-        module _ {words₂ : List ℕ} {o : Line} (k : Kept kind g c.heads c.bodies c.nots c.end words₁ words₂ o) where
+        module _ {words₂ : List ℕ} {o : Result Gathered Refusal} (k : Kept kind g c.heads c.bodies c.nots c.end words₁ words₂ o) where
           pub rule_line_lem : {starts firsts links : List ℕ} → HeldIndex g bytes starts firsts links → LineIs kind st (form_of l) words₂ bytes starts firsts links o
           unfolding kept_rule
           rule_line_lem {starts} {firsts} {links} x = record { says = go fits refl (filled_count kind c.nots) step_counts k.answer k.words }
             where
               go : (b : Bool) → fits ≡ b → (y : Bool) → step_form st (form_of l) ≡ first (not b) Limit (first y FilledNot (next (with_rule_lem st new_rule)))
-                  → o ≡ first_line (not b) Limit (first_line y FilledNot (Next (with_rule g more c.end)))
+                  → o ≡ first_line (not b) Limit (first_line y FilledNot (Ok (with_rule g more c.end)))
                   → words₂ ≡ sets words₁ g.words (counts_if o counts)
                   → LineSays kind st (form_of l) words₂ bytes starts firsts links o
               go false q y z u v = subst (LineSays kind st (form_of l) words₂ bytes starts firsts links) (sym u) z
@@ -263,21 +260,21 @@ module _ {kind : Kind} {st : SoFar} {g : Gathered} {words bytes : List ℕ} (h :
           unfolding kept_rule
           rule_marks n m = record { says = go fits (filled_count kind c.nots) k.answer }
             where
-              go : (b y : Bool) → o ≡ first_line (not b) Limit (first_line y FilledNot (Next (with_rule g more c.end))) → MarksSay marks₁ o
+              go : (b y : Bool) → o ≡ first_line (not b) Limit (first_line y FilledNot (Ok (with_rule g more c.end))) → MarksSay marks₁ o
               go false y u = subst (MarksSay marks₁) (sym u) tt
               go true true u = subst (MarksSay marks₁) (sym u) tt
               go true false u = subst (MarksSay marks₁) (sym u) (record { below = record { mark = λ x. omega (arith, w.numbered.below.mark x, is-stamp) }; room = n ∙ m.room })
 
 -- the answer for a rule's line
-module _ {names : List (List ℕ)} {l : List ℕ} {stamp : ℕ} {before : List ℕ} {at : ℕ} {marks after : List ℕ} {r : RuleNumbers} (h : RuleIs names l stamp before at marks after r) where
-  pub line_numbered : {c : RuleCounts} → r ≡ Lists.Rule c → LineNumbered names l stamp before at marks after c
+module _ {names : List (List ℕ)} {l : List ℕ} {stamp : ℕ} {before : List ℕ} {at : ℕ} {marks after : List ℕ} {r : Option RuleCounts} (h : RuleIs names l stamp before at marks after r) where
+  pub line_numbered : {c : RuleCounts} → r ≡ Some c → LineNumbered names l stamp before at marks after c
   line_numbered e = subst (RuleSays names l stamp before at marks after) e h.says
 
-  pub line_otherwise : r ≡ Lists.Otherwise → NoRule names (typed_form l)
+  pub line_otherwise : r ≡ None → NoRule names (typed_form l)
   line_otherwise e = subst (RuleSays names l stamp before at marks after) e h.says
 
 -- a blank line
-module _ {kind : Kind} {g : Gathered} {words bytes starts firsts links : List ℕ} (h : Held kind (state_of kind g words bytes) g words bytes) (x : HeldIndex g bytes starts firsts links) (l : List ℕ) {q : Bool} (e : q ≡ is_empty (tokens l)) (d : q ≡ true) {o : Line} (a : o ≡ blank_line g (is_ended l)) where
+module _ {kind : Kind} {g : Gathered} {words bytes starts firsts links : List ℕ} (h : Held kind (state_of kind g words bytes) g words bytes) (x : HeldIndex g bytes starts firsts links) (l : List ℕ) {q : Bool} (e : q ≡ is_empty (tokens l)) (d : q ≡ true) {o : Result Gathered Refusal} (a : o ≡ blank_line g (is_ended l)) where
   abbrev st : SoFar
   st = state_of kind g words bytes
 

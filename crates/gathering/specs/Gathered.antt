@@ -1,5 +1,5 @@
 -- What the scratch stores and the counts say of the lines so far.
-use Rattle.std.specs.Prelude.{ℕ, ◌+◌, ◌*◌, ◌≤◌, ◌≡◌, Bool, true, false, not, cond, ◌&&◌, List, [], ◌∷◌, ◌++◌, T, leb, ltb, length, take, drop}
+use Rattle.std.specs.Prelude.{ℕ, ◌+◌, ◌*◌, ◌≤◌, ◌≡◌, Bool, true, false, not, cond, ◌&&◌, List, [], ◌∷◌, ◌++◌, T, leb, ltb, length, take, drop, Result, Ok, Err}
 use Rattle.std.proofs.lemmas.List.Edits.{sets}
 use Rattle.kinds.specs.Sizes.{longest_entry, store_words, store_bytes}
 use Rattle.kinds.specs.Words.{when_word}
@@ -16,8 +16,6 @@ use Rattle.name_store.specs.NameIndex.{Indexed}
 use Rattle.stores.specs.Checking.{Below}
 use Rattle.stores.specs.RuleStore.{rule_words, word_count, rules_from}
 use Rattle.gathering.specs.declared.gathered.Gathered.{Gathered}
-use Rattle.gathering.specs.declared.gathered.Line.{Line}
-use Rattle.gathering.specs.declared.gathered.Line.TheVariants as Line
 use Rattle.lines.specs.Tokens.{tokens}
 use Rattle.lines.specs.Shapes.{opens_with}
 use Rattle.lines.specs.Forms.{Word, LineForm, declares, rules, condition, blank, broken, opened_of}
@@ -79,20 +77,20 @@ pub record HeldMarks (g : Gathered) (marks : List ℕ) : Type 0 where
   pub room : length marks ≡ atom_limit Plain
 
 -- what a line's answer says of the step that its form makes
-abbrev pub LineSays : Kind → SoFar → LineForm → List ℕ → List ℕ → List ℕ → List ℕ → List ℕ → Line → Type 0
-LineSays kind st f words bytes starts firsts links (Line.Next g) =
+abbrev pub LineSays : Kind → SoFar → LineForm → List ℕ → List ℕ → List ℕ → List ℕ → List ℕ → Result Gathered Refusal → Type 0
+LineSays kind st f words bytes starts firsts links (Ok g) =
     (step_form st f ≡ next (state_of kind g words bytes)) × Held kind (state_of kind g words bytes) g words bytes × HeldIndex g bytes starts firsts links
-LineSays kind st f words bytes starts firsts links (Line.Fault r) = step_form st f ≡ fault r
+LineSays kind st f words bytes starts firsts links (Err r) = step_form st f ≡ fault r
 
-pub record LineIs (kind : Kind) (st : SoFar) (f : LineForm) (words bytes starts firsts links : List ℕ) (r : Line) : Type 0 where
+pub record LineIs (kind : Kind) (st : SoFar) (f : LineForm) (words bytes starts firsts links : List ℕ) (r : Result Gathered Refusal) : Type 0 where
   pub says : LineSays kind st f words bytes starts firsts links r
 
 -- what it leaves in the marks
-abbrev pub MarksSay : List ℕ → Line → Type 0
-MarksSay marks (Line.Next g) = HeldMarks g marks
-MarksSay marks (Line.Fault r) = Unit {0}
+abbrev pub MarksSay : List ℕ → Result Gathered Refusal → Type 0
+MarksSay marks (Ok g) = HeldMarks g marks
+MarksSay marks (Err r) = Unit {0}
 
-pub record MarksAre (marks : List ℕ) (r : Line) : Type 0 where
+pub record MarksAre (marks : List ℕ) (r : Result Gathered Refusal) : Type 0 where
   pub says : MarksSay marks r
 
 -- a line of a preference file that opens as a condition does
@@ -108,8 +106,8 @@ refusal_of kind blank = BrokenForm
 refusal_of kind broken = BrokenForm
 
 -- a line with nothing that counts, ended or not
-abbrev pub blank_line : Gathered → Bool → Line
-blank_line g ended = cond ended (Line.Next g) (Line.Fault BrokenForm)
+abbrev pub blank_line : Gathered → Bool → Result Gathered Refusal
+blank_line g ended = cond ended (Ok g) (Err BrokenForm)
 
 -- a rule
 
@@ -117,8 +115,8 @@ abbrev pub filled_count : Kind → ℕ → Bool
 filled_count Plain c = false
 filled_count Preference c = ltb 0 c
 
-abbrev pub first_line : Bool → Refusal → Line → Line
-first_line true f r = Line.Fault f
+abbrev pub first_line : Bool → Refusal → Result Gathered Refusal → Result Gathered Refusal
+first_line true f r = Err f
 first_line false f r = r
 
 -- the counts with one rule more
@@ -136,16 +134,16 @@ with_rule g more end = record {
   bytes = g.bytes;
 }
 
-abbrev pub counts_if : Line → List ℕ → List ℕ
-counts_if (Line.Next g) w = w
-counts_if (Line.Fault f) w = []
+abbrev pub counts_if : Result Gathered Refusal → List ℕ → List ℕ
+counts_if (Ok g) w = w
+counts_if (Err f) w = []
 
-unfoldable pub kept_rule : Kind → Gathered → ℕ → ℕ → ℕ → Line
+unfoldable pub kept_rule : Kind → Gathered → ℕ → ℕ → ℕ → Result Gathered Refusal
 kept_rule kind g more nots end =
     first_line (not (within kind (rule_counts g.counts more))) Limit
-    (first_line (filled_count kind nots) FilledNot (Line.Next (with_rule g more end)))
+    (first_line (filled_count kind nots) FilledNot (Ok (with_rule g more end)))
 
-pub record Kept (kind : Kind) (g : Gathered) (heads bodies nots end : ℕ) (before after : List ℕ) (r : Line) : Type 0 where
+pub record Kept (kind : Kind) (g : Gathered) (heads bodies nots end : ℕ) (before after : List ℕ) (r : Result Gathered Refusal) : Type 0 where
   pub answer : r ≡ kept_rule kind g (heads + bodies + nots) nots end
   pub words : after ≡ sets before g.words (counts_if r (heads ∷ bodies ∷ nots ∷ []))
 
@@ -165,11 +163,11 @@ with_names g w atoms used end = record {
   bytes = used;
 }
 
-unfoldable pub kept_names : Kind → Gathered → Word → ℕ → ℕ → ℕ → Line
+unfoldable pub kept_names : Kind → Gathered → Word → ℕ → ℕ → ℕ → Result Gathered Refusal
 kept_names kind g w atoms used end =
-    first_line (not (within kind (atom_counts g.counts atoms) && leb (classes_after w g.classes) class_limit)) Limit (Line.Next (with_names g w atoms used end))
+    first_line (not (within kind (atom_counts g.counts atoms) && leb (classes_after w g.classes) class_limit)) Limit (Ok (with_names g w atoms used end))
 
-pub record KeptNames (kind : Kind) (g : Gathered) (w : Word) (count atoms used : ℕ) (before after : List ℕ) (r : Line) : Type 0 where
+pub record KeptNames (kind : Kind) (g : Gathered) (w : Word) (count atoms used : ℕ) (before after : List ℕ) (r : Result Gathered Refusal) : Type 0 where
   pub answer : r ≡ kept_names kind g w atoms used (g.words + length (class_words w g.classes count))
   pub words : after ≡ sets before g.words (counts_if r (class_words w g.classes count))
 

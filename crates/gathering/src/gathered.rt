@@ -1,6 +1,5 @@
 // What the lines so far have given: counts, beside the scratch stores that they are gathered in.
 use kinds::limits::Counts;
-use kinds::refusals::Refusal;
 use lines::stage::Stage;
 
 #[derive(Clone, Copy)]
@@ -13,11 +12,4 @@ pub struct Gathered {
     // How far the scratch words and bytes are filled.
     pub words: usize,
     pub bytes: usize,
-}
-
-// What a line gives.
-#[derive(Clone, Copy)]
-pub enum Line {
-    Next(Gathered),
-    Fault(Refusal),
 }

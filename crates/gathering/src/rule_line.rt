@@ -9,34 +9,27 @@ ghost use Rattle.lines.specs.Forms.{form_of};
 ghost use Rattle.lines.specs.Faults.{is_ruling};
 ghost use Rattle.gathering.specs.Gathered.{state_of, Held, HeldIndex, HeldMarks, LineIs, MarksAre, filled_count, Kept, opens_condition, refusal_of, blank_line};
 
-use crate::gathered::{Gathered, Line};
+use crate::gathered::Gathered;
 use kinds::limits::{Counts, Kind};
 use kinds::refusals::Refusal;
 use lines::forms::Shape;
 use lines::stage::Stage;
 use lines::{forms, scan};
 use numbering::numbers;
-use numbering::numbers::{RuleCounts, RuleNumbers};
+use numbering::numbers::RuleCounts;
 use output::words::push;
 
 pub fn is_ruling(stage: Stage) -> bool
     ensures { result ≡ is_ruling stage }
 {
-    match stage {
-        Stage::Declaring => false,
-        Stage::Fixing => false,
-        Stage::Ruling => true,
-    }
+    matches!(stage, Stage::Ruling)
 }
 
 // A filled `not` list in a preference file.
 fn is_filled(kind: Kind, nots: usize) -> bool
     ensures { result ≡ filled_count kind nots }
 {
-    match kind {
-        Kind::Plain => false,
-        Kind::Preference => 0 < nots,
-    }
+    matches!(kind, Kind::Preference) && 0 < nots
 }
 
 pub fn put_counts(heads: usize, bodies: usize, nots: usize, words: &mut [u16], at: usize) -> usize
@@ -49,41 +42,38 @@ pub fn put_counts(heads: usize, bodies: usize, nots: usize, words: &mut [u16], a
 }
 
 // A rule whose numbers stand written, behind its three counts.
-fn keep_rule(kind: Kind, gathered: Gathered, rule: RuleCounts, words: &mut [u16]) -> Line
+fn keep_rule(
+    kind: Kind,
+    gathered: Gathered,
+    rule: RuleCounts,
+    words: &mut [u16],
+) -> Result<Gathered, Refusal>
     requires { (rule.heads + rule.bodies + rule.nots < 2 ^ 62) × (gathered.counts.rules < 2 ^ 62) × (gathered.counts.occurrences < 2 ^ 62) × (gathered.words < 2 ^ 62) }
     ensures { Kept kind gathered rule.heads rule.bodies rule.nots rule.end words.old words.new result }
 {
-    let heads = rule.heads;
-    let bodies = rule.bodies;
-    let nots = rule.nots;
+    let RuleCounts {
+        heads,
+        bodies,
+        nots,
+        ..
+    } = rule;
     let before = gathered.counts;
-    let atoms = before.atoms;
-    let rules = before.rules + 1;
-    let occurrences = before.occurrences + (heads + bodies + nots);
     let counts = Counts {
-        atoms,
-        rules,
-        occurrences,
+        rules: before.rules + 1,
+        occurrences: before.occurrences + (heads + bodies + nots),
+        ..before
     };
-    let fits = counts.within(kind);
-    if !fits {
-        return Line::Fault(Refusal::Limit);
+    if !counts.within(kind) {
+        return Err(Refusal::Limit);
     }
     if is_filled(kind, nots) {
-        return Line::Fault(Refusal::FilledNot);
+        return Err(Refusal::FilledNot);
     }
-    let stage = gathered.stage;
-    let classes = gathered.classes;
-    let bytes = gathered.bytes;
-    let at = gathered.words;
-    put_counts(heads, bodies, nots, words, at);
-    Line::Next(Gathered {
-        stage,
-        classes,
+    put_counts(heads, bodies, nots, words, gathered.words);
+    Ok(Gathered {
         counts,
-        made: gathered.made,
         words: rule.end,
-        bytes,
+        ..gathered
     })
 }
 
@@ -115,7 +105,7 @@ fn add_rule(
     firsts: &[u16],
     links: &[u16],
     marks: &mut [u16],
-) -> Line
+) -> Result<Gathered, Refusal>
     requires line_len_bound { (length line.now ≤ text_limit) × (is_ruling gathered.stage ≡ true) × (opens_condition kind line.now ≡ false) × (is_empty (tokens line.now) ≡ false) }
     requires held { Held kind (state_of kind gathered words.old bytes.now) gathered words.old bytes.now }
     requires held_index { HeldIndex gathered bytes.now starts.now firsts.now links.now }
@@ -123,12 +113,10 @@ fn add_rule(
     ensures line_is { LineIs kind (state_of kind gathered words.old bytes.now) (form_of line.now) words.new bytes.now starts.now firsts.now links.now result }
     ensures marks_are { MarksAre marks.new result }
 {
-    let counts = gathered.counts;
-    let atoms = counts.atoms;
-    let rules = counts.rules;
+    let Counts { atoms, rules, .. } = gathered.counts;
     let at = gathered.words + 3;
     let stamp = (3 * rules + 1) as u16;
-    let RuleNumbers::Rule(rule) = numbers::rule_numbers(
+    let Some(rule) = numbers::rule_numbers(
         line,
         bytes,
         &starts[..atoms],
@@ -139,22 +127,22 @@ fn add_rule(
         words,
         at,
     ) else {
-        return Line::Fault(rule_refusal(line, kind));
+        return Err(rule_refusal(line, kind));
     };
     if rule.twice {
-        return Line::Fault(Refusal::TwiceInList);
+        return Err(Refusal::TwiceInList);
     }
     keep_rule(kind, gathered, rule, words)
 }
 
 // A blank line changes nothing.
-fn pass_blank(line: &[u8], gathered: Gathered) -> Line
+fn pass_blank(line: &[u8], gathered: Gathered) -> Result<Gathered, Refusal>
     ensures { result ≡ blank_line gathered (is_ended line.now) }
 {
     if scan::is_ended(line) {
-        return Line::Next(gathered);
+        return Ok(gathered);
     }
-    Line::Fault(Refusal::BrokenForm)
+    Err(Refusal::BrokenForm)
 }
 
 // A line behind the declarations that does not open as a condition.
@@ -168,7 +156,7 @@ pub fn read_rule(
     firsts: &[u16],
     links: &[u16],
     marks: &mut [u16],
-) -> Line
+) -> Result<Gathered, Refusal>
     requires line_len_bound { (length line.now ≤ text_limit) × (is_ruling gathered.stage ≡ true) × (opens_condition kind line.now ≡ false) }
     requires held { Held kind (state_of kind gathered words.old bytes.now) gathered words.old bytes.now }
     requires held_index { HeldIndex gathered bytes.now starts.now firsts.now links.now }

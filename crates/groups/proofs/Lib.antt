@@ -10,5 +10,4 @@ pub mod Padding
 pub mod Placing
 pub mod PlacedRule
 pub mod PlacedRules
-pub mod Copies
 pub mod Filling

@@ -16,7 +16,6 @@ use kinds::refusals::Refusal;
 use rule_index::Filled;
 use store_check::header::header_of;
 use store_check::store_forms::check_rules;
-use stores::rule_store::RuleStore;
 
 pub mod counting;
 pub mod filling;
@@ -37,12 +36,10 @@ fn index_with(
     count_rules(words, rules, counts);
     let size = place_lists(counts, next);
     if out.len() < size {
-        return Filled::Refused {
-            refusal: Refusal::Output,
-        };
+        return Err(Refusal::Output);
     }
     fill_index(words, rules, counts, next, &mut out[..size]);
-    Filled::Words { words: size }
+    Ok(size)
 }
 
 fn index_words(words: &[u16], rules: usize, atoms: usize, out: &mut [u16]) -> Filled
@@ -60,11 +57,7 @@ pub fn index_rules(rules: &[u16], out: &mut [u16]) -> Filled
     ensures answer { result ≡ index_answer rules.now (length out.old) }
     ensures output { out.new ≡ index_output rules.now out.old }
 {
-    let RuleStore::Of(kind) = check_rules(rules) else {
-        return Filled::Refused {
-            refusal: Refusal::RuleStore,
-        };
-    };
+    let kind = check_rules(rules).ok_or(Refusal::RuleStore)?;
     let header = header_of(rules, kind);
     let start = header.start;
     index_words(&rules[start..], header.rules, header.atoms, out)

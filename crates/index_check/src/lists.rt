@@ -53,8 +53,8 @@ fn rule_listed(
     ensures below { Below (rule + 2) marks.new }
 {
     let stamp = rule + 1;
-    for i in 0..atoms.len() {
-        let a = atoms[i] as usize;
+    for atom in atoms {
+        let a = *atom as usize;
         let first = first_here(marks, a, stamp);
         if first {
             let at = next[a];

@@ -7,13 +7,13 @@ use mathlib.Core.Bool.{Bool, true, false, not}
 use mathlib.Core.List.{List}
 use lib.ListN.{replicate}
 use borrow.Author.Tests.{lt-leb, le-leb, not-true, not-false}
+use Rattle.std.specs.Prelude.{Ok, Err}
 use Rattle.kinds.specs.Limits.{class_limit, within}
 use Rattle.kinds.specs.declared.limits.Kind.{Kind}
 use Rattle.kinds.specs.declared.refusals.Refusal.TheVariants.{Limit}
 use Rattle.output.specs.Emitted.{Emitted}
 use Rattle.output.proofs.Emitting.{none, renamed}
 use Rattle.gathering.specs.declared.gathered.Gathered.{Gathered}
-use Rattle.gathering.specs.declared.gathered.Line.TheVariants.{Next, Fault}
 use Rattle.lines.specs.declared.forms.Keyword.{Keyword}
 use Rattle.lines.specs.declared.forms.Keyword.TheVariants.{Atoms, Min, Vary, Fix}
 use Rattle.lines.specs.declared.stage.Stage.{Stage}
@@ -44,21 +44,21 @@ module _ (classes count : ℕ) {before : List ℕ} {at : ℕ} {word : Keyword} w
 -- the answer
 module _ (kind : Kind) (g : Gathered) (w : Word) (count atoms used : ℕ) (before : List ℕ) {classes : ℕ} (c : classes ≡ classes_after w g.classes)
     {fits : Bool} (e : fits ≡ within kind (atom_counts g.counts atoms)) where
-  pub atoms_over : not fits ≡ true → KeptNames kind g w count atoms used before before (Fault Limit)
+  pub atoms_over : not fits ≡ true → KeptNames kind g w count atoms used before before (Err Limit)
   unfolding kept_names
   atoms_over d = record { answer = rw (sym e, not-true fits d); words = refl }
 
   module _ (d : not fits ≡ false) where
-    pub classes_over : class_limit < classes → KeptNames kind g w count atoms used before before (Fault Limit)
+    pub classes_over : class_limit < classes → KeptNames kind g w count atoms used before before (Err Limit)
     unfolding kept_names
     classes_over l = let many = lt-leb (classes_after w g.classes) class_limit (omega (arith, c)) in record { answer = rw (sym e, not-false fits d, many); words = refl }
 
     pub names_kept : classes ≤ class_limit → {stage : Stage} → stage ≡ stage_after w → {after : List ℕ} {end : ℕ} → Emitted before g.words (class_words w g.classes count) after end
-        → KeptNames kind g w count atoms used before after (Next (record { stage = stage; classes = classes; counts = atom_counts g.counts atoms; made = g.made; words = end; bytes = used }))
+        → KeptNames kind g w count atoms used before after (Ok (record { stage = stage; classes = classes; counts = atom_counts g.counts atoms; made = g.made; words = end; bytes = used }))
     unfolding kept_names
     names_kept l s p =
         let few = le-leb (classes_after w g.classes) class_limit (omega (arith, c)) in
         record {
-          answer = rw (sym e, not-false fits d, few) (λ i. Next (record { stage = s i; classes = c i; counts = atom_counts g.counts atoms; made = g.made; words = p.place i; bytes = used }));
+          answer = rw (sym e, not-false fits d, few) (λ i. Ok (record { stage = s i; classes = c i; counts = atom_counts g.counts atoms; made = g.made; words = p.place i; bytes = used }));
           words = p.bytes;
         }

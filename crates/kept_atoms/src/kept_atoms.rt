@@ -6,7 +6,7 @@ ghost use Rattle.lines.specs.Faults.{stage_after, classes_after, class_words};
 ghost use Rattle.lines.specs.Shapes.{word_of};
 ghost use Rattle.gathering.specs.Gathered.{KeptNames};
 
-use gathering::gathered::{Gathered, Line};
+use gathering::gathered::Gathered;
 use kinds::limits::{ClassWord, Counts, Kind, Preference};
 use kinds::refusals::Refusal;
 use lines::forms::Keyword;
@@ -17,10 +17,9 @@ fn stage_after(word: Keyword) -> Stage
     ensures { result ≡ stage_after (word_of word) }
 {
     match word {
-        Keyword::Atoms => Stage::Ruling,
         Keyword::Min => Stage::Declaring,
         Keyword::Vary => Stage::Fixing,
-        Keyword::Fix => Stage::Ruling,
+        Keyword::Atoms | Keyword::Fix => Stage::Ruling,
     }
 }
 
@@ -29,10 +28,8 @@ fn classes_after(word: Keyword, classes: usize) -> usize
     ensures { result ≡ classes_after (word_of word) classes }
 {
     match word {
-        Keyword::Atoms => classes,
         Keyword::Min => classes + 1,
-        Keyword::Vary => classes,
-        Keyword::Fix => classes,
+        Keyword::Atoms | Keyword::Vary | Keyword::Fix => classes,
     }
 }
 
@@ -64,36 +61,28 @@ pub fn keep_names(
     atoms: usize,
     used: usize,
     words: &mut [u16],
-) -> Line
+) -> Result<Gathered, Refusal>
     requires { (gathered.classes ≤ class_limit) × (gathered.words + count < 2 ^ 63) }
     ensures { KeptNames kind gathered (word_of word) count atoms used words.old words.new result }
 {
     let before = gathered.classes;
     let classes = classes_after(word, before);
     let counted = gathered.counts;
-    let rules = counted.rules;
-    let occurrences = counted.occurrences;
-    let counts = Counts {
-        atoms,
-        rules,
-        occurrences,
-    };
-    let fits = counts.within(kind);
-    if !fits {
-        return Line::Fault(Refusal::Limit);
+    let counts = Counts { atoms, ..counted };
+    if !counts.within(kind) {
+        return Err(Refusal::Limit);
     }
     if Preference::CLASSES < classes {
-        return Line::Fault(Refusal::Limit);
+        return Err(Refusal::Limit);
     }
     let stage = stage_after(word);
-    let at = gathered.words;
-    let end = put_class_words(word, before, count, words, at);
-    Line::Next(Gathered {
+    let end = put_class_words(word, before, count, words, gathered.words);
+    Ok(Gathered {
         stage,
         classes,
         counts,
-        made: gathered.made,
         words: end,
         bytes: used,
+        ..gathered
     })
 }

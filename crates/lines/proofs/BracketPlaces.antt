@@ -15,12 +15,11 @@ use Rattle.name_store.specs.NameStore.{same_bytes}
 use Rattle.name_store.proofs.ByteLoops.{other_length}
 use Rattle.name_store.proofs.NameStores.{same_law}
 use Rattle.rules.proofs.Booleans.{is_true_lem}
-use Rattle.lines.specs.declared.scan.Item.TheVariants.{At, Stop}
-use Rattle.lines.specs.declared.scan.Place.TheVariants as Place
+use Rattle.std.specs.Prelude.{Option, Some, None}
 use Rattle.lines.specs.declared.scan.Bracket.TheVariants as Bracket
 use Rattle.lines.specs.Tokens.{word, is_ending, is_delimiter, run, tokens, tokens_from}
 use Rattle.lines.specs.Forms.{unopened, opened_by, opened_of}
-use Rattle.lines.specs.Shapes.{begins, gap, word_behind, item_of, is_closing, opens_with, Onward, ClosedIs, OpenedIs, is_bracket, BracketIs}
+use Rattle.lines.specs.Shapes.{begins, gap, spaced, word_behind, item_of, is_closing, opens_with, Onward, ClosedIs, OpenedIs, is_bracket, BracketIs}
 use Rattle.lines.proofs.Scanning.{run_goes_on, run_ends, run_out, run_le, gap_le}
 use Rattle.lines.proofs.TokenPlaces.{tokens_gap, past_gap, First, is_end_lem, is_space, is_open, is_close, is_other_lem, first_of, end_tokens, open_tokens, close_tokens, word_tokens}
 
@@ -46,17 +45,17 @@ module _ (s : List ℕ) (at : ℕ) {g : ℕ} (e : g ≡ gap (drop at s)) where
   unfolding tokens tokens_from
   nothing_out l = tokens_at ∙ ap tokens (drop_of_length-le s l)
 
-  pub closing_out : length s ≤ at + g → ClosedIs s at Place.Absent
+  pub closing_out : length s ≤ at + g → ClosedIs s at None
   closing_out l = record { says = ap is_closing (nothing_out l) }
 
   pub bracket_out : length s ≤ at + g → BracketIs s at Bracket.Absent
   bracket_out l = record { says = ap is_bracket (nothing_out l) }
 
-  pub opening_out : length s ≤ at + g → (w : List ℕ) → OpenedIs s at w Place.Absent
+  pub opening_out : length s ≤ at + g → (w : List ℕ) → OpenedIs s at w None
   unfolding opened_of
   opening_out l w = record { says = ap (λ ts. opens_with w (opened_of ts)) (nothing_out l) }
 
-  pub item_out : length s ≤ at + g → Stop ≡ item_of (drop at s)
+  pub item_out : length s ≤ at + g → None ≡ item_of (drop at s)
   unfolding item_of word_behind
   item_out l = sym (ap (word_behind (gap (drop at s))) (left ∙ drop_of_length-le s l))
 
@@ -89,23 +88,23 @@ module _ (s : List ℕ) (at : ℕ) {g : ℕ} (e : g ≡ gap (drop at s)) where
         go (is_close f) = ap is_empty (close_tokens b rest f) ∙ sym (ap is_ending f)
         go (is_other_lem f) = ap is_empty (word_tokens b rest f) ∙ sym (no_end (eqb b space) (eqb b open_bracket) (eqb b close_bracket) (is_ending b) f)
 
-    pub item_stops : is_delimiter b ≡ true → Stop ≡ item_of (drop at s)
+    pub item_stops : is_delimiter b ≡ true → None ≡ item_of (drop at s)
     unfolding item_of word_behind
-    item_stops f = sym (ap (word_behind (gap (drop at s))) (left ∙ front) ∙ ap (λ (x : Bool). cond x Stop (At (gap (drop at s)) (run (b ∷ rest)))) f)
+    item_stops f = sym (ap (word_behind (gap (drop at s))) (left ∙ front) ∙ ap (λ (x : Bool). cond x None (spaced (gap (drop at s)) (run (b ∷ rest)))) f)
 
-    pub item_found : is_delimiter b ≡ false → {n : ℕ} → n ≡ run (drop (at + g) s) → At g n ≡ item_of (drop at s)
+    pub item_found : is_delimiter b ≡ false → {n : ℕ} → n ≡ run (drop (at + g) s) → spaced g n ≡ item_of (drop at s)
     unfolding item_of word_behind
     item_found f p =
-        sym (ap (word_behind (gap (drop at s))) (left ∙ front) ∙ ap (λ (x : Bool). cond x Stop (At (gap (drop at s)) (run (b ∷ rest)))) f ∙ ap₂ At (sym e) (ap run (sym front) ∙ sym p))
+        sym (ap (word_behind (gap (drop at s))) (left ∙ front) ∙ ap (λ (x : Bool). cond x None (spaced (gap (drop at s)) (run (b ∷ rest)))) f ∙ ap₂ spaced (sym e) (ap run (sym front) ∙ sym p))
 
-    pub closing_here : b ≡ close_bracket → ClosedIs s at (Place.At (at + g + 1))
+    pub closing_here : b ≡ close_bracket → ClosedIs s at (Some (at + g + 1))
     closing_here f = record { says = (onward, all ∙ close_tokens b rest f) }
 
     pub opening_here : b ≡ open_bracket → opened_of (tokens (drop at s)) ≡ opened_by (tokens rest)
     unfolding opened_of
     opening_here f = ap opened_of (all ∙ open_tokens b rest f)
 
-    pub no_closing : (b ≡ close_bracket → ⊥) → ClosedIs s at Place.Absent
+    pub no_closing : (b ≡ close_bracket → ⊥) → ClosedIs s at None
     no_closing n = record { says = ap is_closing all ∙ go (first_of b) }
       where
         go : First b → is_closing (tokens (b ∷ rest)) ≡ false
@@ -125,7 +124,7 @@ module _ (s : List ℕ) (at : ℕ) {g : ℕ} (e : g ≡ gap (drop at s)) where
         go (is_close f) = absurd (n f)
         go (is_other_lem f) = ap is_bracket (word_tokens b rest f)
 
-    pub no_opening : (b ≡ open_bracket → ⊥) → (w : List ℕ) → OpenedIs s at w Place.Absent
+    pub no_opening : (b ≡ open_bracket → ⊥) → (w : List ℕ) → OpenedIs s at w None
     unfolding opened_of
     no_opening n w = record { says = ap (opens_with w) (ap opened_of all ∙ go (first_of b)) }
       where
@@ -222,7 +221,7 @@ module _ (s : List ℕ) (at : ℕ) {g : ℕ} (e : g ≡ gap (drop at s)) (l : at
   opened_word = opening_here s at e l o ∙ ap opened_by (tokens_at s (at + g + 1) f)
 
   module _ {r : Bool} (d : r ≡ same_bytes (take (run behind) behind) w) where
-    pub opened_there : r ≡ true → OpenedIs s at w (Place.At (start + length w))
+    pub opened_there : r ≡ true → OpenedIs s at w (Some (start + length w))
     opened_there t = go behind refl
       where
         same : take (run behind) behind ≡ w
@@ -231,7 +230,7 @@ module _ (s : List ℕ) (at : ℕ) {g : ℕ} (e : g ≡ gap (drop at s)) (l : at
         size : run behind ≡ length w
         size = sym (length-take-le (run behind) behind (run_le behind)) ∙ ap length same
 
-        found : (b : ℕ) (u : List ℕ) → behind ≡ b ∷ u → is_delimiter b ≡ false → OpenedIs s at w (Place.At (start + length w))
+        found : (b : ℕ) (u : List ℕ) → behind ≡ b ∷ u → is_delimiter b ≡ false → OpenedIs s at w (Some (start + length w))
         found b u p q =
             let words : tokens behind ≡ word w ∷ tokens (drop (start + length w) s) =
             ap tokens p ∙ word_tokens b u q ∙ ap (λ t. word (take (run t) t) ∷ tokens (drop (run t) t)) (sym p)
@@ -243,15 +242,15 @@ module _ (s : List ℕ) (at : ℕ) {g : ℕ} (e : g ≡ gap (drop at s)) (l : at
               );
             }
 
-        bounded : (b : ℕ) (u : List ℕ) → behind ≡ b ∷ u → (x : Bool) → is_delimiter b ≡ x → run (b ∷ u) ≡ cond x 0 (suc (run u)) → OpenedIs s at w (Place.At (start + length w))
+        bounded : (b : ℕ) (u : List ℕ) → behind ≡ b ∷ u → (x : Bool) → is_delimiter b ≡ x → run (b ∷ u) ≡ cond x 0 (suc (run u)) → OpenedIs s at w (Some (start + length w))
         bounded b u p true q z = absurd (let n : run behind ≡ 0 = ap run p ∙ z in omega (arith, size))
         bounded b u p false q z = found b u p q
 
-        go : (t : List ℕ) → behind ≡ t → OpenedIs s at w (Place.At (start + length w))
+        go : (t : List ℕ) → behind ≡ t → OpenedIs s at w (Some (start + length w))
         go [] p = absurd (let n : run behind ≡ 0 = ap run p ∙ run_none in omega (arith, size))
         go (b ∷ u) p = bounded b u p (is_delimiter b) refl (run_first b u)
 
-    pub opened_other : r ≡ false → OpenedIs s at w Place.Absent
+    pub opened_other : r ≡ false → OpenedIs s at w None
     opened_other t = record { says = ap (opens_with w) opened_word ∙ go behind refl }
       where
         other : (b : ℕ) (u : List ℕ) → behind ≡ b ∷ u → First b → opens_with w (opened_by (tokens (b ∷ u))) ≡ false

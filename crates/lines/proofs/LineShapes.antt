@@ -10,7 +10,7 @@ use Rattle.kinds.specs.Words.{atoms_word, min_word, vary_word, fix_word, rule_wo
 use Rattle.kinds.specs.declared.limits.Kind.{Kind}
 use Rattle.rules.specs.Lists.{is_empty}
 use Rattle.name_store.specs.NameStore.{same_bytes}
-use Rattle.lines.specs.declared.scan.Place.{Place}
+use Rattle.std.specs.Prelude.{Option, Some, None}
 use Rattle.lines.specs.declared.forms.Keyword.{Keyword}
 use Rattle.lines.specs.declared.forms.Keyword.TheVariants as Key
 use Rattle.lines.specs.declared.forms.Shape.{Shape}
@@ -48,8 +48,8 @@ whole_word vary = record { whole = refl; filled = omega arith }
 whole_word fix = record { whole = refl; filled = omega arith }
 
 -- a closing bracket, and nothing behind it
-module _ (s : List ℕ) (at : ℕ) {q : Place} (c : ClosedIs s at q) where
-  pub not_closing : q ≡ Place.Absent → false ≡ is_closing_last (tokens (drop at s))
+module _ (s : List ℕ) (at : ℕ) {q : Option ℕ} (c : ClosedIs s at q) where
+  pub not_closing : q ≡ None → false ≡ is_closing_last (tokens (drop at s))
   not_closing e = go (tokens (drop at s)) (subst (ClosedSays s at) e c.says)
     where
       go : (ts : List Token) → is_closing ts ≡ false → false ≡ is_closing_last ts
@@ -58,11 +58,11 @@ module _ (s : List ℕ) (at : ℕ) {q : Place} (c : ClosedIs s at q) where
       go (closing ∷ ts) n = absurd (let z : ◌≡◌ {A = ℕ} 0 1 = cc in omega arith)
       go (word x ∷ ts) n = refl
 
-  pub closing_last : {p : ℕ} → q ≡ Place.At p → {r : Bool} → r ≡ is_empty (tokens (drop p s)) → r ≡ is_closing_last (tokens (drop at s))
-  closing_last {p} e f = let k : ClosedSays s at (Place.At p) = subst (ClosedSays s at) e c.says in f ∙ sym (ap is_closing_last k.1)
+  pub closing_last : {p : ℕ} → q ≡ Some p → {r : Bool} → r ≡ is_empty (tokens (drop p s)) → r ≡ is_closing_last (tokens (drop at s))
+  closing_last {p} e f = let k : ClosedSays s at (Some p) = subst (ClosedSays s at) e c.says in f ∙ sym (ap is_closing_last k.1)
 
-  pub closing_inside : {p : ℕ} → q ≡ Place.At p → p ≤ length s
-  closing_inside {p} e = let k : ClosedSays s at (Place.At p) = subst (ClosedSays s at) e c.says in k.0.inside
+  pub closing_inside : {p : ℕ} → q ≡ Some p → p ≤ length s
+  closing_inside {p} e = let k : ClosedSays s at (Some p) = subst (ClosedSays s at) e c.says in k.0.inside
 
 last_form : (ts : List Token) (f : LineForm) {r : Bool} → r ≡ is_empty ts → lastly ts f ≡ cond r f broken
 last_form [] f e = ap (λ (b : Bool). cond b f broken) (sym e)
@@ -242,24 +242,24 @@ module _ (l : List ℕ) where
   abbrev line : Opened
   line = opened_of (tokens l)
 
-  opened_at : {w : List ℕ} {q : Place} → OpenedIs l 0 w q → {p : ℕ} → q ≡ Place.At p → line ≡ opened w (tokens (drop p l))
-  opened_at {w} o {p} e = let k : OpenedSays l 0 w (Place.At p) = subst (OpenedSays l 0 w) e o.says in k.1
+  opened_at : {w : List ℕ} {q : Option ℕ} → OpenedIs l 0 w q → {p : ℕ} → q ≡ Some p → line ≡ opened w (tokens (drop p l))
+  opened_at {w} o {p} e = let k : OpenedSays l 0 w (Some p) = subst (OpenedSays l 0 w) e o.says in k.1
 
-  unlike : {w : List ℕ} {q : Place} → OpenedIs l 0 w q → q ≡ Place.Absent → opens_with w line ≡ false
+  unlike : {w : List ℕ} {q : Option ℕ} → OpenedIs l 0 w q → q ≡ None → opens_with w line ≡ false
   unlike {w} o e = subst (OpenedSays l 0 w) e o.says
 
-  pub of_word : (w : Keyword) {q : Place} → OpenedIs l 0 (word_bytes (word_of w)) q → {p : ℕ} → q ≡ Place.At p → named (opened_form line) ≡ named (declared_form (word_of w) (tokens (drop p l)))
+  pub of_word : (w : Keyword) {q : Option ℕ} → OpenedIs l 0 (word_bytes (word_of w)) q → {p : ℕ} → q ≡ Some p → named (opened_form line) ≡ named (declared_form (word_of w) (tokens (drop p l)))
   unfolding same_bytes
   of_word Key.Atoms o e = ap (λ t. named (opened_form t)) (opened_at o e)
   of_word Key.Min o e = ap (λ t. named (opened_form t)) (opened_at o e)
   of_word Key.Vary o e = ap (λ t. named (opened_form t)) (opened_at o e)
   of_word Key.Fix o e = ap (λ t. named (opened_form t)) (opened_at o e)
 
-  pub of_rule : {q : Place} → OpenedIs l 0 rule_word q → {p : ℕ} → q ≡ Place.At p → named (opened_form line) ≡ named (rule_form (tokens (drop p l)))
+  pub of_rule : {q : Option ℕ} → OpenedIs l 0 rule_word q → {p : ℕ} → q ≡ Some p → named (opened_form line) ≡ named (rule_form (tokens (drop p l)))
   unfolding same_bytes
   of_rule o e = ap (λ t. named (opened_form t)) (opened_at o e)
 
-  pub of_none : {a b c d f : Place} → OpenedIs l 0 rule_word a → a ≡ Place.Absent → OpenedIs l 0 min_word b → b ≡ Place.Absent → OpenedIs l 0 vary_word c → c ≡ Place.Absent → OpenedIs l 0 fix_word d → d ≡ Place.Absent → OpenedIs l 0 atoms_word f → f ≡ Place.Absent → Otherwise (named (opened_form line))
+  pub of_none : {a b c d f : Option ℕ} → OpenedIs l 0 rule_word a → a ≡ None → OpenedIs l 0 min_word b → b ≡ None → OpenedIs l 0 vary_word c → c ≡ None → OpenedIs l 0 fix_word d → d ≡ None → OpenedIs l 0 atoms_word f → f ≡ None → Otherwise (named (opened_form line))
   of_none oa ea ob eb oc ec od ed of ef = go line (unlike oa ea) (unlike ob eb) (unlike oc ec) (unlike od ed) (unlike of ef)
     where
       other : (x : List ℕ) (ts : List Token) → opened_form (opened x ts) ≡ cond (same_bytes x when_word) (when_form ts) broken → Otherwise (named (opened_form (opened x ts)))
@@ -298,7 +298,7 @@ module _ (l : List ℕ) where
         go [] n = absurd (let z : ◌≡◌ {A = ℕ} 0 1 = cc in omega arith)
         go (t ∷ ts) n = refl
 
-    pub of_when : {q : Place} → OpenedIs l 0 when_word q → {p : ℕ} → q ≡ Place.At p → form_of l ≡ named (when_form (tokens (drop p l)))
+    pub of_when : {q : Option ℕ} → OpenedIs l 0 when_word q → {p : ℕ} → q ≡ Some p → form_of l ≡ named (when_form (tokens (drop p l)))
     unfolding same_bytes opened_of
     of_when o {p} g = of_filled refl (go (tokens l) (opened_at o g)) ∙ ap (λ t. named (opened_form t)) (opened_at o g)
       where

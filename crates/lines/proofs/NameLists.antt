@@ -16,16 +16,14 @@ use Rattle.name_store.proofs.NameStores.{same_self}
 use Rattle.rules.specs.Lists.{some}
 use Rattle.rules.proofs.Booleans.{or_assoc, or-true, or-false, is_true_lem}
 use Rattle.lines.specs.declared.scan.Item.{Item}
-use Rattle.lines.specs.declared.scan.Item.TheVariants.{At, Stop}
-use Rattle.lines.specs.declared.scan.Place.{Place}
+use Rattle.std.specs.Prelude.{Option, Some, None}
 use Rattle.lines.specs.declared.forms.NameFit.{NameFit}
 use Rattle.lines.specs.declared.forms.NameFit.TheVariants as Fit
 use Rattle.lines.specs.declared.forms.Names.{Names}
-use Rattle.lines.specs.declared.forms.Names.TheVariants as Found
 use Rattle.lines.specs.Tokens.{Token, opening, closing, word, tokens, leading, behind, items}
 use Rattle.lines.specs.Forms.{Opened, opened, unopened, opened_of, split, none, closed_by, split_names, on_opened, split_list, is_name, are_names}
 use Rattle.lines.specs.Faults.{refused_name}
-use Rattle.lines.specs.Shapes.{item_of, is_closing, opens_with, ClosedSays, ClosedIs, OpenedSays, OpenedIs, class_fit, name_fit, Listed, NamesSay, NamesAre, ListedBehind, ListSays, ListIs}
+use Rattle.lines.specs.Shapes.{spaced, item_of, is_closing, opens_with, ClosedSays, ClosedIs, OpenedSays, OpenedIs, class_fit, name_fit, Listed, NamesSay, NamesAre, ListedBehind, ListSays, ListIs}
 use Rattle.lines.proofs.TokenPlaces.{items_end, behind_end, item_fits, item_long, item, later, item_is, behind_is}
 
 -- what a name is to a kind
@@ -65,17 +63,17 @@ split_is ts {xs} {rest} e = go (behind ts) e
     go (word x ∷ us) e = absurd (let z : ◌≡◌ {A = ℕ} 0 1 = cc in omega arith)
 
 -- the names from a place on end where no word stands, and there the list is closed or not
-module _ (s : List ℕ) (from end : ℕ) (same : behind (tokens (drop end s)) ≡ behind (tokens (drop from s))) {r : Item} (e : r ≡ item_of (drop end s)) (d : r ≡ Stop) {q : Place} (c : ClosedIs s end q) where
+module _ (s : List ℕ) (from end : ℕ) (same : behind (tokens (drop end s)) ≡ behind (tokens (drop from s))) {r : Option Item} (e : r ≡ item_of (drop end s)) (d : r ≡ None) {q : Option ℕ} (c : ClosedIs s end q) where
   cut : split_names (tokens (drop from s)) ≡ closed_by (items (drop from s)) (tokens (drop end s))
   unfolding split_names items
   cut = ap (closed_by (items (drop from s))) (sym same ∙ behind_end s end e d)
 
-  pub list_closed : {p : ℕ} → q ≡ Place.At p → (split_names (tokens (drop from s)) ≡ split (items (drop from s)) (tokens (drop p s))) × (p ≤ length s)
+  pub list_closed : {p : ℕ} → q ≡ Some p → (split_names (tokens (drop from s)) ≡ split (items (drop from s)) (tokens (drop p s))) × (p ≤ length s)
   list_closed {p} g =
-      let k : ClosedSays s end (Place.At p) = subst (ClosedSays s end) g c.says in
+      let k : ClosedSays s end (Some p) = subst (ClosedSays s end) g c.says in
       (cut ∙ ap (closed_by (items (drop from s))) k.1, k.0.inside)
 
-  pub list_unclosed : q ≡ Place.Absent → {xs : List (List ℕ)} {rest : List Token} → split_names (tokens (drop from s)) ≡ split xs rest → ⊥
+  pub list_unclosed : q ≡ None → {xs : List (List ℕ)} {rest : List Token} → split_names (tokens (drop from s)) ≡ split xs rest → ⊥
   list_unclosed g i = go (tokens (drop end s)) (subst (ClosedSays s end) g c.says) (sym cut ∙ i)
     where
       go : (ts : List Token) → is_closing ts ≡ false → {xs : List (List ℕ)} {rest : List Token} → closed_by (items (drop from s)) ts ≡ split xs rest → ⊥
@@ -96,10 +94,10 @@ pub record Naming (kind : Kind) (s : List ℕ) (from end count : ℕ) (refused :
 pub begins_naming : (kind : Kind) (s : List ℕ) (from : ℕ) → from ≤ length s → Naming kind s from from 0 false
 begins_naming kind s from h = record { inside = h; few = zero-le; same_behind = refl; counted = omega arith; refusing = refl; naming = refl }
 
-module _ {kind : Kind} {s : List ℕ} {from end count : ℕ} {refused : Bool} (h : Naming kind s from end count refused) {r : Item} (e : r ≡ item_of (drop end s)) where
+module _ {kind : Kind} {s : List ℕ} {from end count : ℕ} {refused : Bool} (h : Naming kind s from end count refused) {r : Option Item} (e : r ≡ item_of (drop end s)) where
   -- behind the last name
-  module _ (d : r ≡ Stop) {q : Place} (c : ClosedIs s end q) where
-    pub names_closed : {p : ℕ} → q ≡ Place.At p → NamesAre kind s from (Found.List p count refused)
+  module _ (d : r ≡ None) {q : Option ℕ} (c : ClosedIs s end q) where
+    pub names_closed : {p : ℕ} → q ≡ Some p → NamesAre kind s from (Some (record { end = p; count = count; refused = refused }))
     names_closed g =
         let k = list_closed s from end h.same_behind e d c g in
         let out = items_end s end e d in
@@ -113,10 +111,10 @@ module _ {kind : Kind} {s : List ℕ} {from end count : ℕ} {refused : Bool} (h
           };
         }
 
-    pub names_unclosed : q ≡ Place.Absent → NamesAre kind s from Found.Broken
+    pub names_unclosed : q ≡ None → NamesAre kind s from None
     names_unclosed g = record { says = λ xs rest i. absurd (list_unclosed s from end h.same_behind e d c g i) }
 
-  module _ {g n : ℕ} (d : r ≡ At g n) where
+  module _ {g n : ℕ} (d : r ≡ spaced g n) where
     pub name_inside : end + g + n ≤ length s
     name_inside = item_fits s end e d
 
@@ -130,7 +128,7 @@ module _ {kind : Kind} {s : List ℕ} {from end count : ℕ} {refused : Bool} (h
     ns = later s end e d
 
     module _ {q : NameFit} (f : q ≡ name_fit kind x) where
-      pub name_wrong : q ≡ Fit.Wrong → NamesAre kind s from Found.Broken
+      pub name_wrong : q ≡ Fit.Wrong → NamesAre kind s from None
       unfolding items
       name_wrong k =
           let wrong : are_names (items (drop from s)) ≡ false = sym h.naming ∙ ap are_names (item_is s end e d) ∙ ap (λ (b : Bool). b && are_names ns) (fit_says kind x f k) in
@@ -161,17 +159,17 @@ module _ {kind : Kind} {s : List ℕ} {from end count : ℕ} {refused : Bool} (h
 
 -- a bracket with its word
 
-module _ (w s : List ℕ) (at : ℕ) {q : Place} (o : OpenedIs s at w q) where
-  pub opened_list : {p : ℕ} → q ≡ Place.At p → split_list w (tokens (drop at s)) ≡ split_names (tokens (drop p s))
+module _ (w s : List ℕ) (at : ℕ) {q : Option ℕ} (o : OpenedIs s at w q) where
+  pub opened_list : {p : ℕ} → q ≡ Some p → split_list w (tokens (drop at s)) ≡ split_names (tokens (drop p s))
   unfolding split_list
   opened_list {p} e =
-      let k : OpenedSays s at w (Place.At p) = subst (OpenedSays s at w) e o.says in
+      let k : OpenedSays s at w (Some p) = subst (OpenedSays s at w) e o.says in
       ap (λ t. on_opened t w) k.1 ∙ ap (λ (b : Bool). cond b (split_names (tokens (drop p s))) none) (is_true_lem (same_bytes w w) (same_self w))
 
-  pub opened_inside : {p : ℕ} → q ≡ Place.At p → p ≤ length s
-  opened_inside {p} e = let k : OpenedSays s at w (Place.At p) = subst (OpenedSays s at w) e o.says in k.0.inside
+  pub opened_inside : {p : ℕ} → q ≡ Some p → p ≤ length s
+  opened_inside {p} e = let k : OpenedSays s at w (Some p) = subst (OpenedSays s at w) e o.says in k.0.inside
 
-  pub unopened_list : q ≡ Place.Absent → split_list w (tokens (drop at s)) ≡ none
+  pub unopened_list : q ≡ None → split_list w (tokens (drop at s)) ≡ none
   unfolding split_list
   unopened_list e = go (opened_of (tokens (drop at s))) (subst (OpenedSays s at w) e o.says)
     where
@@ -179,28 +177,28 @@ module _ (w s : List ℕ) (at : ℕ) {q : Place} (o : OpenedIs s at w q) where
       go (opened x ts) n = ap (λ (b : Bool). cond b (split_names ts) none) n
       go unopened n = refl
 
-  pub list_there : (kind : Kind) {p : ℕ} → q ≡ Place.At p → {r : Names} → NamesAre kind s p r → ListIs kind w s at r
+  pub list_there : (kind : Kind) {p : ℕ} → q ≡ Some p → {r : Option Names} → NamesAre kind s p r → ListIs kind w s at r
   list_there kind {p} e {r} l = record { says = go r l.says }
     where
-      go : (r : Names) → NamesSay kind s p r → ListSays kind w s at r
-      go (Found.List end count refused) k =
+      go : (r : Option Names) → NamesSay kind s p r → ListSays kind w s at r
+      go (Some names) k =
           record { names = items (drop p s); cuts = opened_list e ∙ k.cuts; inside = k.inside; are_names_lem = k.are_names_lem; is_refused = k.is_refused }
-      go Found.Broken k = λ xs rest i. k xs rest (sym (opened_list e) ∙ i)
+      go None k = λ xs rest i. k xs rest (sym (opened_list e) ∙ i)
 
-  pub list_absent : (kind : Kind) → q ≡ Place.Absent → ListIs kind w s at Found.Broken
+  pub list_absent : (kind : Kind) → q ≡ None → ListIs kind w s at None
   list_absent kind e = record { says = λ xs rest i. absurd (let j : none ≡ split xs rest = sym (unopened_list e) ∙ i in let z : ◌≡◌ {A = ℕ} 0 1 = cc in omega arith) }
 
 -- what the answer for a list says
-module _ {kind : Kind} {s : List ℕ} {from : ℕ} {r : Names} (l : NamesAre kind s from r) where
-  pub listed : {end count : ℕ} {refused : Bool} → r ≡ Found.List end count refused → Listed kind s from end count refused
+module _ {kind : Kind} {s : List ℕ} {from : ℕ} {r : Option Names} (l : NamesAre kind s from r) where
+  pub listed : {names : Names} → r ≡ Some names → Listed kind s from names.end names.count names.refused
   listed e = subst (NamesSay kind s from) e l.says
 
-  pub not_listed : r ≡ Found.Broken → (xs : List (List ℕ)) (rest : List Token) → split_names (tokens (drop from s)) ≡ split xs rest → are_names xs ≡ false
+  pub not_listed : r ≡ None → (xs : List (List ℕ)) (rest : List Token) → split_names (tokens (drop from s)) ≡ split xs rest → are_names xs ≡ false
   not_listed e = subst (NamesSay kind s from) e l.says
 
-module _ {kind : Kind} {w s : List ℕ} {at : ℕ} {r : Names} (l : ListIs kind w s at r) where
-  pub list_is : {end count : ℕ} {refused : Bool} → r ≡ Found.List end count refused → ListedBehind kind w s at end refused
+module _ {kind : Kind} {w s : List ℕ} {at : ℕ} {r : Option Names} (l : ListIs kind w s at r) where
+  pub list_is : {names : Names} → r ≡ Some names → ListedBehind kind w s at names.end names.refused
   list_is e = subst (ListSays kind w s at) e l.says
 
-  pub no_list : r ≡ Found.Broken → (xs : List (List ℕ)) (rest : List Token) → split_list w (tokens (drop at s)) ≡ split xs rest → are_names xs ≡ false
+  pub no_list : r ≡ None → (xs : List (List ℕ)) (rest : List Token) → split_list w (tokens (drop at s)) ≡ split xs rest → are_names xs ≡ false
   no_list e = subst (ListSays kind w s at) e l.says

@@ -11,12 +11,12 @@ use lib.ListN.{take, drop}
 use lib.Seq.{drop-cons, drop-drop, take-take}
 use Rattle.kinds.specs.Words.{space, open_bracket, close_bracket}
 use Rattle.lines.specs.declared.scan.Item.{Item}
-use Rattle.lines.specs.declared.scan.Item.TheVariants.{At, Stop}
+use Rattle.std.specs.Prelude.{Option, Some, None}
 use Rattle.lines.specs.declared.scan.Bracket.{Bracket}
 use Rattle.lines.specs.Tokens.{Token, opening, closing, word, is_ending, is_delimiter, run, tokens_from, tokens, leading, items}
-use Rattle.lines.specs.Shapes.{gap, word_behind, item_of, ByteBehind, is_bracket, BracketSays, BracketIs}
+use Rattle.lines.specs.Shapes.{gap, spaced, word_behind, item_of, ByteBehind, is_bracket, BracketSays, BracketIs}
 use Rattle.lines.proofs.Scanning.{run_ends}
-use Rattle.lines.proofs.TokenPlaces.{open_tokens, close_tokens, items_end}
+use Rattle.lines.proofs.TokenPlaces.{open_tokens, close_tokens, item_parts, items_end}
 use Rattle.lines.proofs.BracketPlaces.{no_end, tokens_at}
 
 -- how many bytes stand before one behind which nothing counts
@@ -124,19 +124,19 @@ module _ {s : List ℕ} {at b p : ℕ} (h : ByteBehind s at b p) where
   no_run e = run_ends s p h.inside (ap is_delimiter h.byte ∙ e)
 
 -- a word at its place
-module _ (s : List ℕ) (i : ℕ) {g n : ℕ} (e : item_of (drop i s) ≡ At g n) where
+module _ (s : List ℕ) (i : ℕ) {g n : ℕ} (e : item_of (drop i s) ≡ spaced g n) where
   gap_and_run : (g ≡ gap (drop i s)) × (n ≡ run (drop g (drop i s)))
   unfolding item_of word_behind
   gap_and_run = go (drop (gap (drop i s)) (drop i s)) refl e
     where
-      found : (b : ℕ) (u : List ℕ) → drop (gap (drop i s)) (drop i s) ≡ b ∷ u → (x : Bool) → cond x Stop (At (gap (drop i s)) (run (b ∷ u))) ≡ At g n → (g ≡ gap (drop i s)) × (n ≡ run (drop g (drop i s)))
+      found : (b : ℕ) (u : List ℕ) → drop (gap (drop i s)) (drop i s) ≡ b ∷ u → (x : Bool) → cond x None (spaced (gap (drop i s)) (run (b ∷ u))) ≡ spaced g n → (g ≡ gap (drop i s)) × (n ≡ run (drop g (drop i s)))
       found b u q true f = absurd (let z : ◌≡◌ {A = ℕ} 0 1 = cc in omega arith)
       found b u q false f =
-          let x : gap (drop i s) ≡ g = cc in
-          let y : run (b ∷ u) ≡ n = cc in
+          let x = (item_parts f).0 in
+          let y = (item_parts f).1 in
           (sym x, sym y ∙ ap run (sym q) ∙ ap (λ (k : ℕ). run (drop k (drop i s))) x)
 
-      go : (u : List ℕ) → drop (gap (drop i s)) (drop i s) ≡ u → word_behind (gap (drop i s)) u ≡ At g n → (g ≡ gap (drop i s)) × (n ≡ run (drop g (drop i s)))
+      go : (u : List ℕ) → drop (gap (drop i s)) (drop i s) ≡ u → word_behind (gap (drop i s)) u ≡ spaced g n → (g ≡ gap (drop i s)) × (n ≡ run (drop g (drop i s)))
       go [] q f = absurd (let z : ◌≡◌ {A = ℕ} 0 1 = cc in omega arith)
       go (b ∷ u) q f = found b u q (is_delimiter b) f
 
@@ -149,7 +149,7 @@ module _ (s : List ℕ) (i : ℕ) {g n : ℕ} (e : item_of (drop i s) ≡ At g n
       omega (arith, a, b, ap reach c)
 
 -- neither word nor bracket
-pub nothing_left : (s : List ℕ) (i : ℕ) {r : Item} → r ≡ item_of (drop i s) → r ≡ Stop → {q : Bracket} → BracketIs s i q → q ≡ Bracket.Absent → tokens (drop i s) ≡ []
+pub nothing_left : (s : List ℕ) (i : ℕ) {r : Option Item} → r ≡ item_of (drop i s) → r ≡ None → {q : Bracket} → BracketIs s i q → q ≡ Bracket.Absent → tokens (drop i s) ≡ []
 unfolding items
 nothing_left s i e d c f = go (tokens (drop i s)) (items_end s i e d) (subst (BracketSays s i) f c.says)
   where

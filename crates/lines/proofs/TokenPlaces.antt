@@ -11,9 +11,9 @@ use borrow.Author.Tests.{eq-eqb}
 use Rattle.kinds.specs.Words.{space, open_bracket, close_bracket}
 use Rattle.rules.proofs.Lists.{part_sized}
 use Rattle.lines.specs.declared.scan.Item.{Item}
-use Rattle.lines.specs.declared.scan.Item.TheVariants.{At, Stop}
+use Rattle.std.specs.Prelude.{Option, Some, None}
 use Rattle.lines.specs.Tokens.{Token, opening, closing, word, is_ending, is_delimiter, run, tokens_from, tokens, leading, behind, items}
-use Rattle.lines.specs.Shapes.{gap, word_behind, item_of}
+use Rattle.lines.specs.Shapes.{gap, spaced, word_behind, item_of}
 use Rattle.lines.proofs.Scanning.{run_le, gap_le}
 
 tokens_skip : (k : ℕ) (s : List ℕ) → tokens_from k s ≡ tokens (drop k s)
@@ -94,11 +94,11 @@ past_gap (c ∷ s) b t e f = go (eqb c space) refl e (past_gap s b t)
 abbrev pub NoWord : List Token → Type 0
 NoWord ts = (leading ts ≡ []) × (behind ts ≡ ts)
 
-no_word : (s : List ℕ) → item_of s ≡ Stop → NoWord (tokens s)
+no_word : (s : List ℕ) → item_of s ≡ None → NoWord (tokens s)
 unfolding item_of word_behind tokens tokens_from
 no_word s e = subst NoWord (sym (tokens_gap s)) (go (drop (gap s) s) (past_gap s) e)
   where
-    stopped : (b : ℕ) (t : List ℕ) → (b ≡ space → ⊥) → (x : Bool) → is_delimiter b ≡ x → cond x Stop (At (gap s) (run (b ∷ t))) ≡ Stop → First b → NoWord (tokens (b ∷ t))
+    stopped : (b : ℕ) (t : List ℕ) → (b ≡ space → ⊥) → (x : Bool) → is_delimiter b ≡ x → cond x None (spaced (gap s) (run (b ∷ t))) ≡ None → First b → NoWord (tokens (b ∷ t))
     stopped b t n x p q (is_end_lem f) = subst NoWord (sym (end_tokens b t f)) (refl, refl)
     stopped b t n x p q (is_space f) = absurd (n f)
     stopped b t n x p q (is_open f) = subst NoWord (sym (open_tokens b t f)) (refl, refl)
@@ -106,7 +106,7 @@ no_word s e = subst NoWord (sym (tokens_gap s)) (go (drop (gap s) s) (past_gap s
     stopped b t n true p q (is_other_lem f) = absurd (let z : true ≡ false = sym p ∙ f in let y : ◌≡◌ {A = ℕ} 0 1 = cc in omega arith)
     stopped b t n false p q (is_other_lem f) = absurd (let y : ◌≡◌ {A = ℕ} 0 1 = cc in omega arith)
 
-    go : (u : List ℕ) → ((b : ℕ) (t : List ℕ) → u ≡ b ∷ t → b ≡ space → ⊥) → word_behind (gap s) u ≡ Stop → NoWord (tokens u)
+    go : (u : List ℕ) → ((b : ℕ) (t : List ℕ) → u ≡ b ∷ t → b ≡ space → ⊥) → word_behind (gap s) u ≡ None → NoWord (tokens u)
     go [] n q = (refl, refl)
     go (b ∷ t) n q = stopped b t (n b t refl) (is_delimiter b) refl q (first_of b)
 
@@ -116,15 +116,21 @@ record WordAt (s : List ℕ) (g n : ℕ) : Type 0 where
   fits : g + n ≤ length s
   long : 1 ≤ n
 
-one_word : (s : List ℕ) (g n : ℕ) → item_of s ≡ At g n → WordAt s g n
+-- the numbers of an item
+pub item_parts : {g n a b : ℕ} → spaced g n ≡ spaced a b → (g ≡ a) × (n ≡ b)
+item_parts {g} {n} {a} {b} e =
+    let r : ◌≡◌ {A = Item} (record { gap = g; size = n }) (record { gap = a; size = b }) = cc in
+    (ap (λ (i : Item). i.gap) r, ap (λ (i : Item). i.size) r)
+
+one_word : (s : List ℕ) (g n : ℕ) → item_of s ≡ spaced g n → WordAt s g n
 unfolding item_of word_behind run
 one_word s g n e = go (drop (gap s) s) refl e
   where
-    found : (b : ℕ) (t : List ℕ) → drop (gap s) s ≡ b ∷ t → (x : Bool) → is_delimiter b ≡ x → cond x Stop (At (gap s) (run (b ∷ t))) ≡ At g n → WordAt s g n
+    found : (b : ℕ) (t : List ℕ) → drop (gap s) s ≡ b ∷ t → (x : Bool) → is_delimiter b ≡ x → cond x None (spaced (gap s) (run (b ∷ t))) ≡ spaced g n → WordAt s g n
     found b t p true q r = absurd (let y : ◌≡◌ {A = ℕ} 0 1 = cc in omega arith)
     found b t p false q r =
-        let i : gap s ≡ g = cc in
-        let j : run (b ∷ t) ≡ n = cc in
+        let i = (item_parts r).0 in
+        let j = (item_parts r).1 in
         let size : length (b ∷ t) ≡ length s - gap s = ap length (sym p) ∙ length-drop (gap s) s in
         let at : drop g s ≡ b ∷ t = ap (λ (k : ℕ). drop k s) (sym i) ∙ p in
         record {
@@ -136,20 +142,20 @@ one_word s g n e = go (drop (gap s) s) refl e
           long = let h : run (b ∷ t) ≡ suc (run t) = rw q in omega arith;
         }
 
-    go : (u : List ℕ) → drop (gap s) s ≡ u → word_behind (gap s) u ≡ At g n → WordAt s g n
+    go : (u : List ℕ) → drop (gap s) s ≡ u → word_behind (gap s) u ≡ spaced g n → WordAt s g n
     go [] p q = absurd (let y : ◌≡◌ {A = ℕ} 0 1 = cc in omega arith)
     go (b ∷ t) p q = found b t p (is_delimiter b) refl q
 
 -- at each step of a walk over words
-module _ (s : List ℕ) (i : ℕ) {r : Item} (e : r ≡ item_of (drop i s)) where
-  pub items_end : r ≡ Stop → items (drop i s) ≡ []
+module _ (s : List ℕ) (i : ℕ) {r : Option Item} (e : r ≡ item_of (drop i s)) where
+  pub items_end : r ≡ None → items (drop i s) ≡ []
   unfolding items
   items_end d = (no_word (drop i s) (sym e ∙ d)).0
 
-  pub behind_end : r ≡ Stop → behind (tokens (drop i s)) ≡ tokens (drop i s)
+  pub behind_end : r ≡ None → behind (tokens (drop i s)) ≡ tokens (drop i s)
   behind_end d = (no_word (drop i s) (sym e ∙ d)).1
 
-  module _ {g n : ℕ} (d : r ≡ At g n) where
+  module _ {g n : ℕ} (d : r ≡ spaced g n) where
     at_word : WordAt (drop i s) g n
     at_word = one_word (drop i s) g n (sym e ∙ d)
 

@@ -1,5 +1,5 @@
 -- What the code finds in the bytes, at their places.
-use Rattle.std.specs.Prelude.{ℕ, suc, ◌+◌, ◌≤◌, ◌<◌, ◌≡◌, Bool, false, true, cond, List, [], ◌∷◌, eqb, length, get_or, take, drop}
+use Rattle.std.specs.Prelude.{ℕ, suc, ◌+◌, ◌≤◌, ◌<◌, ◌≡◌, Bool, false, true, cond, List, [], ◌∷◌, eqb, length, get_or, take, drop, Option, Some, None}
 use Rattle.kinds.specs.declared.limits.Kind.{Kind}
 use Rattle.kinds.specs.declared.limits.Kind.TheVariants.{Plain, Preference}
 use Rattle.rules.specs.Lists.{some, is_empty}
@@ -9,13 +9,10 @@ use Rattle.names.specs.Names.{name_class}
 use Rattle.name_store.specs.NameStore.{same_bytes}
 use Rattle.kinds.specs.Words.{space, open_bracket, close_bracket, then_word}
 use Rattle.lines.specs.declared.scan.Item.{Item}
-use Rattle.lines.specs.declared.scan.Item.TheVariants.{At, Stop}
-use Rattle.lines.specs.declared.scan.Place.{Place}
 use Rattle.lines.specs.declared.scan.Bracket.{Bracket}
 use Rattle.lines.specs.declared.forms.NameFit.{NameFit}
 use Rattle.lines.specs.declared.forms.NameFit.TheVariants as Fit
 use Rattle.lines.specs.declared.forms.Names.{Names}
-use Rattle.lines.specs.declared.forms.Names.TheVariants as Found
 use Rattle.lines.specs.declared.forms.Keyword.{Keyword}
 use Rattle.lines.specs.declared.forms.Keyword.TheVariants.{Atoms, Min, Vary, Fix}
 use Rattle.lines.specs.declared.forms.DeclaredShape.{DeclaredShape}
@@ -34,12 +31,16 @@ unfoldable pub gap : List ℕ → ℕ
 gap [] = 0
 gap (b ∷ s) = cond (eqb b space) (suc (gap s)) 0
 
--- the word at the front, behind so many spaces
-unfoldable pub word_behind : ℕ → List ℕ → Item
-word_behind g [] = Stop
-word_behind g (b ∷ s) = cond (is_delimiter b) Stop (At g (run (b ∷ s)))
+-- a word of n bytes behind g spaces
+abbrev pub spaced : ℕ → ℕ → Option Item
+spaced g n = Some (record { gap = g; size = n })
 
-unfoldable pub item_of : List ℕ → Item
+-- the word at the front, behind so many spaces
+unfoldable pub word_behind : ℕ → List ℕ → Option Item
+word_behind g [] = None
+word_behind g (b ∷ s) = cond (is_delimiter b) None (spaced g (run (b ∷ s)))
+
+unfoldable pub item_of : List ℕ → Option Item
 item_of s = word_behind (gap s) (drop (gap s) s)
 
 -- a word that no delimiter cuts
@@ -71,18 +72,18 @@ pub record Onward (s : List ℕ) (at p : ℕ) : Type 0 where
   pub inside : p ≤ length s
   pub onward : at ≤ p
 
-abbrev pub ClosedSays : List ℕ → ℕ → Place → Type 0
-ClosedSays s at (Place.At p) = Onward s at p × (tokens (drop at s) ≡ closing ∷ tokens (drop p s))
-ClosedSays s at Place.Absent = is_closing (tokens (drop at s)) ≡ false
+abbrev pub ClosedSays : List ℕ → ℕ → Option ℕ → Type 0
+ClosedSays s at (Some p) = Onward s at p × (tokens (drop at s) ≡ closing ∷ tokens (drop p s))
+ClosedSays s at None = is_closing (tokens (drop at s)) ≡ false
 
-pub record ClosedIs (s : List ℕ) (at : ℕ) (r : Place) : Type 0 where
+pub record ClosedIs (s : List ℕ) (at : ℕ) (r : Option ℕ) : Type 0 where
   pub says : ClosedSays s at r
 
-abbrev pub OpenedSays : List ℕ → ℕ → List ℕ → Place → Type 0
-OpenedSays s at w (Place.At p) = Onward s at p × (opened_of (tokens (drop at s)) ≡ opened w (tokens (drop p s)))
-OpenedSays s at w Place.Absent = opens_with w (opened_of (tokens (drop at s))) ≡ false
+abbrev pub OpenedSays : List ℕ → ℕ → List ℕ → Option ℕ → Type 0
+OpenedSays s at w (Some p) = Onward s at p × (opened_of (tokens (drop at s)) ≡ opened w (tokens (drop p s)))
+OpenedSays s at w None = opens_with w (opened_of (tokens (drop at s))) ≡ false
 
-pub record OpenedIs (s : List ℕ) (at : ℕ) (w : List ℕ) (r : Place) : Type 0 where
+pub record OpenedIs (s : List ℕ) (at : ℕ) (w : List ℕ) (r : Option ℕ) : Type 0 where
   pub says : OpenedSays s at w r
 
 -- behind the spaces at a place stands a byte
@@ -125,11 +126,11 @@ pub record Listed (kind : Kind) (s : List ℕ) (from end count : ℕ) (refused :
   pub is_refused : refused ≡ some (refused_name kind) (items (drop from s))
 
 -- no name up to the bracket is wrong, or no such list stands there
-abbrev pub NamesSay : Kind → List ℕ → ℕ → Names → Type 0
-NamesSay kind s from (Found.List end count refused) = Listed kind s from end count refused
-NamesSay kind s from Found.Broken = (xs : List (List ℕ)) (rest : List Token) → split_names (tokens (drop from s)) ≡ split xs rest → are_names xs ≡ false
+abbrev pub NamesSay : Kind → List ℕ → ℕ → Option Names → Type 0
+NamesSay kind s from (Some names) = Listed kind s from names.end names.count names.refused
+NamesSay kind s from None = (xs : List (List ℕ)) (rest : List Token) → split_names (tokens (drop from s)) ≡ split xs rest → are_names xs ≡ false
 
-pub record NamesAre (kind : Kind) (s : List ℕ) (from : ℕ) (r : Names) : Type 0 where
+pub record NamesAre (kind : Kind) (s : List ℕ) (from : ℕ) (r : Option Names) : Type 0 where
   pub says : NamesSay kind s from r
 
 -- the same behind a bracket and its word
@@ -140,11 +141,11 @@ pub record ListedBehind (kind : Kind) (w s : List ℕ) (at end : ℕ) (refused :
   pub are_names_lem : are_names names ≡ true
   pub is_refused : refused ≡ some (refused_name kind) names
 
-abbrev pub ListSays : Kind → List ℕ → List ℕ → ℕ → Names → Type 0
-ListSays kind w s at (Found.List end count refused) = ListedBehind kind w s at end refused
-ListSays kind w s at Found.Broken = (xs : List (List ℕ)) (rest : List Token) → split_list w (tokens (drop at s)) ≡ split xs rest → are_names xs ≡ false
+abbrev pub ListSays : Kind → List ℕ → List ℕ → ℕ → Option Names → Type 0
+ListSays kind w s at (Some names) = ListedBehind kind w s at names.end names.refused
+ListSays kind w s at None = (xs : List (List ℕ)) (rest : List Token) → split_list w (tokens (drop at s)) ≡ split xs rest → are_names xs ≡ false
 
-pub record ListIs (kind : Kind) (w s : List ℕ) (at : ℕ) (r : Names) : Type 0 where
+pub record ListIs (kind : Kind) (w s : List ℕ) (at : ℕ) (r : Option Names) : Type 0 where
   pub says : ListSays kind w s at r
 
 abbrev pub word_of : Keyword → Word

@@ -5,7 +5,7 @@ ghost use Rattle.lines.specs.Forms.{opened_of, declared_form, rule_form, opened_
 ghost use Rattle.lines.specs.Shapes.{WholeWord, is_closing_last, name_fit, NamesAre, ListIs, word_of, ShapeIs};
 
 use crate::scan;
-use crate::scan::{Item, Place};
+use crate::scan::Item;
 use kinds::limits::Kind;
 use names::forms::NameClass;
 
@@ -17,15 +17,12 @@ pub enum NameFit {
     Wrong,
 }
 
-// Names up to a closing bracket: where it ends, their number, and whether one of them is refused; or no such list.
+// Names up to a closing bracket: where it ends, their number, and whether one of them is refused.
 #[derive(Clone, Copy)]
-pub enum Names {
-    List {
-        end: usize,
-        count: usize,
-        refused: bool,
-    },
-    Broken,
+pub struct Names {
+    pub end: usize,
+    pub count: usize,
+    pub refused: bool,
 }
 
 // The word of a line that declares atoms.
@@ -70,8 +67,8 @@ pub fn name_fit(name: &[u8], kind: Kind) -> NameFit
     }
 }
 
-// The names from `from` on.
-fn names_at(s: &[u8], from: usize, kind: Kind) -> Names
+// The names from `from` on, if they are a list.
+fn names_at(s: &[u8], from: usize, kind: Kind) -> Option<Names>
     requires { from ≤ length s.now }
     ensures { NamesAre kind s.now from result }
 {
@@ -79,15 +76,13 @@ fn names_at(s: &[u8], from: usize, kind: Kind) -> Names
     let mut count: usize = 0;
     let mut refused = false;
     loop {
-        let Item::At { gap, size } = scan::item_at(s, end) else {
-            let Place::At(end) = scan::closed_at(s, end) else {
-                return Names::Broken;
-            };
-            return Names::List {
+        let Some(Item { gap, size }) = scan::item_at(s, end) else {
+            let end = scan::closed_at(s, end)?;
+            return Some(Names {
                 end,
                 count,
                 refused,
-            };
+            });
         };
         let start = end + gap;
         let to = start + size;
@@ -96,7 +91,7 @@ fn names_at(s: &[u8], from: usize, kind: Kind) -> Names
             NameFit::Refused => {
                 refused = true;
             }
-            NameFit::Wrong => return Names::Broken,
+            NameFit::Wrong => return None,
         }
         count += 1;
         end = to;
@@ -104,13 +99,11 @@ fn names_at(s: &[u8], from: usize, kind: Kind) -> Names
 }
 
 // A bracket with its word, and the names after it.
-fn list_at(s: &[u8], at: usize, word: &[u8], kind: Kind) -> Names
+fn list_at(s: &[u8], at: usize, word: &[u8], kind: Kind) -> Option<Names>
     requires { (at ≤ length s.now) × WholeWord word.now }
     ensures { ListIs kind word.now s.now at result }
 {
-    let Place::At(from) = scan::opened_at(s, at, word) else {
-        return Names::Broken;
-    };
+    let from = scan::opened_at(s, at, word)?;
     names_at(s, from, kind)
 }
 
@@ -119,20 +112,15 @@ fn declared_shape(line: &[u8], from: usize, kind: Kind, word: Keyword) -> Shape
     requires { from ≤ length line.now }
     ensures { ShapeIs kind line.now (named (declared_form (word_of word) (tokens (drop from line.now)))) result }
 {
-    let Names::List {
-        end,
-        count,
-        refused,
-    } = names_at(line, from, kind)
-    else {
+    let Some(names) = names_at(line, from, kind) else {
         return Shape::Other;
     };
-    if scan::nothing_at(line, end) {
+    if scan::nothing_at(line, names.end) {
         return Shape::Declares(DeclaredShape {
             word,
             from,
-            count,
-            refused,
+            count: names.count,
+            refused: names.refused,
         });
     }
     Shape::Other
@@ -152,7 +140,7 @@ pub fn closes_line(line: &[u8], at: usize) -> bool
     requires { at ≤ length line.now }
     ensures { result ≡ is_closing_last (tokens (drop at line.now)) }
 {
-    let Place::At(end) = scan::closed_at(line, at) else {
+    let Some(end) = scan::closed_at(line, at) else {
         return false;
     };
     scan::nothing_at(line, end)
@@ -163,32 +151,17 @@ fn rule_shape(line: &[u8], from: usize, kind: Kind) -> Shape
     requires { from ≤ length line.now }
     ensures { ShapeIs kind line.now (named (rule_form (tokens (drop from line.now)))) result }
 {
-    let Names::List {
-        end: head_end,
-        count: _,
-        refused: in_head,
-    } = list_at(line, from, b"head", kind)
-    else {
+    let Some(head) = list_at(line, from, b"head", kind) else {
         return Shape::Other;
     };
-    let Names::List {
-        end: body_end,
-        count: _,
-        refused: in_body,
-    } = list_at(line, head_end, b"body", kind)
-    else {
+    let Some(body) = list_at(line, head.end, b"body", kind) else {
         return Shape::Other;
     };
-    let Names::List {
-        end: not_end,
-        count: _,
-        refused: in_not,
-    } = list_at(line, body_end, b"not", kind)
-    else {
+    let Some(not) = list_at(line, body.end, b"not", kind) else {
         return Shape::Other;
     };
-    if closes_line(line, not_end) {
-        let refused = any(in_head, in_body, in_not);
+    if closes_line(line, not.end) {
+        let refused = any(head.refused, body.refused, not.refused);
         return Shape::Rule { refused };
     }
     Shape::Other
@@ -198,19 +171,19 @@ fn rule_shape(line: &[u8], from: usize, kind: Kind) -> Shape
 fn opened_shape(line: &[u8], kind: Kind) -> Shape
     ensures { ShapeIs kind line.now (named (opened_form (opened_of (tokens line.now)))) result }
 {
-    if let Place::At(from) = scan::opened_at(line, 0, b"rule") {
+    if let Some(from) = scan::opened_at(line, 0, b"rule") {
         return rule_shape(line, from, kind);
     }
-    if let Place::At(from) = scan::opened_at(line, 0, b"min") {
+    if let Some(from) = scan::opened_at(line, 0, b"min") {
         return declared_shape(line, from, kind, Keyword::Min);
     }
-    if let Place::At(from) = scan::opened_at(line, 0, b"vary") {
+    if let Some(from) = scan::opened_at(line, 0, b"vary") {
         return declared_shape(line, from, kind, Keyword::Vary);
     }
-    if let Place::At(from) = scan::opened_at(line, 0, b"fix") {
+    if let Some(from) = scan::opened_at(line, 0, b"fix") {
         return declared_shape(line, from, kind, Keyword::Fix);
     }
-    if let Place::At(from) = scan::opened_at(line, 0, b"atoms") {
+    if let Some(from) = scan::opened_at(line, 0, b"atoms") {
         return declared_shape(line, from, kind, Keyword::Atoms);
     }
     Shape::Other

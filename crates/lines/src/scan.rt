@@ -7,18 +7,11 @@ ghost use Rattle.lines.specs.Lines.{line_length, is_ended};
 ghost use Rattle.lines.specs.Tokens.{is_ending, is_delimiter, run, tokens};
 ghost use Rattle.lines.specs.Shapes.{begins, gap, item_of, WholeWord, ClosedIs, OpenedIs, BracketIs};
 
-// A word behind so many spaces, or anything else.
+// A word of `size` bytes behind `gap` spaces.
 #[derive(Clone, Copy)]
-pub enum Item {
-    At { gap: usize, size: usize },
-    Stop,
-}
-
-// The place behind what is looked for, or that something else stands there.
-#[derive(Clone, Copy)]
-pub enum Place {
-    At(usize),
-    Absent,
+pub struct Item {
+    pub gap: usize,
+    pub size: usize,
 }
 
 // A bracket by its place, or anything else.
@@ -125,23 +118,23 @@ pub fn gap_at(s: &[u8], at: usize) -> usize
     i - at
 }
 
-// The item at `at`.
-pub fn item_at(s: &[u8], at: usize) -> Item
+// The item at `at`, unless anything else stands there.
+pub fn item_at(s: &[u8], at: usize) -> Option<Item>
     requires { at ≤ length s.now }
     ensures { result ≡ item_of (drop at s.now) }
 {
     let gap = gap_at(s, at);
     let start = at + gap;
     if s.len() <= start {
-        return Item::Stop;
+        return None;
     }
     if is_delimiter(s[start]) {
-        return Item::Stop;
+        return None;
     }
-    Item::At {
+    Some(Item {
         gap,
         size: run_at(s, start),
-    }
+    })
 }
 
 // Whether nothing that counts stands from `at` on.
@@ -157,18 +150,18 @@ pub fn nothing_at(s: &[u8], at: usize) -> bool
 }
 
 // The place behind the closing bracket at `at`.
-pub fn closed_at(s: &[u8], at: usize) -> Place
+pub fn closed_at(s: &[u8], at: usize) -> Option<usize>
     requires { at ≤ length s.now }
     ensures { ClosedIs s.now at result }
 {
     let i = at + gap_at(s, at);
     if s.len() <= i {
-        return Place::Absent;
+        return None;
     }
     if s[i] == b')' {
-        return Place::At(i + 1);
+        return Some(i + 1);
     }
-    Place::Absent
+    None
 }
 
 // The bracket at `at`.
@@ -222,20 +215,20 @@ fn word_at(s: &[u8], at: usize, word: &[u8]) -> bool
 }
 
 // The place behind the opening bracket at `at` and its word.
-pub fn opened_at(s: &[u8], at: usize, word: &[u8]) -> Place
+pub fn opened_at(s: &[u8], at: usize, word: &[u8]) -> Option<usize>
     requires { (at ≤ length s.now) × WholeWord word.now }
     ensures { OpenedIs s.now at word.now result }
 {
     let i = at + gap_at(s, at);
     if s.len() <= i {
-        return Place::Absent;
+        return None;
     }
     if s[i] != b'(' {
-        return Place::Absent;
+        return None;
     }
     let start = i + 1 + gap_at(s, i + 1);
     if word_at(s, start, word) {
-        return Place::At(start + word.len());
+        return Some(start + word.len());
     }
-    Place::Absent
+    None
 }

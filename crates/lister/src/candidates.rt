@@ -188,8 +188,5 @@ pub fn next_masks(
     if budget < units {
         return NextState::Spent { units: budget };
     }
-    NextState::State {
-        set: found,
-        units: units,
-    }
+    NextState::State { set: found, units }
 }

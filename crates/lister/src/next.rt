@@ -13,7 +13,7 @@ use groups::grouping::fill_tables;
 use groups::plan::Plan;
 use kinds::limits::{Kind, Preference};
 use masks::answers_at::next_at;
-use masks::guard::{Guard, check_call};
+use masks::guard::check_call;
 use masks::masks::fill_masks;
 use walks::answers::NextState;
 
@@ -70,9 +70,8 @@ fn next_of(words: &[u16], start: u64, budget: u64) -> NextState
 pub fn next_state(words: &[u16], start: u64, budget: u64) -> NextState
     ensures { result ≡ next_answer words.now start budget }
 {
-    let guard = check_call(words, Kind::Preference, start, 1, budget);
-    match guard {
-        Guard::Passed => next_of(words, start, budget),
-        Guard::Refused { refusal } => NextState::Refused { refusal: refusal },
+    match check_call(words, Kind::Preference, start, 1, budget) {
+        Ok(()) => next_of(words, start, budget),
+        Err(refusal) => NextState::Refused { refusal },
     }
 }

@@ -6,7 +6,7 @@ ghost use Rattle.places.specs.Places.{place as place_in};
 ghost use Rattle.walks.specs.Answers.{place_answer};
 
 use kinds::limits::Kind;
-use masks::guard::{Guard, check_call};
+use masks::guard::check_call;
 use places::turning::turned;
 use walks::answers::Place;
 
@@ -24,11 +24,6 @@ fn place_of(words: &[u16], set: u64) -> u64
 pub fn place(words: &[u16], set: u64) -> Place
     ensures { result ≡ place_answer words.now set }
 {
-    let guard = check_call(words, Kind::Preference, set, 0, 0);
-    match guard {
-        Guard::Passed => Place::At {
-            place: place_of(words, set),
-        },
-        Guard::Refused { refusal } => Place::Refused { refusal: refusal },
-    }
+    check_call(words, Kind::Preference, set, 0, 0)?;
+    Ok(place_of(words, set))
 }

@@ -61,9 +61,9 @@ module _ (s : ℕ) (cs ws : List ℕ) (e : length ws ≡ length cs) where
   unfolding first_m
   first_cons i h = let k : i < length ws = omega arith in rw (drop-cons cs i 0 h, drop-cons ws i 0 k)
 
-  pub first_none : (i : ℕ) → length cs ≤ i → first_m s cs ws ≡ i + first_m s (drop i cs) (drop i ws) → i ≡ first_m s cs ws
+  pub first_none : (i : ℕ) → i ≤ length cs → length cs ≤ i → first_m s cs ws ≡ i + first_m s (drop i cs) (drop i ws) → length cs ≡ first_m s cs ws
   unfolding first_m
-  first_none i g q =
+  first_none i l g q =
       let r : first_m s cs ws ≡ i + first_m s [] (drop i ws) = rw (drop_of_length-le cs g) at q in
       omega arith
 

@@ -15,7 +15,7 @@ pub fn verdict_at(verdict: Verdict, atoms: usize) -> Verdict
     };
     Verdict::Beaten {
         set: turned(place, atoms),
-        units: units,
+        units,
     }
 }
 
@@ -28,6 +28,6 @@ pub fn next_at(next: NextState, atoms: usize) -> NextState
     };
     NextState::State {
         set: turned(place, atoms),
-        units: units,
+        units,
     }
 }

@@ -1,65 +1,41 @@
 // The caller's faults (document 01, "Who can be turned back"): refusals 10, 11, 12, 13 in this order.
-ghost use Rattle.std.specs.Prelude.{◌≡◌, ◌+◌, ◌≤◌, ltb};
+ghost use Rattle.std.specs.Prelude.{◌≡◌, ◌+◌, ◌≤◌, Ok, Err, ltb};
 ghost use Rattle.stores.specs.RuleStore.{is_of};
 ghost use Rattle.walks.specs.Answers.{guarded};
-ghost use Rattle.masks.specs.declared.guard.Guard.TheVariants.{Passed as GuardPassed, Refused as GuardRefused};
 
-use crate::masks::wide;
 use kinds::limits::{Kind, Walk};
 use kinds::refusals::Refusal;
 use store_check::store_forms::check_rules;
-use stores::rule_store::RuleStore;
 
-#[derive(Clone, Copy)]
-pub enum Guard {
-    Passed,
-    Refused { refusal: Refusal },
-}
-
-fn is_of(found: RuleStore, kind: Kind) -> bool
+fn is_of(found: Option<Kind>, kind: Kind) -> bool
     ensures { result ≡ is_of kind found }
 {
-    let RuleStore::Of(other) = found else {
-        return false;
-    };
-    match kind {
-        Kind::Plain => match other {
-            Kind::Plain => true,
-            Kind::Preference => false,
-        },
-        Kind::Preference => match other {
-            Kind::Plain => false,
-            Kind::Preference => true,
-        },
-    }
+    found == Some(kind)
 }
 
 // Whether the store is of the kind, has few enough atoms, the number is below 2^n + extra and the budget allowed.
-pub fn check_call(words: &[u16], kind: Kind, number: u64, extra: u64, budget: u64) -> Guard
+pub fn check_call(
+    words: &[u16],
+    kind: Kind,
+    number: u64,
+    extra: u64,
+    budget: u64,
+) -> Result<(), Refusal>
     requires { extra ≤ 1 }
-    ensures { result ≡ guarded GuardRefused kind words.now (λ p. ltb number (p + extra)) budget GuardPassed }
+    ensures { result ≡ guarded Err kind words.now (λ p. ltb number (p + extra)) budget (Ok tt) }
 {
-    let found = check_rules(words);
-    if !is_of(found, kind) {
-        return Guard::Refused {
-            refusal: Refusal::RuleStore,
-        };
+    if !is_of(check_rules(words), kind) {
+        return Err(Refusal::RuleStore);
     }
-    let n = wide(words[1]);
+    let n = words[1] as usize;
     if Walk::ATOMS < n {
-        return Guard::Refused {
-            refusal: Refusal::TooManyAtoms,
-        };
+        return Err(Refusal::TooManyAtoms);
     }
     if (1u64 << n) + extra <= number {
-        return Guard::Refused {
-            refusal: Refusal::SetNumber,
-        };
+        return Err(Refusal::SetNumber);
     }
     if Walk::BUDGET < budget {
-        return Guard::Refused {
-            refusal: Refusal::Budget,
-        };
+        return Err(Refusal::Budget);
     }
-    Guard::Passed
+    Ok(())
 }

@@ -26,12 +26,6 @@ pub struct Sizes {
     pub fixed: u64,
 }
 
-pub fn wide(x: u16) -> usize
-    ensures { result ≡ x }
-{
-    x as usize
-}
-
 // One bit.
 pub fn bit_of(atom: usize) -> u64
     requires { atom < walk_atoms }
@@ -47,8 +41,8 @@ fn mask_of(atoms: &[u16], n: usize) -> u64
     ensures { result ≡ place_mask n atoms.now }
 {
     let mut m: u64 = 0;
-    for i in 0..atoms.len() {
-        m |= bit_of(n - 1 - wide(atoms[i]));
+    for atom in atoms {
+        m |= bit_of(n - 1 - *atom as usize);
     }
     m
 }
@@ -102,14 +96,12 @@ pub fn first_broken(care: &[u64], want: &[u64], set: u64) -> usize
     requires { length want.now ≡ length care.now }
     ensures { result ≡ first_m set care.now want.now }
 {
-    let mut i = 0;
-    while i < care.len() {
+    for i in 0..care.len() {
         if set & care[i] == want[i] {
             return i;
         }
-        i += 1;
     }
-    i
+    care.len()
 }
 
 // Puts an atom into the mask of its class; answers its bit where it is fixed.
@@ -139,8 +131,8 @@ fn fill_classes(words: &[u16], classes: &mut [u64]) -> u64
     ensures value { result ≡ place_mask (length words.now) (of_class words.now fixed_word) }
 {
     let mut fixed: u64 = 0;
-    for i in 0..words.len() {
-        fixed |= note_role(words[i], bit_of(words.len() - 1 - i), classes);
+    for (i, word) in words.iter().enumerate() {
+        fixed |= note_role(*word, bit_of(words.len() - 1 - i), classes);
     }
     fixed
 }
@@ -153,14 +145,14 @@ pub fn fill_masks(words: &[u16], care: &mut [u64], want: &mut [u64], classes: &m
     requires care_len { (length care.old ≡ rule_limit KindPreference) × (length want.old ≡ rule_limit KindPreference) × (classes.old ≡ replicate class_limit 0) }
     ensures { MasksOf (decode words.now) care.new want.new classes.new result }
 {
-    let n = wide(words[1]);
-    let rules = wide(words[3]);
+    let n = words[1] as usize;
+    let rules = words[3] as usize;
     let first = 4 + n;
     let fixed = fill_classes(&words[4..first], classes);
     fill_rules(&words[first..], rules, n, care, want);
     Sizes {
         atoms: n,
-        rules: rules,
-        fixed: fixed,
+        rules,
+        fixed,
     }
 }

@@ -15,8 +15,7 @@ use Rattle.rules.proofs.Lists.{none_left}
 use Rattle.names.specs.Names.{allowed}
 use Rattle.name_store.specs.NameStore.{name_bytes, encode_names, first_name, decode_names, are_names_from, are_names, among}
 use Rattle.name_store.specs.NameIndex.{name_end, buckets, name_hash, Indexed}
-use Rattle.name_store.specs.declared.index.Found.{Found}
-use Rattle.name_store.specs.declared.index.Found.TheVariants.{At, Missing}
+use Rattle.std.specs.Prelude.{Option, Some, None}
 use Rattle.name_store.proofs.NameStores.{allowed_short, names_cons, not_seen}
 use Rattle.name_store.proofs.NamePlaces.{length_decode, first_byte}
 use Rattle.name_store.proofs.NameEntries.{index_empty, placed_names_lem, encode_last, entered}
@@ -25,11 +24,11 @@ use Rattle.name_store.proofs.NameEntries.{index_empty, placed_names_lem, encode_
 abbrev fits : List ℕ → Bool
 fits bs = leb 1 (length bs) && leb (1 + get_or bs 0 0) (length bs)
 
-ended : (b : Bool) (t : ℕ) → cond b (At t) Missing ≡ Missing → b ≡ false
+ended : (b : Bool) (t : ℕ) → cond b (Some t) None ≡ None → b ≡ false
 ended true t e = absurd (let z : ◌≡◌ {A = ℕ} 0 1 = cc in omega arith)
 ended false t e = refl
 
-goes_on : (b : Bool) (t : ℕ) {to : ℕ} → cond b (At t) Missing ≡ At to → (b ≡ true) × (to ≡ t)
+goes_on : (b : Bool) (t : ℕ) {to : ℕ} → cond b (Some t) None ≡ Some to → (b ≡ true) × (to ≡ t)
 goes_on true t e = (refl, cc)
 goes_on false t e = absurd (let z : ◌≡◌ {A = ℕ} 0 1 = cc in omega arith)
 
@@ -77,21 +76,21 @@ module _ {kind : Kind} {bytes : List ℕ} {atoms : ℕ} {starts₀ firsts₀ lin
   pub check_room : atom < atoms → (atom < length starts) × (atom < length links) × (atom + 1 < 65536) × (at < 65536)
   check_room lt = omega (arith, k)
 
-  module _ (lt : atom < atoms) {r : Found} (is : r ≡ name_end bytes at) where
+  module _ (lt : atom < atoms) {r : Option ℕ} (is : r ≡ name_end bytes at) where
     abbrev names : List (List ℕ)
     names = decode_names atom bytes
 
     one_more : atoms - atom ≡ suc (atoms - (atom + 1))
     one_more = omega arith
 
-    pub check_short : r ≡ Missing → false ≡ are_names kind atoms bytes
+    pub check_short : r ≡ None → false ≡ are_names kind atoms bytes
     unfolding name_end
     check_short e =
         let none : fits (drop at bytes) ≡ false = ended (fits (drop at bytes)) (at + 1 + get_or bytes at 0) (sym is ∙ e) in
         sym (rw none at (names_cons kind names (atoms - (atom + 1)) (drop at bytes) (first_name (drop at bytes)) (drop (1 + get_or (drop at bytes) 0 0) (drop at bytes)) refl refl))
         ∙ sym (ap (λ n. are_names_from kind names n (drop at bytes)) one_more) ∙ k.left
 
-    module _ {to : ℕ} (ends : r ≡ At to) where
+    module _ {to : ℕ} (ends : r ≡ Some to) where
       fit : (fits (drop at bytes) ≡ true) × (to ≡ at + 1 + get_or bytes at 0)
       unfolding name_end
       fit = goes_on (fits (drop at bytes)) (at + 1 + get_or bytes at 0) (sym is ∙ ends)

@@ -8,7 +8,6 @@ ghost use Rattle.name_store.specs.NameIndex.{buckets, Indexed};
 
 use kinds::limits::{Kind, Plain};
 use name_store::index;
-use name_store::index::Found;
 use names::forms;
 
 pub fn is_allowed(kind: Kind, name: &[u8]) -> bool
@@ -32,7 +31,7 @@ pub fn index_names(
 {
     let mut at: usize = 0;
     for atom in 0..atoms {
-        let Found::At(to) = index::name_end(bytes, at) else {
+        let Some(to) = index::name_end(bytes, at) else {
             return false;
         };
         let from = at + 1;

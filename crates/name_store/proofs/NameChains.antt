@@ -15,7 +15,7 @@ use Rattle.rules.proofs.Booleans.{T-or, is_true_lem, is_false}
 use Rattle.rules.proofs.Lists.{all_at}
 use Rattle.name_store.specs.NameStore.{decode_names, same_bytes}
 use Rattle.name_store.specs.NameIndex.{found_from, found, name_hash, hashes, last_with, Indexed}
-use Rattle.name_store.specs.declared.index.Found.TheVariants.{At, Missing}
+use Rattle.std.specs.Prelude.{Option, Some, None}
 use Rattle.name_store.proofs.NameStores.{same_law, same_equal}
 use Rattle.name_store.proofs.ByteLoops.{hash_small}
 use Rattle.name_store.proofs.NamePlaces.{length_decode}
@@ -61,51 +61,51 @@ last_ext f g h (suc i) e = ap₂ (λ (a b : ℕ). cond (eqb a h) (suc i) b) (e i
 module _ (x : List ℕ) where
   skip : (i : ℕ) (y : List ℕ) (names : List (List ℕ)) → (y ≡ x → ⊥) → found_from i x (y ∷ names) ≡ found_from (suc i) x names
   unfolding found_from
-  skip i y names h = ap (λ b. cond b (At i) (found_from (suc i) x names)) (is_false (same_bytes y x) (λ t. h (same_equal y x t)))
+  skip i y names h = ap (λ b. cond b (Some i) (found_from (suc i) x names)) (is_false (same_bytes y x) (λ t. h (same_equal y x t)))
 
-  pub found_none : (i : ℕ) (names : List (List ℕ)) → ((k : ℕ) → k < length names → get_or names k [] ≡ x → ⊥) → found_from i x names ≡ Missing
+  pub found_none : (i : ℕ) (names : List (List ℕ)) → ((k : ℕ) → k < length names → get_or names k [] ≡ x → ⊥) → found_from i x names ≡ None
   unfolding found_from
   found_none i [] h = refl
   found_none i (y ∷ names) h = skip i y names (h 0 (omega arith)) ∙ found_none (suc i) names (λ k l e. h (suc k) (omega arith) e)
 
-  pub found_at : (i : ℕ) (names : List (List ℕ)) (j : ℕ) → Distinct names → j < length names → get_or names j [] ≡ x → found_from i x names ≡ At (i + j)
+  pub found_at : (i : ℕ) (names : List (List ℕ)) (j : ℕ) → Distinct names → j < length names → get_or names j [] ≡ x → found_from i x names ≡ Some (i + j)
   unfolding found_from
   found_at i [] j d l e = absurd (omega arith)
-  found_at i (y ∷ names) zero d l e = ap (λ b. cond b (At i) (found_from (suc i) x names)) (is_true_lem (same_bytes y x) ((same_law y x).1 e)) ∙ ap At (sym (add-zero i))
+  found_at i (y ∷ names) zero d l e = ap (λ b. cond b (Some i) (found_from (suc i) x names)) (is_true_lem (same_bytes y x) ((same_law y x).1 e)) ∙ ap Some (sym (add-zero i))
   found_at i (y ∷ names) (suc j) d l e =
       let other : y ≢ get_or names j [] = all_at (λ z. y ≢ z) [] names d.0 j (omega arith) in
       let s : suc i + j ≡ i + suc j = omega arith in
-      skip i y names (λ k. other (k ∙ sym e)) ∙ found_at (suc i) names j d.1 (omega arith) e ∙ ap At s
+      skip i y names (λ k. other (k ∙ sym e)) ∙ found_at (suc i) names j d.1 (omega arith) e ∙ ap Some s
 
   -- a found number bears the name
-  pub found_name : (i : ℕ) (names : List (List ℕ)) {j : ℕ} → found_from i x names ≡ At j → (k : ℕ) × (j ≡ i + k) × (k < length names) × (get_or names k [] ≡ x)
+  pub found_name : (i : ℕ) (names : List (List ℕ)) {j : ℕ} → found_from i x names ≡ Some j → (k : ℕ) × (j ≡ i + k) × (k < length names) × (get_or names k [] ≡ x)
   unfolding found_from
   found_name i [] e = absurd (let z : ◌≡◌ {A = ℕ} 0 1 = cc in omega arith)
-  found_name i (y ∷ names) {j} e = go (same_bytes y x) refl e (λ (q : found_from (suc i) x names ≡ At j). found_name (suc i) names q)
+  found_name i (y ∷ names) {j} e = go (same_bytes y x) refl e (λ (q : found_from (suc i) x names ≡ Some j). found_name (suc i) names q)
     where
-      go : (b : Bool) → same_bytes y x ≡ b → cond b (At i) (found_from (suc i) x names) ≡ At j
-          → (found_from (suc i) x names ≡ At j → (k : ℕ) × (j ≡ suc i + k) × (k < length names) × (get_or names k [] ≡ x))
+      go : (b : Bool) → same_bytes y x ≡ b → cond b (Some i) (found_from (suc i) x names) ≡ Some j
+          → (found_from (suc i) x names ≡ Some j → (k : ℕ) × (j ≡ suc i + k) × (k < length names) × (get_or names k [] ≡ x))
           → (k : ℕ) × (j ≡ i + k) × (k < suc (length names)) × (get_or (y ∷ names) k [] ≡ x)
       go true t e r = let q : i ≡ j = cc in (0, omega arith, omega arith, same_equal y x (subst T (sym t) tt))
       go false t e r = let w = r e in (suc w.0, omega arith, omega arith, w.3)
 
   -- a missing name differs from each
-  pub missing_differs : (i : ℕ) (names : List (List ℕ)) → found_from i x names ≡ Missing → All (λ y. x ≢ y) names
+  pub missing_differs : (i : ℕ) (names : List (List ℕ)) → found_from i x names ≡ None → All (λ y. x ≢ y) names
   unfolding found_from
   missing_differs i [] e = tt
   missing_differs i (y ∷ names) e = go (same_bytes y x) refl e (missing_differs (suc i) names)
     where
-      go : (b : Bool) → same_bytes y x ≡ b → cond b (At i) (found_from (suc i) x names) ≡ Missing → (found_from (suc i) x names ≡ Missing → All (λ z. x ≢ z) names) → (x ≢ y) × All (λ z. x ≢ z) names
+      go : (b : Bool) → same_bytes y x ≡ b → cond b (Some i) (found_from (suc i) x names) ≡ None → (found_from (suc i) x names ≡ None → All (λ z. x ≢ z) names) → (x ≢ y) × All (λ z. x ≢ z) names
       go true t e r = absurd (let z : ◌≡◌ {A = ℕ} 0 1 = cc in omega arith)
       go false t e r = (λ k. let z : ◌≡◌ {A = Bool} true false = sym (is_true_lem (same_bytes y x) ((same_law y x).1 (sym k))) ∙ t in let w : ◌≡◌ {A = ℕ} 0 1 = cc in omega arith, r e)
 
   -- a found name is among them
-  pub found_among : (i : ℕ) (names : List (List ℕ)) {j : ℕ} → found_from i x names ≡ At j → T (some (same_bytes x) names)
+  pub found_among : (i : ℕ) (names : List (List ℕ)) {j : ℕ} → found_from i x names ≡ Some j → T (some (same_bytes x) names)
   unfolding found_from
   found_among i [] e = absurd (let z : ◌≡◌ {A = ℕ} 0 1 = cc in omega arith)
-  found_among i (y ∷ names) {j} e = go (same_bytes y x) refl e (λ (k : found_from (suc i) x names ≡ At j). found_among (suc i) names k)
+  found_among i (y ∷ names) {j} e = go (same_bytes y x) refl e (λ (k : found_from (suc i) x names ≡ Some j). found_among (suc i) names k)
     where
-      go : (b : Bool) → same_bytes y x ≡ b → cond b (At i) (found_from (suc i) x names) ≡ At j → (found_from (suc i) x names ≡ At j → T (some (same_bytes x) names)) → T (same_bytes x y || some (same_bytes x) names)
+      go : (b : Bool) → same_bytes y x ≡ b → cond b (Some i) (found_from (suc i) x names) ≡ Some j → (found_from (suc i) x names ≡ Some j → T (some (same_bytes x) names)) → T (same_bytes x y || some (same_bytes x) names)
       go true t e r = T-or (same_bytes x y) (some (same_bytes x) names) (inl ((same_law x y).1 (sym (same_equal y x (subst T (sym t) tt)))))
       go false t e r = T-or (same_bytes x y) (some (same_bytes x) names) (inr (r e))
 
@@ -116,7 +116,7 @@ pub record Walk (names : List (List ℕ)) (x : List ℕ) (link : ℕ) : Type 0 w
   pub hashed : (j : ℕ) → link ≡ suc j → hashes names j ≡ name_hash x
   pub above : (k : ℕ) → link ≤ k → k < length names → get_or names k [] ≡ x → ⊥
 
-pub walk_ends : {names : List (List ℕ)} {x : List ℕ} {link : ℕ} → Walk names x link → link ≤ 0 → Missing ≡ found x names
+pub walk_ends : {names : List (List ℕ)} {x : List ℕ} {link : ℕ} → Walk names x link → link ≤ 0 → None ≡ found x names
 walk_ends {names} {x} w l = sym (found_none x 0 names (λ k u e. w.above k (omega arith) u e))
 
 module _ {names : List (List ℕ)} {bytes starts firsts links : List ℕ} (ix : Indexed names bytes starts firsts links) (x : List ℕ) where
@@ -142,11 +142,11 @@ module _ {names : List (List ℕ)} {bytes starts firsts links : List ℕ} (ix : 
     walk_less = omega (arith, links_is, last_below (hashes names) (name_hash x) (link - 1))
 
     module _ {r : Bool} (is : r ≡ same_bytes (get_or names (link - 1) []) x) where
-      pub walk_hit : r ≡ true → At (link - 1) ≡ found x names
+      pub walk_hit : r ≡ true → Some (link - 1) ≡ found x names
       walk_hit e =
           let here : get_or names (link - 1) [] ≡ x = same_equal (get_or names (link - 1) []) x (subst T (sym e ∙ is) tt) in
           let s : 0 + (link - 1) ≡ link - 1 = omega arith in
-          ap At (sym s) ∙ sym (found_at x 0 names (link - 1) ix.different atom_low here)
+          ap Some (sym s) ∙ sym (found_at x 0 names (link - 1) ix.different atom_low here)
 
       pub walk_again : r ≡ false → Walk names x (get_or links (link - 1) 0)
       walk_again e = record {
@@ -179,7 +179,7 @@ search_begins {bytes} {starts} {firsts} {links} {x} ix e = record {
 }
 
 module _ {bytes starts firsts links x : List ℕ} {link : ℕ} (s : Search bytes starts firsts links x link) where
-  pub search_ends : link ≤ 0 → Missing ≡ found x (decode_names (length starts) bytes)
+  pub search_ends : link ≤ 0 → None ≡ found x (decode_names (length starts) bytes)
   search_ends l = walk_ends s.walk l
 
   module _ (pos : 0 < link) where
@@ -197,7 +197,7 @@ module _ {bytes starts firsts links x : List ℕ} {link : ℕ} (s : Search bytes
       same : r ≡ same_bytes (get_or (decode_names (length starts) bytes) (link - 1) []) x
       same = is ∙ ap (λ y. same_bytes y x) is_name
 
-      pub search_hit : r ≡ true → At (link - 1) ≡ found x (decode_names (length starts) bytes)
+      pub search_hit : r ≡ true → Some (link - 1) ≡ found x (decode_names (length starts) bytes)
       search_hit e = walk_hit s.index x s.walk pos same e
 
       pub search_again : r ≡ false → Search bytes starts firsts links x (get_or links (link - 1) 0)

@@ -7,7 +7,7 @@ use lib.ListN.{replicate}
 use Rattle.kinds.specs.Words.{bytes}
 use Rattle.kinds.specs.declared.limits.Kind.TheVariants.{Plain, Preference}
 use Rattle.names.specs.declared.forms.NameClass.TheVariants.{Common, Generated, TooLong, Wrong}
-use Rattle.name_store.specs.declared.index.Found.TheVariants.{At, Missing}
+use Rattle.std.specs.Prelude.{Option, Some, None}
 use Rattle.names.specs.Numerals.{value}
 use Rattle.names.specs.Names.{is_house, is_atom_number, is_made_name, is_common_name, is_class_number, name_class, allowed}
 use Rattle.name_store.specs.NameStore.{same_bytes, decode_names, are_names_from, are_names}
@@ -99,7 +99,7 @@ unfolding are_names are_names_from same_bytes allowed name_class is_common_name 
 stores = (refl, refl, refl, refl, refl, refl)
 
 -- `bc` is number 1 of `a` and `bc`, `b` is none
-pub numbers : (found (bytes "bc") (decode_names 2 (1 ∷ 97 ∷ 2 ∷ 98 ∷ 99 ∷ [])) ≡ At 1)
-    × (found (bytes "b") (decode_names 2 (1 ∷ 97 ∷ 2 ∷ 98 ∷ 99 ∷ [])) ≡ Missing)
+pub numbers : (found (bytes "bc") (decode_names 2 (1 ∷ 97 ∷ 2 ∷ 98 ∷ 99 ∷ [])) ≡ Some 1)
+    × (found (bytes "b") (decode_names 2 (1 ∷ 97 ∷ 2 ∷ 98 ∷ 99 ∷ [])) ≡ None)
 unfolding found_from decode_names same_bytes
 numbers = (refl, refl)

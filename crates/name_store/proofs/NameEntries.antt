@@ -20,8 +20,7 @@ use Rattle.name_store.proofs.NamePlaces.{length_decode}
 use Rattle.name_store.proofs.NameStores.{not_seen, decode_front}
 use Rattle.rules.proofs.Booleans.{T-not-out, is_true_lem, is_false}
 use Rattle.rules.proofs.ListLaws.{flat_append}
-use Rattle.name_store.specs.declared.index.Found.{Found}
-use Rattle.name_store.specs.declared.index.Found.TheVariants.{At, Missing}
+use Rattle.std.specs.Prelude.{Option, Some, None}
 
 pub encode_append : (xs ys : List (List ℕ)) → encode_names (xs ++ ys) ≡ encode_names xs ++ encode_names ys
 unfolding encode_names
@@ -170,12 +169,12 @@ module _ (n : ℕ) {bytes starts firsts links : List ℕ} (ix : Indexed (decode_
     link = ix.link;
   })
 
-  module _ (x : List ℕ) {r : Found} (is : r ≡ found x (decode_names (length (take n starts)) bytes)) where
+  module _ (x : List ℕ) {r : Option ℕ} (is : r ≡ found x (decode_names (length (take n starts)) bytes)) where
     found_filled : r ≡ found x (decode_names n bytes)
     found_filled = is ∙ ap (λ m. found x (decode_names m bytes)) length_filled
 
-    pub found_new : r ≡ Missing → true ≡ not (among (decode_names n bytes) x)
+    pub found_new : r ≡ None → true ≡ not (among (decode_names n bytes) x)
     found_new e = sym (is_true_lem (not (among (decode_names n bytes) x)) ((not_seen x (decode_names n bytes)).1 (missing_differs x 0 (decode_names n bytes) (sym found_filled ∙ e))))
 
-    pub found_old : {j : ℕ} → r ≡ At j → false ≡ not (among (decode_names n bytes) x)
+    pub found_old : {j : ℕ} → r ≡ Some j → false ≡ not (among (decode_names n bytes) x)
     found_old e = sym (is_false (not (among (decode_names n bytes) x)) (λ t. T-not-out (some (same_bytes x) (decode_names n bytes)) t (found_among x 0 (decode_names n bytes) (sym found_filled ∙ e))))

@@ -11,7 +11,7 @@ use lib.Dec.{leb}
 use mathlib.Core.Bool.{true, false}
 use borrow.Author.Tests.{le-leb, lt-leb}
 use Rattle.name_store.specs.NameIndex.{name_start, Placed, name_end}
-use Rattle.name_store.specs.declared.index.Found.TheVariants.{At, Missing}
+use Rattle.std.specs.Prelude.{Option, Some, None}
 
 pub length_decode : (n : ℕ) (bs : List ℕ) → length (decode_names n bs) ≡ n
 unfolding decode_names
@@ -73,7 +73,7 @@ by_number bytes starts i p l = placed_here p i (omega (arith, length_decode (len
 -- the end of a name
 
 module _ (bs : List ℕ) (p : ℕ) where
-  pub end_past : length bs ≤ p → Missing ≡ name_end bs p
+  pub end_past : length bs ≤ p → None ≡ name_end bs p
   unfolding name_end
   end_past h =
       let e : leb 1 (length (drop p bs)) ≡ false = lt-leb 1 (length (drop p bs)) (omega (arith, length-drop p bs)) in
@@ -83,13 +83,13 @@ module _ (bs : List ℕ) (p : ℕ) where
     some_left : leb 1 (length (drop p bs)) ≡ true
     some_left = le-leb 1 (length (drop p bs)) (omega (arith, length-drop p bs))
 
-    pub end_short : length bs - (p + 1) < get_or bs p 0 → Missing ≡ name_end bs p
+    pub end_short : length bs - (p + 1) < get_or bs p 0 → None ≡ name_end bs p
     unfolding name_end
     end_short h =
         let e : leb (1 + get_or (drop p bs) 0 0) (length (drop p bs)) ≡ false = lt-leb (1 + get_or (drop p bs) 0 0) (length (drop p bs)) (omega (arith, length-drop p bs, first_byte bs p)) in
         simp (some_left, e)
 
-    pub end_inside : get_or bs p 0 ≤ length bs - (p + 1) → At (p + 1 + get_or bs p 0) ≡ name_end bs p
+    pub end_inside : get_or bs p 0 ≤ length bs - (p + 1) → Some (p + 1 + get_or bs p 0) ≡ name_end bs p
     unfolding name_end
     end_inside h =
         let e : leb (1 + get_or (drop p bs) 0 0) (length (drop p bs)) ≡ true = le-leb (1 + get_or (drop p bs) 0 0) (length (drop p bs)) (omega (arith, length-drop p bs, first_byte bs p)) in

@@ -1,21 +1,19 @@
 -- The index of a name store: an atom's name by its number, and its number by the name.
-use Rattle.std.specs.Prelude.{ℕ, zero, suc, ◌+◌, ◌*◌, ◌%◌, ◌≤◌, ◌<◌, ◌≡◌, ◌&&◌, cond, List, [], ◌∷◌, ◌++◌, leb, eqb, length, get_or, take, drop}
+use Rattle.std.specs.Prelude.{ℕ, zero, suc, ◌+◌, ◌*◌, ◌%◌, ◌≤◌, ◌<◌, ◌≡◌, ◌&&◌, cond, List, [], ◌∷◌, ◌++◌, leb, eqb, length, get_or, take, drop, Option, Some, None}
 use Rattle.rules.specs.Lists.{Distinct}
 use Rattle.name_store.specs.NameStore.{encode_names, same_bytes}
-use Rattle.name_store.specs.declared.index.Found.{Found}
-use Rattle.name_store.specs.declared.index.Found.TheVariants.{At, Missing}
 
 -- the number of the first name that equals x, names being numbered from i
-unfoldable pub found_from : ℕ → List ℕ → List (List ℕ) → Found
-found_from i x [] = Missing
-found_from i x (y ∷ names) = cond (same_bytes y x) (At i) (found_from (suc i) x names)
+unfoldable pub found_from : ℕ → List ℕ → List (List ℕ) → Option ℕ
+found_from i x [] = None
+found_from i x (y ∷ names) = cond (same_bytes y x) (Some i) (found_from (suc i) x names)
 
-abbrev pub found : List ℕ → List (List ℕ) → Found
+abbrev pub found : List ℕ → List (List ℕ) → Option ℕ
 found x names = found_from 0 x names
 
 -- the end of the name whose length byte stands at that place, if it is inside the bytes
-unfoldable pub name_end : List ℕ → ℕ → Found
-name_end bs p = cond (leb 1 (length (drop p bs)) && leb (1 + get_or (drop p bs) 0 0) (length (drop p bs))) (At (p + 1 + get_or bs p 0)) Missing
+unfoldable pub name_end : List ℕ → ℕ → Option ℕ
+name_end bs p = cond (leb 1 (length (drop p bs)) && leb (1 + get_or (drop p bs) 0 0) (length (drop p bs))) (Some (p + 1 + get_or bs p 0)) None
 
 -- the values of the hash
 abbrev pub buckets : ℕ

@@ -6,12 +6,6 @@ ghost use Rattle.name_store.specs.NameIndex.{found, name_end, name_hash, buckets
 // The values of the hash.
 pub const BUCKETS: usize = 4096;
 
-#[derive(Clone, Copy)]
-pub enum Found {
-    At(usize),
-    Missing,
-}
-
 // Whether the bytes from `from` on are the same.
 fn same_from(a: &[u8], b: &[u8], from: usize) -> bool
     requires { (length a.now ≡ length b.now) × (from ≤ length a.now) }
@@ -76,18 +70,18 @@ pub fn hash(name: &[u8]) -> usize
 }
 
 // The end of the name whose length byte stands at `at`.
-pub fn name_end(bytes: &[u8], at: usize) -> Found
+pub fn name_end(bytes: &[u8], at: usize) -> Option<usize>
     ensures { result ≡ name_end bytes.now at }
 {
     if bytes.len() <= at {
-        return Found::Missing;
+        return None;
     }
     let from = at + 1;
     let size = bytes[at] as usize;
     if bytes.len() - from < size {
-        return Found::Missing;
+        return None;
     }
-    Found::At(from + size)
+    Some(from + size)
 }
 
 // The name of an atom; `starts` has a place for each atom.
@@ -109,7 +103,7 @@ pub fn find_hashed(
     links: &[u16],
     name: &[u8],
     h: usize,
-) -> Found
+) -> Option<usize>
     requires indexed { Indexed (decode_names (length starts.now) bytes.now) bytes.now starts.now firsts.now links.now }
     requires h_value { h ≡ name_hash name.now }
     ensures { result ≡ found name.now (decode_names (length starts.now) bytes.now) }
@@ -118,15 +112,21 @@ pub fn find_hashed(
     while 0 < link {
         let atom = link - 1;
         if same_bytes(name_at(bytes, starts, atom), name) {
-            return Found::At(atom);
+            return Some(atom);
         }
         link = links[atom] as usize;
     }
-    Found::Missing
+    None
 }
 
 // The number of a name; `starts` has a place for each atom.
-pub fn find(bytes: &[u8], starts: &[u16], firsts: &[u16], links: &[u16], name: &[u8]) -> Found
+pub fn find(
+    bytes: &[u8],
+    starts: &[u16],
+    firsts: &[u16],
+    links: &[u16],
+    name: &[u8],
+) -> Option<usize>
     requires { Indexed (decode_names (length starts.now) bytes.now) bytes.now starts.now firsts.now links.now }
     ensures { result ≡ found name.now (decode_names (length starts.now) bytes.now) }
 {
@@ -171,7 +171,7 @@ pub fn enter_new(
     ensures firsts_after { firsts.new ≡ cond result (set firsts.old (name_hash name.now) (atom + 1)) firsts.old }
     ensures links_after { links.new ≡ cond result (set links.old atom (get_or firsts.old (name_hash name.now) 0)) links.old }
 {
-    let Found::Missing = find(bytes, &starts[..atom], firsts, links, name) else {
+    let None = find(bytes, &starts[..atom], firsts, links, name) else {
         return false;
     };
     enter(name, starts, firsts, links, atom, at);

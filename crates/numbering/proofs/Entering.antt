@@ -1,4 +1,5 @@
 -- Names entered one after another: a turn of the walk.
+use Rattle.std.specs.Prelude.{Option, Some, None}
 use Prim.Native.Nat.{ℕ, suc, ◌+◌, ◌≤◌, ◌<◌}
 use native.Mathlib.Omega.{arith}
 use mathlib.Core.Path.{◌≡◌, refl, sym, ap, ap₂, ◌∙◌, subst}
@@ -13,14 +14,11 @@ use Rattle.rules.proofs.Booleans.{or_assoc, or-false}
 use Rattle.rules.proofs.Lists.{some_app}
 use Rattle.name_store.specs.NameStore.{name_bytes, encode_names, decode_names, same_bytes, among}
 use Rattle.name_store.specs.NameIndex.{found, Indexed}
-use Rattle.name_store.specs.declared.index.Found.{Found}
-use Rattle.name_store.specs.declared.index.Found.TheVariants as Found
 use Rattle.name_store.proofs.NameEntries.{encode_last}
 use Rattle.lines.specs.declared.scan.Item.{Item}
-use Rattle.lines.specs.declared.scan.Item.TheVariants.{At, Stop}
 use Rattle.lines.specs.Tokens.{items}
 use Rattle.lines.specs.Faults.{twice}
-use Rattle.lines.specs.Shapes.{item_of}
+use Rattle.lines.specs.Shapes.{spaced, item_of}
 use Rattle.numbering.specs.Entries.{EntryRoom, EntrySays, EntryIs, Room, Stored, Short, AllEntered, SomeEntered}
 use Rattle.lines.proofs.TokenPlaces.{items_end, item_fits, item_long, item, later, item_is, item_length}
 use Rattle.numbering.proofs.NameNumbers.{named, unnamed}
@@ -65,13 +63,13 @@ unfolding twice
 entering {names} {s} {from} {bytes} {starts} {firsts} {links} {atom} {at} i h r st =
     record { passed = []; inside = i; all = refl; short = h; once = refl; stored = subst (λ l. Stored l bytes starts firsts links atom at) (sym (append-nil names)) st; room = r; onward = omega arith }
 
-module _ {names : List (List ℕ)} {s : List ℕ} {from : ℕ} {bytes starts firsts links : List ℕ} {i atom at : ℕ} (h : Entering names s from bytes starts firsts links i atom at) {r : Item} (e : r ≡ item_of (drop i s)) where
-  pub names_entered : r ≡ Stop → AllEntered names (items (drop from s)) bytes starts firsts links atom at
+module _ {names : List (List ℕ)} {s : List ℕ} {from : ℕ} {bytes starts firsts links : List ℕ} {i atom at : ℕ} (h : Entering names s from bytes starts firsts links i atom at) {r : Option Item} (e : r ≡ item_of (drop i s)) where
+  pub names_entered : r ≡ None → AllEntered names (items (drop from s)) bytes starts firsts links atom at
   names_entered d =
       let whole : h.passed ≡ items (drop from s) = sym (append-nil h.passed) ∙ ap (λ l. h.passed ++ l) (sym (items_end s i e d)) ∙ h.all in
       record { once = ap (twice names) (sym whole) ∙ h.once; stored = subst (λ l. Stored (names ++ l) bytes starts firsts links atom at) whole h.stored }
 
-  module _ {g n : ℕ} (d : r ≡ At g n) where
+  module _ {g n : ℕ} (d : r ≡ spaced g n) where
     pub entry_inside : i + g + n ≤ length s
     entry_inside = item_fits s i e d
 
@@ -181,23 +179,23 @@ pub record Looking (names : List (List ℕ)) (s : List ℕ) (from i : ℕ) : Typ
 pub looking : (names : List (List ℕ)) (s : List ℕ) (from : ℕ) → from ≤ length s → Looking names s from from
 looking names s from h = record { inside = h; left = refl }
 
-module _ {names : List (List ℕ)} {s : List ℕ} {from i : ℕ} (h : Looking names s from i) {r : Item} (e : r ≡ item_of (drop i s)) where
-  pub none_known : r ≡ Stop → false ≡ some (among names) (items (drop from s))
+module _ {names : List (List ℕ)} {s : List ℕ} {from i : ℕ} (h : Looking names s from i) {r : Option Item} (e : r ≡ item_of (drop i s)) where
+  pub none_known : r ≡ None → false ≡ some (among names) (items (drop from s))
   none_known d = ap (some (among names)) (sym (items_end s i e d)) ∙ h.left
 
-  module _ {g n : ℕ} (d : r ≡ At g n) where
+  module _ {g n : ℕ} (d : r ≡ spaced g n) where
     pub look_inside : i + g + n ≤ length s
     look_inside = item_fits s i e d
 
     pub look_long : 1 ≤ n
     look_long = item_long s i e d
 
-    module _ {q : Found} (f : q ≡ found (item s i e d) names) where
+    module _ {q : Option ℕ} (f : q ≡ found (item s i e d) names) where
       one : some (among names) (items (drop i s)) ≡ (among names (item s i e d) || some (among names) (later s i e d))
       one = ap (some (among names)) (item_is s i e d)
 
-      pub one_known : {j : ℕ} → q ≡ Found.At j → true ≡ some (among names) (items (drop from s))
+      pub one_known : {j : ℕ} → q ≡ Some j → true ≡ some (among names) (items (drop from s))
       one_known t = sym (rw (named (item s i e d) names f t).declared at one) ∙ h.left
 
-      pub look_again : q ≡ Found.Missing → Looking names s from (i + g + n)
+      pub look_again : q ≡ None → Looking names s from (i + g + n)
       look_again t = record { inside = look_inside; left = sym (rw (unnamed (item s i e d) names f t) at one) ∙ h.left }

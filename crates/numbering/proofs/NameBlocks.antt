@@ -5,14 +5,15 @@ use mathlib.Core.Path.{◌≡◌, refl, sym, ap, ap₂, ◌∙◌, subst}
 use mathlib.Core.Bool.{Bool, true, false, ◌||◌}
 use mathlib.Core.List.{List, [], ◌++◌, append-nil}
 use lib.ListN.{length, get_or, drop, set, replicate, length-set, length-replicate, get_or-replicate, drop_of_length-le}
-use borrow.Author.Fill.{fill_none, fill_more}
 use Rattle.kinds.specs.Sizes.{longest_name}
 use Rattle.rules.specs.Lists.{All, some}
 use Rattle.rules.proofs.Lists.{all_app_r}
 use Rattle.name_store.specs.NameStore.{encode_names, decode_names, among}
 use Rattle.name_store.specs.NameIndex.{buckets, last_with, Indexed}
 use Rattle.numbering.specs.declared.entries.Entered.{Entered}
-use Rattle.numbering.specs.declared.entries.Entered.TheVariants as Answer
+use Rattle.numbering.specs.declared.entries.Unentered.{Unentered}
+use Rattle.numbering.specs.declared.entries.Unentered.TheVariants.{Full, Twice}
+use Rattle.std.specs.Prelude.{Result, Ok, Err}
 use Rattle.lines.specs.Tokens.{items}
 use Rattle.lines.specs.Faults.{twice}
 use Rattle.numbering.specs.Entries.{Room, Stored, Short, AllEntered, SomeEntered, EnteredSays, EnteredIs}
@@ -37,14 +38,14 @@ unfolding decode_names encode_names
 empty_stored ix = record { index = ix; count = refl; ends = refl; short = zero-le; few = zero-le }
 
 -- what an answer says
-module _ {names : List (List ℕ)} {s : List ℕ} {from : ℕ} {bytes starts firsts links : List ℕ} {r : Entered} (h : EnteredIs names s from bytes starts firsts links r) where
-  pub entered_all : {atoms used : ℕ} → r ≡ Answer.All atoms used → AllEntered names (items (drop from s)) bytes starts firsts links atoms used
+module _ {names : List (List ℕ)} {s : List ℕ} {from : ℕ} {bytes starts firsts links : List ℕ} {r : Result Entered Unentered} (h : EnteredIs names s from bytes starts firsts links r) where
+  pub entered_all : {all : Entered} → r ≡ Ok all → AllEntered names (items (drop from s)) bytes starts firsts links all.atoms all.bytes
   entered_all e = subst (EnteredSays names s from bytes starts firsts links) e h.says
 
-  pub entered_some : {at : ℕ} → r ≡ Answer.Full at → SomeEntered names s from bytes starts firsts links at
+  pub entered_some : {at : ℕ} → r ≡ Err (Full at) → SomeEntered names s from bytes starts firsts links at
   entered_some e = subst (EnteredSays names s from bytes starts firsts links) e h.says
 
-  pub not_once : r ≡ Answer.Twice → twice names (items (drop from s)) ≡ true
+  pub not_once : r ≡ Err Twice → twice names (items (drop from s)) ≡ true
   not_once e = subst (EnteredSays names s from bytes starts firsts links) e h.says
 
 -- the names before `at` are in blocks behind
@@ -62,18 +63,18 @@ module _ {s : List ℕ} {from at : ℕ} {bytes starts firsts links : List ℕ} (
   pub block_stored : {firsts₀ : List ℕ} → firsts₀ ≡ replicate (length firsts) 0 → Stored (decode_names 0 bytes) bytes starts firsts₀ links 0 0
   block_stored e = empty_stored (empty_index bytes starts links e h.firsts_room)
 
-  module _ {bytes' starts' firsts' links' : List ℕ} {r : Entered} (w : EnteredIs (decode_names 0 bytes) s at bytes' starts' firsts' links' r) where
+  module _ {bytes' starts' firsts' links' : List ℕ} {r : Result Entered Unentered} (w : EnteredIs (decode_names 0 bytes) s at bytes' starts' firsts' links' r) where
     block : EnteredIs [] s at bytes' starts' firsts' links' r
     unfolding decode_names
     block = w
 
-    pub block_all : {atoms used : ℕ} → r ≡ Answer.All atoms used → false ≡ twice [] (items (drop from s))
+    pub block_all : {all : Entered} → r ≡ Ok all → false ≡ twice [] (items (drop from s))
     block_all e = sym (entered_all block e).once ∙ h.left
 
-    pub block_twice : r ≡ Answer.Twice → true ≡ twice [] (items (drop from s))
+    pub block_twice : r ≡ Err Twice → true ≡ twice [] (items (drop from s))
     block_twice e = sym (not_once block e) ∙ h.left
 
-    module _ {rest : ℕ} (e : r ≡ Answer.Full rest) (b : length bytes' ≡ length bytes) (c : length starts' ≡ length starts) (l : length links' ≡ length links) where
+    module _ {rest : ℕ} (e : r ≡ Err (Full rest)) (b : length bytes' ≡ length bytes) (c : length starts' ≡ length starts) (l : length links' ≡ length links) where
       some_in : SomeEntered [] s at bytes' starts' firsts' links' rest
       some_in = entered_some block e
 
@@ -113,24 +114,3 @@ module _ {s : List ℕ} {from at : ℕ} {bytes starts firsts links : List ℕ} (
               room = record { bytes_long = b ∙ h.room.bytes_long; starts_long = c ∙ h.room.starts_long; links_long = l ∙ h.room.links_long };
               firsts_room = omega (arith, m, h.firsts_room);
             }
-
--- firsts cleared up to i
-pub record Clearing (before now : List ℕ) (i : ℕ) : Type 0 where
-  pub inside : i ≤ length before
-  pub long : length now ≡ length before
-  pub is : now ≡ replicate i 0 ++ drop i before
-
-pub clearing : (d : List ℕ) → Clearing d d 0
-clearing d = record { inside = zero-le; long = refl; is = fill_none d 0 }
-
-module _ {before now : List ℕ} {i : ℕ} (c : Clearing before now i) where
-  pub clear_again : i < length now → Clearing before (set now i 0) (i + 1)
-  clear_again l =
-      let k : i < length before = omega (arith, c.long) in
-      record { inside = omega arith; long = length-set now i 0 ∙ c.long; is = ap (λ d. set d i 0) c.is ∙ fill_more i 0 before k }
-
-  pub cleared : length now ≤ i → now ≡ replicate (length before) 0
-  cleared l =
-      let k : i ≡ length before = omega (arith, c.long, c.inside) in
-      let out : length before ≤ i = omega arith in
-      c.is ∙ ap₂ (λ (a b : List ℕ). a ++ b) (ap (λ m. replicate m 0) k) (drop_of_length-le before out) ∙ append-nil (replicate (length before) 0)

@@ -1,4 +1,5 @@
 -- Names of a list to numbers: what finding one says, and a turn of the walk.
+use Rattle.std.specs.Prelude.{Option, Some, None}
 use Prim.Native.Nat.{ℕ, suc, ◌+◌, ◌^◌, ◌≤◌, ◌<◌, zero-le}
 use native.Mathlib.Nat.{zero-add}
 use native.Mathlib.Omega.{arith}
@@ -11,8 +12,6 @@ use borrow.Author.Tests.{ne_eqb}
 use Rattle.rules.specs.Lists.{All, some}
 use Rattle.rules.proofs.Booleans.{bool_ext, eq_to_eqb, or_assoc, or-true, or-false}
 use Rattle.rules.proofs.Lists.{all_app, some_last}
-use Rattle.name_store.specs.declared.index.Found.{Found}
-use Rattle.name_store.specs.declared.index.Found.TheVariants as Found
 use Rattle.name_store.specs.NameStore.{same_bytes, among}
 use Rattle.name_store.specs.NameIndex.{found_from, found}
 use Rattle.stores.specs.Checking.{Below}
@@ -21,13 +20,9 @@ use Rattle.output.specs.Emitted.{Emitted, InRange}
 use Rattle.output.proofs.Emitting.{none, then, renamed}
 use Rattle.stores.proofs.Marks.{set_below, set_marks}
 use Rattle.lines.specs.declared.scan.Item.{Item}
-use Rattle.lines.specs.declared.scan.Item.TheVariants.{At, Stop}
-use Rattle.lines.specs.declared.scan.Place.{Place}
-use Rattle.lines.specs.declared.scan.Place.TheVariants as Place
 use Rattle.lines.specs.Tokens.{tokens, behind, items}
 use Rattle.lines.specs.Faults.{twice, name_number}
-use Rattle.lines.specs.Shapes.{item_of, ClosedIs}
-use Rattle.numbering.specs.declared.numbers.Numbers.TheVariants as Answer
+use Rattle.lines.specs.Shapes.{spaced, item_of, ClosedIs}
 use Rattle.numbering.specs.Numbers.{Numbered, NumbersAre}
 use Rattle.lines.proofs.NameLists.{split_is, list_closed, list_unclosed}
 use Rattle.lines.proofs.TokenPlaces.{items_end, item_fits, item_long, item, later, item_is, behind_is}
@@ -41,30 +36,30 @@ pub record Named (names : List (List ℕ)) (x : List ℕ) (j : ℕ) : Type 0 whe
   pub number : name_number names x ≡ j
   pub below : j < length names
 
-named_from : (i : ℕ) (x : List ℕ) (names : List (List ℕ)) {j : ℕ} → found_from i x names ≡ Found.At j → (among names x ≡ true) × (i + name_number names x ≡ j) × (name_number names x < length names)
+named_from : (i : ℕ) (x : List ℕ) (names : List (List ℕ)) {j : ℕ} → found_from i x names ≡ Some j → (among names x ≡ true) × (i + name_number names x ≡ j) × (name_number names x < length names)
 unfolding found_from name_number
 named_from i x [] e = absurd (let z : ◌≡◌ {A = ℕ} 0 1 = cc in omega arith)
-named_from i x (y ∷ ys) {j} e = go (same_bytes y x) (same_sym x y) e (λ (k : found_from (suc i) x ys ≡ Found.At j). named_from (suc i) x ys k)
+named_from i x (y ∷ ys) {j} e = go (same_bytes y x) (same_sym x y) e (λ (k : found_from (suc i) x ys ≡ Some j). named_from (suc i) x ys k)
   where
-    go : (b : Bool) → same_bytes x y ≡ b → cond b (Found.At i) (found_from (suc i) x ys) ≡ Found.At j
-        → (found_from (suc i) x ys ≡ Found.At j → (among ys x ≡ true) × (suc i + name_number ys x ≡ j) × (name_number ys x < length ys))
+    go : (b : Bool) → same_bytes x y ≡ b → cond b (Some i) (found_from (suc i) x ys) ≡ Some j
+        → (found_from (suc i) x ys ≡ Some j → (among ys x ≡ true) × (suc i + name_number ys x ≡ j) × (name_number ys x < length ys))
         → ((same_bytes x y || among ys x) ≡ true) × (i + cond (same_bytes x y) 0 (suc (name_number ys x)) ≡ j) × (cond (same_bytes x y) 0 (suc (name_number ys x)) < suc (length ys))
     go true t e r = let s : i ≡ j = cc in rw t (refl, omega arith, omega arith)
     go false t e r = let k = r e in rw t (k.0, omega (arith, k.1), omega (arith, k.2))
 
-pub named : (x : List ℕ) (names : List (List ℕ)) {r : Found} {j : ℕ} → r ≡ found x names → r ≡ Found.At j → Named names x j
+pub named : (x : List ℕ) (names : List (List ℕ)) {r : Option ℕ} {j : ℕ} → r ≡ found x names → r ≡ Some j → Named names x j
 named x names e d = let k = named_from 0 x names (sym e ∙ d) in record { declared = k.0; number = sym (zero-add (name_number names x)) ∙ k.1; below = omega (arith, k.1, k.2) }
 
-unnamed_from : (i : ℕ) (x : List ℕ) (names : List (List ℕ)) → found_from i x names ≡ Found.Missing → among names x ≡ false
+unnamed_from : (i : ℕ) (x : List ℕ) (names : List (List ℕ)) → found_from i x names ≡ None → among names x ≡ false
 unfolding found_from
 unnamed_from i x [] e = refl
 unnamed_from i x (y ∷ ys) e = go (same_bytes y x) (same_sym x y) e (unnamed_from (suc i) x ys)
   where
-    go : (b : Bool) → same_bytes x y ≡ b → cond b (Found.At i) (found_from (suc i) x ys) ≡ Found.Missing → (found_from (suc i) x ys ≡ Found.Missing → among ys x ≡ false) → (same_bytes x y || among ys x) ≡ false
+    go : (b : Bool) → same_bytes x y ≡ b → cond b (Some i) (found_from (suc i) x ys) ≡ None → (found_from (suc i) x ys ≡ None → among ys x ≡ false) → (same_bytes x y || among ys x) ≡ false
     go true t e r = absurd (let z : ◌≡◌ {A = ℕ} 0 1 = cc in omega arith)
     go false t e r = rw t (r e)
 
-pub unnamed : (x : List ℕ) (names : List (List ℕ)) {r : Found} → r ≡ found x names → r ≡ Found.Missing → among names x ≡ false
+pub unnamed : (x : List ℕ) (names : List (List ℕ)) {r : Option ℕ} → r ≡ found x names → r ≡ None → among names x ≡ false
 unnamed x names e d = unnamed_from 0 x names (sym e ∙ d)
 
 -- declared names are equal exactly when their numbers are
@@ -138,8 +133,8 @@ numbering names s from stamp before at marks i r h b =
       written = none;
     }
 
-module _ {names : List (List ℕ)} {s : List ℕ} {from stamp : ℕ} {before : List ℕ} {at i end : ℕ} {flag : Bool} {marks now : List ℕ} (h : Numbering names s from stamp before at i end flag marks now) {r : Item} (e : r ≡ item_of (drop i s)) where
-  numbers_end : r ≡ Stop → Numbered names (items (drop from s)) stamp before at marks now end flag
+module _ {names : List (List ℕ)} {s : List ℕ} {from stamp : ℕ} {before : List ℕ} {at i end : ℕ} {flag : Bool} {marks now : List ℕ} (h : Numbering names s from stamp before at i end flag marks now) {r : Option Item} (e : r ≡ item_of (drop i s)) where
+  numbers_end : r ≡ None → Numbered names (items (drop from s)) stamp before at marks now end flag
   unfolding twice
   numbers_end d =
       let out : items (drop i s) ≡ [] = items_end s i e d in
@@ -152,14 +147,14 @@ module _ {names : List (List ℕ)} {s : List ℕ} {from stamp : ℕ} {before : L
       }
 
   -- behind the last name
-  module _ (d : r ≡ Stop) {q : Place} (c : ClosedIs s i q) where
-    pub numbers_closed : {p : ℕ} → q ≡ Place.At p → NumbersAre names s from stamp before at marks now (Answer.List p end flag)
+  module _ (d : r ≡ None) {q : Option ℕ} (c : ClosedIs s i q) where
+    pub numbers_closed : {p : ℕ} → q ≡ Some p → NumbersAre names s from stamp before at marks now (Some (record { place = p; end = end; twice = flag }))
     numbers_closed t = let k = list_closed s from i h.same_behind e d c t in record { says = record { cuts = k.0; inside = k.1; numbered = numbers_end d } }
 
-    pub numbers_unclosed : q ≡ Place.Absent → NumbersAre names s from stamp before at marks now Answer.Otherwise
+    pub numbers_unclosed : q ≡ None → NumbersAre names s from stamp before at marks now None
     numbers_unclosed t = record { says = λ xs rest j. absurd (list_unclosed s from i h.same_behind e d c t j) }
 
-  module _ {g n : ℕ} (d : r ≡ At g n) where
+  module _ {g n : ℕ} (d : r ≡ spaced g n) where
     pub number_inside : i + g + n ≤ length s
     number_inside = item_fits s i e d
 
@@ -175,15 +170,15 @@ module _ {names : List (List ℕ)} {s : List ℕ} {from stamp : ℕ} {before : L
     split : h.seen ++ (x ∷ xs) ≡ items (drop from s)
     split = ap (λ l. h.seen ++ l) (sym (item_is s i e d)) ∙ h.all
 
-    module _ {q : Found} (f : q ≡ found x names) where
-      missing : q ≡ Found.Missing → some (λ x. not (among names x)) (items (drop from s)) ≡ true
+    module _ {q : Option ℕ} (f : q ≡ found x names) where
+      missing : q ≡ None → some (λ x. not (among names x)) (items (drop from s)) ≡ true
       missing t = sym (ap (some (λ x. not (among names x))) split) ∙ one_undeclared names h.seen x xs (unnamed x names f t)
 
-      pub not_declared : q ≡ Found.Missing → NumbersAre names s from stamp before at marks now Answer.Otherwise
+      pub not_declared : q ≡ None → NumbersAre names s from stamp before at marks now None
       unfolding items
       not_declared t = record { says = λ ys rest j. ap (some (λ x. not (among names x))) (split_is (tokens (drop from s)) j) ∙ missing t }
 
-      module _ {j : ℕ} (u : q ≡ Found.At j) where
+      module _ {j : ℕ} (u : q ≡ Some j) where
         pub known_name : Named names x j
         known_name = named x names f u
 

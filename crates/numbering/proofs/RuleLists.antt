@@ -1,4 +1,5 @@
 -- The three lists of a rule to numbers, one after another.
+use Rattle.std.specs.Prelude.{Option, Some, None}
 use Prim.Native.Nat.{ℕ, ◌+◌, ◌-◌, ◌≤◌}
 use native.Mathlib.Omega.{arith}
 use mathlib.Core.Path.{◌≡◌, refl, sym, ap, ◌∙◌, subst}
@@ -10,8 +11,6 @@ use Rattle.kinds.specs.Words.{atoms_word, min_word, vary_word, fix_word, rule_wo
 use Rattle.rules.proofs.Booleans.{or-true}
 use Rattle.output.proofs.Emitting.{then}
 use Rattle.name_store.specs.NameStore.{same_bytes}
-use Rattle.lines.specs.declared.scan.Place.{Place}
-use Rattle.lines.specs.declared.scan.Place.TheVariants as Place
 use Rattle.lines.specs.Lines.{is_ended}
 use Rattle.lines.specs.Tokens.{Token, tokens, items}
 use Rattle.lines.specs.Forms.{Word, atoms, min, vary, fix, LineForm, declares, rules, condition, broken, Opened, opened, unopened, opened_of, Split, split, none, split_names, split_list, on_split, lastly, closed_lastly, declared_form, rule_form, Conditional, conditional, unconditional, split_then, paired_form, when_form, opened_form, token_form, typed_form}
@@ -22,18 +21,15 @@ use Rattle.lines.proofs.TokenPlaces.{items_few}
 use Rattle.lines.proofs.NameLists.{opened_list, unopened_list}
 use Rattle.lines.proofs.LineShapes.{closed_form}
 use Rattle.numbering.specs.declared.numbers.Numbers.{Numbers}
-use Rattle.numbering.specs.declared.numbers.Numbers.TheVariants as Answer
 use Rattle.numbering.specs.declared.numbers.RuleCounts.{RuleCounts}
-use Rattle.numbering.specs.declared.numbers.RuleNumbers.{RuleNumbers}
-use Rattle.numbering.specs.declared.numbers.RuleNumbers.TheVariants as Lists
 use Rattle.numbering.specs.Numbers.{undeclared, ListNumbered, NumbersSay, NumbersAre, ListsNumbered, NoRule, ListsSay, ListsAre, RuleIs}
 
 -- the answer for one list
-module _ {names : List (List ℕ)} {s : List ℕ} {from stamp : ℕ} {before : List ℕ} {at : ℕ} {marks after : List ℕ} {r : Numbers} (h : NumbersAre names s from stamp before at marks after r) where
-  pub list_numbered : {place end : ℕ} {twice : Bool} → r ≡ Answer.List place end twice → ListNumbered names s from stamp before at marks after place end twice
+module _ {names : List (List ℕ)} {s : List ℕ} {from stamp : ℕ} {before : List ℕ} {at : ℕ} {marks after : List ℕ} {r : Option Numbers} (h : NumbersAre names s from stamp before at marks after r) where
+  pub list_numbered : {n : Numbers} → r ≡ Some n → ListNumbered names s from stamp before at marks after n.place n.end n.twice
   list_numbered e = subst (NumbersSay names s from stamp before at marks after) e h.says
 
-  pub list_otherwise : r ≡ Answer.Otherwise → (xs : List (List ℕ)) (rest : List Token) → split_names (tokens (drop from s)) ≡ split xs rest → undeclared names xs ≡ true
+  pub list_otherwise : r ≡ None → (xs : List (List ℕ)) (rest : List Token) → split_names (tokens (drop from s)) ≡ split xs rest → undeclared names xs ≡ true
   list_otherwise e = subst (NumbersSay names s from stamp before at marks after) e h.says
 
 -- the place after a list is a number that the code can hold
@@ -46,11 +42,11 @@ list_end {names} {s} {from} h =
 abbrev NoList : List (List ℕ) → List ℕ → List Token → Type 0
 NoList names w ts = (xs : List (List ℕ)) (rest : List Token) → split_list w ts ≡ split xs rest → undeclared names xs ≡ true
 
-module _ (names : List (List ℕ)) (w s : List ℕ) (at : ℕ) {q : Place} (o : OpenedIs s at w q) where
-  pub no_list : q ≡ Place.Absent → NoList names w (tokens (drop at s))
+module _ (names : List (List ℕ)) (w s : List ℕ) (at : ℕ) {q : Option ℕ} (o : OpenedIs s at w q) where
+  pub no_list : q ≡ None → NoList names w (tokens (drop at s))
   no_list e xs rest i = absurd (let j : none ≡ split xs rest = sym (unopened_list w s at o e) ∙ i in let z : ◌≡◌ {A = ℕ} 0 1 = cc in omega arith)
 
-  pub no_numbers : {p : ℕ} → q ≡ Place.At p → ((xs : List (List ℕ)) (rest : List Token) → split_names (tokens (drop p s)) ≡ split xs rest → undeclared names xs ≡ true) → NoList names w (tokens (drop at s))
+  pub no_numbers : {p : ℕ} → q ≡ Some p → ((xs : List (List ℕ)) (rest : List Token) → split_names (tokens (drop p s)) ≡ split xs rest → undeclared names xs ≡ true) → NoList names w (tokens (drop at s))
   no_numbers e n xs rest i = n xs rest (sym (opened_list w s at o e) ∙ i)
 
 -- a rule's form has a list in each place
@@ -116,40 +112,40 @@ module _ (names : List (List ℕ)) (ts : List Token) where
           rw (n ns p.behind_not (ap (split_list not_word) (sym also) ∙ p.in_not)) (rw (or-true (undeclared names bs')) (or-true (undeclared names hs')))
 
 -- a list behind its bracket and word
-module _ {names : List (List ℕ)} {s : List ℕ} {at from stamp : ℕ} {d : List ℕ} {start : ℕ} {m e : List ℕ} {place end : ℕ} {t : Bool} (w : List ℕ) {q : Place} (o : OpenedIs s at w q) (g : q ≡ Place.At from) (l : ListNumbered names s from stamp d start m e place end t) where
+module _ {names : List (List ℕ)} {s : List ℕ} {at from stamp : ℕ} {d : List ℕ} {start : ℕ} {m e : List ℕ} {place end : ℕ} {t : Bool} (w : List ℕ) {q : Option ℕ} (o : OpenedIs s at w q) (g : q ≡ Some from) (l : ListNumbered names s from stamp d start m e place end t) where
   pub cut : split_list w (tokens (drop at s)) ≡ split (items (drop from s)) (tokens (drop place s))
   cut = opened_list w s at o g ∙ l.cuts
 
 module _ (names : List (List ℕ)) (s : List ℕ) (from stamp : ℕ) (before : List ℕ) (at : ℕ) where
-  abbrev Answered : List ℕ → List ℕ → RuleNumbers → Type 0
+  abbrev Answered : List ℕ → List ℕ → Option RuleCounts → Type 0
   Answered marks after r = ListsAre names s from stamp before at marks after r
 
-  module _ {oh : Place} (h₀ : OpenedIs s from head_word oh) where
-    pub no_head : oh ≡ Place.Absent → (marks after : List ℕ) → Answered marks after Lists.Otherwise
+  module _ {oh : Option ℕ} (h₀ : OpenedIs s from head_word oh) where
+    pub no_head : oh ≡ None → (marks after : List ℕ) → Answered marks after None
     no_head e marks after = record { says = head_otherwise names (tokens (drop from s)) (no_list names head_word s from h₀ e) }
 
-    module _ {head : ℕ} (h₁ : oh ≡ Place.At head) where
-      pub head_not_numbered : {m d : List ℕ} {r : Numbers} → NumbersAre names s head stamp before at m d r → r ≡ Answer.Otherwise → Answered m d Lists.Otherwise
+    module _ {head : ℕ} (h₁ : oh ≡ Some head) where
+      pub head_not_numbered : {m d : List ℕ} {r : Option Numbers} → NumbersAre names s head stamp before at m d r → r ≡ None → Answered m d None
       head_not_numbered n e = record { says = head_otherwise names (tokens (drop from s)) (no_numbers names head_word s from h₀ h₁ (list_otherwise n e)) }
 
-      module _ {m₁ d₁ : List ℕ} {hp he : ℕ} {ht : Bool} (h : ListNumbered names s head stamp before at m₁ d₁ hp he ht) {ob : Place} (b₀ : OpenedIs s hp body_word ob) where
-        pub no_body : ob ≡ Place.Absent → Answered m₁ d₁ Lists.Otherwise
+      module _ {m₁ d₁ : List ℕ} {hp he : ℕ} {ht : Bool} (h : ListNumbered names s head stamp before at m₁ d₁ hp he ht) {ob : Option ℕ} (b₀ : OpenedIs s hp body_word ob) where
+        pub no_body : ob ≡ None → Answered m₁ d₁ None
         no_body e = record { says = body_otherwise names (tokens (drop from s)) (cut head_word h₀ h₁ h) (no_list names body_word s hp b₀ e) }
 
-        module _ {body : ℕ} (b₁ : ob ≡ Place.At body) where
-          pub body_not_numbered : {m d : List ℕ} {r : Numbers} → NumbersAre names s body (stamp + 1) d₁ he m d r → r ≡ Answer.Otherwise → Answered m d Lists.Otherwise
+        module _ {body : ℕ} (b₁ : ob ≡ Some body) where
+          pub body_not_numbered : {m d : List ℕ} {r : Option Numbers} → NumbersAre names s body (stamp + 1) d₁ he m d r → r ≡ None → Answered m d None
           body_not_numbered n e = record { says = body_otherwise names (tokens (drop from s)) (cut head_word h₀ h₁ h) (no_numbers names body_word s hp b₀ b₁ (list_otherwise n e)) }
 
-          module _ {m₂ d₂ : List ℕ} {bp be : ℕ} {bt : Bool} (b : ListNumbered names s body (stamp + 1) d₁ he m₂ d₂ bp be bt) {on : Place} (n₀ : OpenedIs s bp not_word on) where
-            pub no_not : on ≡ Place.Absent → Answered m₂ d₂ Lists.Otherwise
+          module _ {m₂ d₂ : List ℕ} {bp be : ℕ} {bt : Bool} (b : ListNumbered names s body (stamp + 1) d₁ he m₂ d₂ bp be bt) {on : Option ℕ} (n₀ : OpenedIs s bp not_word on) where
+            pub no_not : on ≡ None → Answered m₂ d₂ None
             no_not e = record { says = not_otherwise names (tokens (drop from s)) (cut head_word h₀ h₁ h) (cut body_word b₀ b₁ b) (no_list names not_word s bp n₀ e) }
 
-            module _ {nots : ℕ} (n₁ : on ≡ Place.At nots) where
-              pub not_not_numbered : {m d : List ℕ} {r : Numbers} → NumbersAre names s nots (stamp + 2) d₂ be m d r → r ≡ Answer.Otherwise → Answered m d Lists.Otherwise
+            module _ {nots : ℕ} (n₁ : on ≡ Some nots) where
+              pub not_not_numbered : {m d : List ℕ} {r : Option Numbers} → NumbersAre names s nots (stamp + 2) d₂ be m d r → r ≡ None → Answered m d None
               not_not_numbered n e = record { says = not_otherwise names (tokens (drop from s)) (cut head_word h₀ h₁ h) (cut body_word b₀ b₁ b) (no_numbers names not_word s bp n₀ n₁ (list_otherwise n e)) }
 
               module _ {m₃ d₃ : List ℕ} {np ne : ℕ} {nt : Bool} (n : ListNumbered names s nots (stamp + 2) d₂ be m₃ d₃ np ne nt) where
-                pub three_lists : {twice : Bool} → twice ≡ (ht || (bt || nt)) → Answered m₃ d₃ (Lists.Rule (record { place = np; heads = he - at; bodies = be - he; nots = ne - be; end = ne; twice = twice }))
+                pub three_lists : {twice : Bool} → twice ≡ (ht || (bt || nt)) → Answered m₃ d₃ (Some (record { place = np; heads = he - at; bodies = be - he; nots = ne - be; end = ne; twice = twice }))
                 unfolding rule_form
                 three_lists {twice} e =
                     let hs = items (drop head s) in
@@ -184,7 +180,7 @@ unopened_none : opened_of [] ≡ unopened
 unfolding opened_of
 unopened_none = refl
 
-rule_opened : (l : List ℕ) {q : Place} → OpenedIs l 0 rule_word q → {p : ℕ} → q ≡ Place.At p → typed_form l ≡ cond (is_ended l) (rule_form (tokens (drop p l))) broken
+rule_opened : (l : List ℕ) {q : Option ℕ} → OpenedIs l 0 rule_word q → {p : ℕ} → q ≡ Some p → typed_form l ≡ cond (is_ended l) (rule_form (tokens (drop p l))) broken
 unfolding typed_form token_form same_bytes
 rule_opened l {q} o {p} e = ap (λ f. cond (is_ended l) f broken) (go (tokens l) (subst (OpenedSays l 0 rule_word) e o.says).1)
   where
@@ -192,8 +188,8 @@ rule_opened l {q} o {p} e = ap (λ f. cond (is_ended l) f broken) (go (tokens l)
     go [] i = absurd (let z : unopened ≡ opened rule_word (tokens (drop p l)) = sym unopened_none ∙ i in let y : ◌≡◌ {A = ℕ} 0 1 = cc in omega arith)
     go (t ∷ ts) i = ap opened_form i
 
-module _ (names : List (List ℕ)) (l : List ℕ) (stamp : ℕ) (before : List ℕ) (at : ℕ) {q : Place} (o : OpenedIs l 0 rule_word q) where
-  pub not_rule : q ≡ Place.Absent → (marks after : List ℕ) → RuleIs names l stamp before at marks after Lists.Otherwise
+module _ (names : List (List ℕ)) (l : List ℕ) (stamp : ℕ) (before : List ℕ) (at : ℕ) {q : Option ℕ} (o : OpenedIs l 0 rule_word q) where
+  pub not_rule : q ≡ None → (marks after : List ℕ) → RuleIs names l stamp before at marks after None
   unfolding typed_form token_form declared_form when_form
   not_rule e marks after = record { says = λ hs bs ns i. absurd (go (is_ended l) (tokens l) (subst (OpenedSays l 0 rule_word) e o.says) i) }
     where
@@ -232,7 +228,7 @@ module _ (names : List (List ℕ)) (l : List ℕ) (stamp : ℕ) (before : List �
       go true [] n i = let z : ◌≡◌ {A = ℕ} 0 1 = cc in omega arith
       go true (t ∷ ts) n i = other (opened_of (t ∷ ts)) n i
 
-  module _ {p : ℕ} (e : q ≡ Place.At p) where
+  module _ {p : ℕ} (e : q ≡ Some p) where
     form_is : typed_form l ≡ cond (is_ended l) (rule_form (tokens (drop p l))) broken
     form_is = rule_opened l o e
 
@@ -244,10 +240,10 @@ module _ (names : List (List ℕ)) (l : List ℕ) (stamp : ℕ) (before : List �
         go true i = (refl, i)
         go false i = absurd (let z : ◌≡◌ {A = ℕ} 0 1 = cc in omega arith)
 
-    pub lists_otherwise : {marks after : List ℕ} {r : RuleNumbers} → ListsAre names l p stamp before at marks after r → r ≡ Lists.Otherwise → RuleIs names l stamp before at marks after Lists.Otherwise
+    pub lists_otherwise : {marks after : List ℕ} {r : Option RuleCounts} → ListsAre names l p stamp before at marks after r → r ≡ None → RuleIs names l stamp before at marks after None
     lists_otherwise {marks} {after} h d = let n : NoRule names (rule_form (tokens (drop p l))) = subst (ListsSay names l p stamp before at marks after) d h.says in record { says = λ hs bs ns i. n hs bs ns (inner i).1 }
 
-    module _ {marks after : List ℕ} {r : RuleNumbers} (h : ListsAre names l p stamp before at marks after r) {c : RuleCounts} (d : r ≡ Lists.Rule c) where
+    module _ {marks after : List ℕ} {r : Option RuleCounts} (h : ListsAre names l p stamp before at marks after r) {c : RuleCounts} (d : r ≡ Some c) where
       listed : ListsNumbered names l p stamp before at marks after c
       listed = subst (ListsSay names l p stamp before at marks after) d h.says
 
@@ -258,14 +254,14 @@ module _ (names : List (List ℕ)) (l : List ℕ) (stamp : ℕ) (before : List �
         closed : rule_form (tokens (drop p l)) ≡ cond k (rules listed.heads listed.bodies listed.nots) broken
         closed = listed.form ∙ closed_form (tokens (drop c.place l)) (rules listed.heads listed.bodies listed.nots) f
 
-        pub rule_unclosed : not k ≡ true → RuleIs names l stamp before at marks after Lists.Otherwise
+        pub rule_unclosed : not k ≡ true → RuleIs names l stamp before at marks after None
         rule_unclosed g = record { says = λ hs bs ns i. absurd (let j : broken ≡ rules hs bs ns = sym (closed ∙ ap (λ b. cond b (rules listed.heads listed.bodies listed.nots) broken) (not-true k g)) ∙ (inner i).1 in let z : ◌≡◌ {A = ℕ} 0 1 = cc in omega arith) }
 
         module _ (g : not k ≡ false) {t : Bool} (u : t ≡ is_ended l) where
-          pub rule_unended : t ≡ false → RuleIs names l stamp before at marks after Lists.Otherwise
+          pub rule_unended : t ≡ false → RuleIs names l stamp before at marks after None
           rule_unended v = record { says = λ hs bs ns i. absurd (let j : false ≡ true = sym v ∙ u ∙ (inner i).0 in let z : ◌≡◌ {A = ℕ} 0 1 = cc in omega arith) }
 
-          pub rule_numbered : t ≡ true → RuleIs names l stamp before at marks after (Lists.Rule c)
+          pub rule_numbered : t ≡ true → RuleIs names l stamp before at marks after (Some c)
           rule_numbered v =
               record {
                 says = record {

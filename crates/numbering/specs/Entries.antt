@@ -1,5 +1,5 @@
 -- Names entered into the scratch name store and its index.
-use Rattle.std.specs.Prelude.{ℕ, ◌+◌, ◌*◌, ◌≤◌, ◌<◌, ◌≡◌, Bool, true, false, List, [], ◌∷◌, ◌++◌, length, drop}
+use Rattle.std.specs.Prelude.{ℕ, ◌+◌, ◌*◌, ◌≤◌, ◌<◌, ◌≡◌, Bool, true, false, List, [], ◌∷◌, ◌++◌, length, drop, Result, Ok, Err}
 use Rattle.kinds.specs.Sizes.{longest_name, longest_entry, store_bytes}
 use Rattle.kinds.specs.Limits.{atom_limit}
 use Rattle.kinds.specs.declared.limits.Kind.TheVariants.{Plain}
@@ -7,7 +7,8 @@ use Rattle.rules.specs.Lists.{All}
 use Rattle.name_store.specs.NameStore.{encode_names, among}
 use Rattle.name_store.specs.NameIndex.{Indexed}
 use Rattle.numbering.specs.declared.entries.Entered.{Entered}
-use Rattle.numbering.specs.declared.entries.Entered.TheVariants as Answer
+use Rattle.numbering.specs.declared.entries.Unentered.{Unentered}
+use Rattle.numbering.specs.declared.entries.Unentered.TheVariants.{Full, Twice}
 use Rattle.lines.specs.Tokens.{items}
 use Rattle.lines.specs.Faults.{twice}
 
@@ -64,10 +65,10 @@ pub record SomeEntered (names : List (List ℕ)) (s : List ℕ) (from : ℕ) (by
   pub more : 1 ≤ length (items (drop at s))
   pub onward : from + length passed ≤ at
 
-abbrev pub EnteredSays : List (List ℕ) → List ℕ → ℕ → List ℕ → List ℕ → List ℕ → List ℕ → Entered → Type 0
-EnteredSays names s from bytes starts firsts links (Answer.All atoms used) = AllEntered names (items (drop from s)) bytes starts firsts links atoms used
-EnteredSays names s from bytes starts firsts links (Answer.Full at) = SomeEntered names s from bytes starts firsts links at
-EnteredSays names s from bytes starts firsts links Answer.Twice = twice names (items (drop from s)) ≡ true
+abbrev pub EnteredSays : List (List ℕ) → List ℕ → ℕ → List ℕ → List ℕ → List ℕ → List ℕ → Result Entered Unentered → Type 0
+EnteredSays names s from bytes starts firsts links (Ok e) = AllEntered names (items (drop from s)) bytes starts firsts links e.atoms e.bytes
+EnteredSays names s from bytes starts firsts links (Err (Full at)) = SomeEntered names s from bytes starts firsts links at
+EnteredSays names s from bytes starts firsts links (Err Twice) = twice names (items (drop from s)) ≡ true
 
-pub record EnteredIs (names : List (List ℕ)) (s : List ℕ) (from : ℕ) (bytes starts firsts links : List ℕ) (r : Entered) : Type 0 where
+pub record EnteredIs (names : List (List ℕ)) (s : List ℕ) (from : ℕ) (bytes starts firsts links : List ℕ) (r : Result Entered Unentered) : Type 0 where
   pub says : EnteredSays names s from bytes starts firsts links r

@@ -1,13 +1,10 @@
 -- The names of a rule's lists as atom numbers.
-use Rattle.std.specs.Prelude.{ℕ, ◌+◌, ◌*◌, ◌≤◌, ◌≡◌, Bool, true, false, not, List, [], ◌++◌, map, length, drop}
+use Rattle.std.specs.Prelude.{ℕ, ◌+◌, ◌*◌, ◌≤◌, ◌≡◌, Bool, true, false, not, List, [], ◌++◌, map, length, drop, Option, Some, None}
 use Rattle.rules.specs.Lists.{some}
 use Rattle.stores.specs.Checking.{Below}
 use Rattle.output.specs.Emitted.{Emitted}
 use Rattle.numbering.specs.declared.numbers.Numbers.{Numbers}
-use Rattle.numbering.specs.declared.numbers.Numbers.TheVariants as Answer
 use Rattle.numbering.specs.declared.numbers.RuleCounts.{RuleCounts}
-use Rattle.numbering.specs.declared.numbers.RuleNumbers.{RuleNumbers}
-use Rattle.numbering.specs.declared.numbers.RuleNumbers.TheVariants as Lists
 use Rattle.lines.specs.Tokens.{Token, tokens, items}
 use Rattle.lines.specs.Forms.{LineForm, rules, split, split_names, closed_lastly, rule_form, typed_form}
 use Rattle.lines.specs.Faults.{name_number, any_of}
@@ -31,13 +28,13 @@ pub record ListNumbered (names : List (List ℕ)) (s : List ℕ) (from stamp : �
   pub inside : place ≤ length s
   pub numbered : Numbered names (items (drop from s)) stamp before at marks after end twice
 
-abbrev pub NumbersSay : List (List ℕ) → List ℕ → ℕ → ℕ → List ℕ → ℕ → List ℕ → List ℕ → Numbers → Type 0
-NumbersSay names s from stamp before at marks after (Answer.List place end twice) = ListNumbered names s from stamp before at marks after place end twice
-NumbersSay names s from stamp before at marks after Answer.Otherwise =
+abbrev pub NumbersSay : List (List ℕ) → List ℕ → ℕ → ℕ → List ℕ → ℕ → List ℕ → List ℕ → Option Numbers → Type 0
+NumbersSay names s from stamp before at marks after (Some n) = ListNumbered names s from stamp before at marks after n.place n.end n.twice
+NumbersSay names s from stamp before at marks after None =
     (xs : List (List ℕ)) (rest : List Token) → split_names (tokens (drop from s)) ≡ split xs rest → undeclared names xs ≡ true
 
 -- what the answer for a list says
-pub record NumbersAre (names : List (List ℕ)) (s : List ℕ) (from stamp : ℕ) (before : List ℕ) (at : ℕ) (marks after : List ℕ) (r : Numbers) : Type 0 where
+pub record NumbersAre (names : List (List ℕ)) (s : List ℕ) (from stamp : ℕ) (before : List ℕ) (at : ℕ) (marks after : List ℕ) (r : Option Numbers) : Type 0 where
   pub says : NumbersSay names s from stamp before at marks after r
 
 -- the same of a rule's three lists
@@ -67,11 +64,11 @@ pub record ListsNumbered (names : List (List ℕ)) (s : List ℕ) (from stamp : 
 abbrev pub NoRule : List (List ℕ) → LineForm → Type 0
 NoRule names f = (hs bs ns : List (List ℕ)) → f ≡ rules hs bs ns → any_of (undeclared names) hs bs ns ≡ true
 
-abbrev pub ListsSay : List (List ℕ) → List ℕ → ℕ → ℕ → List ℕ → ℕ → List ℕ → List ℕ → RuleNumbers → Type 0
-ListsSay names s from stamp before at marks after (Lists.Rule c) = ListsNumbered names s from stamp before at marks after c
-ListsSay names s from stamp before at marks after Lists.Otherwise = NoRule names (rule_form (tokens (drop from s)))
+abbrev pub ListsSay : List (List ℕ) → List ℕ → ℕ → ℕ → List ℕ → ℕ → List ℕ → List ℕ → Option RuleCounts → Type 0
+ListsSay names s from stamp before at marks after (Some c) = ListsNumbered names s from stamp before at marks after c
+ListsSay names s from stamp before at marks after None = NoRule names (rule_form (tokens (drop from s)))
 
-pub record ListsAre (names : List (List ℕ)) (s : List ℕ) (from stamp : ℕ) (before : List ℕ) (at : ℕ) (marks after : List ℕ) (r : RuleNumbers) : Type 0 where
+pub record ListsAre (names : List (List ℕ)) (s : List ℕ) (from stamp : ℕ) (before : List ℕ) (at : ℕ) (marks after : List ℕ) (r : Option RuleCounts) : Type 0 where
   pub says : ListsSay names s from stamp before at marks after r
 
 -- a rule's line
@@ -83,9 +80,9 @@ pub record LineNumbered (names : List (List ℕ)) (l : List ℕ) (stamp : ℕ) (
   pub few : c.heads + c.bodies + c.nots ≤ 3 * length l
   pub numbered : RuleNumbered names heads bodies nots stamp before at marks after c
 
-abbrev pub RuleSays : List (List ℕ) → List ℕ → ℕ → List ℕ → ℕ → List ℕ → List ℕ → RuleNumbers → Type 0
-RuleSays names l stamp before at marks after (Lists.Rule c) = LineNumbered names l stamp before at marks after c
-RuleSays names l stamp before at marks after Lists.Otherwise = NoRule names (typed_form l)
+abbrev pub RuleSays : List (List ℕ) → List ℕ → ℕ → List ℕ → ℕ → List ℕ → List ℕ → Option RuleCounts → Type 0
+RuleSays names l stamp before at marks after (Some c) = LineNumbered names l stamp before at marks after c
+RuleSays names l stamp before at marks after None = NoRule names (typed_form l)
 
-pub record RuleIs (names : List (List ℕ)) (l : List ℕ) (stamp : ℕ) (before : List ℕ) (at : ℕ) (marks after : List ℕ) (r : RuleNumbers) : Type 0 where
+pub record RuleIs (names : List (List ℕ)) (l : List ℕ) (stamp : ℕ) (before : List ℕ) (at : ℕ) (marks after : List ℕ) (r : Option RuleCounts) : Type 0 where
   pub says : RuleSays names l stamp before at marks after r

@@ -12,13 +12,18 @@ use kinds::limits::Plain;
 use lines::scan;
 use lines::scan::Item;
 use name_store::index;
-use name_store::index::Found;
 use output::bytes::{emit, push};
 
-// What entering the names of a line gives: all are entered; or those before `at`, where the store is full; or a name stands twice.
+// All names of a line are entered: so many atoms and bytes are in the store now.
 #[derive(Clone, Copy)]
-pub enum Entered {
-    All { atoms: usize, bytes: usize },
+pub struct Entered {
+    pub atoms: usize,
+    pub bytes: usize,
+}
+
+// Those before `at` are entered, where the store is full; or a name stands twice.
+#[derive(Clone, Copy)]
+pub enum Unentered {
     Full { at: usize },
     Twice,
 }
@@ -59,7 +64,7 @@ pub fn enter_names(
     links: &mut [u16],
     count: usize,
     used: usize,
-) -> Entered
+) -> Result<Entered, Unentered>
     requires from_in_bounds { (from ≤ length line.now) × Short (items (drop from line.now)) }
     requires room { Room bytes.old starts.old links.old }
     requires stored { Stored (decode_names count bytes.old) bytes.old starts.old firsts.old links.old count used }
@@ -69,14 +74,14 @@ pub fn enter_names(
     let mut atom = count;
     let mut at = used;
     loop {
-        let Item::At { gap, size } = scan::item_at(line, i) else {
-            return Entered::All {
+        let Some(Item { gap, size }) = scan::item_at(line, i) else {
+            return Ok(Entered {
                 atoms: atom,
                 bytes: at,
-            };
+            });
         };
         if Plain::ATOMS <= atom {
-            return Entered::Full { at: i };
+            return Err(Unentered::Full { at: i });
         }
         let start = i + gap;
         let to = start + size;
@@ -85,7 +90,7 @@ pub fn enter_names(
             atom += 1;
             at += 1 + size;
         } else {
-            return Entered::Twice;
+            return Err(Unentered::Twice);
         }
     }
 }
@@ -105,12 +110,12 @@ pub fn any_known(
 {
     let mut i = from;
     loop {
-        let Item::At { gap, size } = scan::item_at(line, i) else {
+        let Some(Item { gap, size }) = scan::item_at(line, i) else {
             return false;
         };
         let start = i + gap;
         let to = start + size;
-        let Found::Missing = index::find(bytes, starts, firsts, links, &line[start..to]) else {
+        let None = index::find(bytes, starts, firsts, links, &line[start..to]) else {
             return true;
         };
         i = to;
@@ -120,9 +125,7 @@ pub fn any_known(
 fn clear(firsts: &mut [u16])
     ensures { firsts.new ≡ replicate (length firsts.old) 0 }
 {
-    for i in 0..firsts.len() {
-        firsts[i] = 0;
-    }
+    firsts.fill(0);
 }
 
 // Whether a name stands twice from `from` on, by blocks of as many names as the index has room for.
@@ -142,9 +145,9 @@ pub fn any_twice(
     loop {
         clear(firsts);
         match enter_names(line, at, bytes, starts, firsts, links, 0, 0) {
-            Entered::All { atoms: _, bytes: _ } => return false,
-            Entered::Twice => return true,
-            Entered::Full { at: rest } => {
+            Ok(_) => return false,
+            Err(Unentered::Twice) => return true,
+            Err(Unentered::Full { at: rest }) => {
                 if any_known(line, rest, bytes, starts, firsts, links) {
                     return true;
                 }

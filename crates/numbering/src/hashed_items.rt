@@ -5,15 +5,12 @@ ghost use Rattle.numbering.specs.HashedItems.{hashed_run, hashed_item};
 use lines::scan;
 use name_store::index;
 
-// A name behind so many spaces, by its length and its hash, or anything else.
+// A name behind `gap` spaces, by its length and its hash.
 #[derive(Clone, Copy)]
-pub enum HashedItem {
-    At {
-        gap: usize,
-        size: usize,
-        hash: usize,
-    },
-    Stop,
+pub struct HashedItem {
+    pub gap: usize,
+    pub size: usize,
+    pub hash: usize,
 }
 
 // The name at `at`, in one walk for its end and its hash.
@@ -26,7 +23,7 @@ fn hashed_run_at(s: &[u8], at: usize, gap: usize) -> HashedItem
     while i < s.len() {
         let b = s[i];
         if scan::is_delimiter(b) {
-            return HashedItem::At {
+            return HashedItem {
                 gap,
                 size: i - at,
                 hash,
@@ -35,25 +32,25 @@ fn hashed_run_at(s: &[u8], at: usize, gap: usize) -> HashedItem
         hash = index::hash_step(hash, b);
         i += 1;
     }
-    HashedItem::At {
+    HashedItem {
         gap,
         size: i - at,
         hash,
     }
 }
 
-// The item at `at`, with its hash.
-pub fn hashed_item_at(s: &[u8], at: usize) -> HashedItem
+// The item at `at` with its hash, unless anything else stands there.
+pub fn hashed_item_at(s: &[u8], at: usize) -> Option<HashedItem>
     requires { at ≤ length s.now }
     ensures { result ≡ hashed_item (drop at s.now) }
 {
     let gap = scan::gap_at(s, at);
     let start = at + gap;
     if s.len() <= start {
-        return HashedItem::Stop;
+        return None;
     }
     if scan::is_delimiter(s[start]) {
-        return HashedItem::Stop;
+        return None;
     }
-    hashed_run_at(s, start, gap)
+    Some(hashed_run_at(s, start, gap))
 }

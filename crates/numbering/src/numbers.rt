@@ -8,30 +8,18 @@ ghost use Rattle.numbering.specs.Numbers.{NumbersAre, ListsAre, RuleIs};
 use crate::hashed_items::{HashedItem, hashed_item_at};
 use lines::forms::{any, closes_line};
 use lines::scan;
-use lines::scan::Place;
 use name_store::index;
-use name_store::index::Found;
 use output::words::push;
 
 // A list up to its closing bracket: the places behind it and behind its numbers, and whether a name stands twice in it.
-// Otherwise a name is not declared or the list is not closed.
 #[derive(Clone, Copy)]
-pub enum Numbers {
-    List {
-        place: usize,
-        end: usize,
-        twice: bool,
-    },
-    Otherwise,
+pub struct Numbers {
+    pub place: usize,
+    pub end: usize,
+    pub twice: bool,
 }
 
 // The same of a rule's three lists, with their counts.
-#[derive(Clone, Copy)]
-pub enum RuleNumbers {
-    Rule(RuleCounts),
-    Otherwise,
-}
-
 #[derive(Clone, Copy)]
 pub struct RuleCounts {
     pub place: usize,
@@ -52,7 +40,7 @@ pub fn mark(marks: &mut [u16], atom: usize, stamp: u16) -> bool
     marked
 }
 
-// Writes the numbers of the names from `from` on.
+// Writes the numbers of the names from `from` on, unless a name is not declared or the list is not closed.
 pub fn numbers_at(
     line: &[u8],
     from: usize,
@@ -64,7 +52,7 @@ pub fn numbers_at(
     stamp: u16,
     out: &mut [u16],
     at: usize,
-) -> Numbers
+) -> Option<Numbers>
     requires from_in_bounds { (from ≤ length line.now) × (length starts.now ≤ 65535) × (length starts.now ≤ length marks.old) × (at + length line.now < 2 ^ 63) }
     requires indexed { Indexed (decode_names (length starts.now) bytes.now) bytes.now starts.now firsts.now links.now }
     requires below { Below stamp marks.old }
@@ -74,24 +62,13 @@ pub fn numbers_at(
     let mut end = at;
     let mut twice = false;
     loop {
-        let HashedItem::At { gap, size, hash } = hashed_item_at(line, i) else {
-            let Place::At(place) = scan::closed_at(line, i) else {
-                return Numbers::Otherwise;
-            };
-            return Numbers::List { place, end, twice };
+        let Some(HashedItem { gap, size, hash }) = hashed_item_at(line, i) else {
+            let place = scan::closed_at(line, i)?;
+            return Some(Numbers { place, end, twice });
         };
         let start = i + gap;
         let to = start + size;
-        let Found::At(atom) = index::find_hashed(
-            bytes,
-            starts,
-            firsts,
-            links,
-            &line[start..to],
-            hash,
-        ) else {
-            return Numbers::Otherwise;
-        };
+        let atom = index::find_hashed(bytes, starts, firsts, links, &line[start..to], hash)?;
         if mark(marks, atom, stamp) {
             twice = true;
         }
@@ -112,33 +89,18 @@ fn lists_at(
     stamp: u16,
     out: &mut [u16],
     at: usize,
-) -> RuleNumbers
+) -> Option<RuleCounts>
     requires from_in_bounds { (from ≤ length line.now) × (length starts.now ≤ 65535) × (length starts.now ≤ length marks.old) × (at + 3 * length line.now < 2 ^ 63) × (stamp + 2 < 65536) }
     requires indexed { Indexed (decode_names (length starts.now) bytes.now) bytes.now starts.now firsts.now links.now }
     requires below { Below stamp marks.old }
     ensures { ListsAre (decode_names (length starts.now) bytes.now) line.now from stamp out.old at marks.new out.new result }
 {
-    let Place::At(head) = scan::opened_at(line, from, b"head") else {
-        return RuleNumbers::Otherwise;
-    };
-    let Numbers::List {
-        place: head_place,
-        end: head_end,
-        twice: in_head,
-    } = numbers_at(
+    let head = scan::opened_at(line, from, b"head")?;
+    let heads = numbers_at(
         line, head, bytes, starts, firsts, links, marks, stamp, out, at,
-    )
-    else {
-        return RuleNumbers::Otherwise;
-    };
-    let Place::At(body) = scan::opened_at(line, head_place, b"body") else {
-        return RuleNumbers::Otherwise;
-    };
-    let Numbers::List {
-        place: body_place,
-        end: body_end,
-        twice: in_body,
-    } = numbers_at(
+    )?;
+    let body = scan::opened_at(line, heads.place, b"body")?;
+    let bodies = numbers_at(
         line,
         body,
         bytes,
@@ -148,19 +110,10 @@ fn lists_at(
         marks,
         stamp + 1,
         out,
-        head_end,
-    )
-    else {
-        return RuleNumbers::Otherwise;
-    };
-    let Place::At(not) = scan::opened_at(line, body_place, b"not") else {
-        return RuleNumbers::Otherwise;
-    };
-    let Numbers::List {
-        place,
-        end,
-        twice: in_not,
-    } = numbers_at(
+        heads.end,
+    )?;
+    let not = scan::opened_at(line, bodies.place, b"not")?;
+    let nots = numbers_at(
         line,
         not,
         bytes,
@@ -170,18 +123,15 @@ fn lists_at(
         marks,
         stamp + 2,
         out,
-        body_end,
-    )
-    else {
-        return RuleNumbers::Otherwise;
-    };
-    let twice = any(in_head, in_body, in_not);
-    RuleNumbers::Rule(RuleCounts {
-        place,
-        heads: head_end - at,
-        bodies: body_end - head_end,
-        nots: end - body_end,
-        end,
+        bodies.end,
+    )?;
+    let twice = any(heads.twice, bodies.twice, nots.twice);
+    Some(RuleCounts {
+        place: nots.place,
+        heads: heads.end - at,
+        bodies: bodies.end - heads.end,
+        nots: nots.end - bodies.end,
+        end: nots.end,
         twice,
     })
 }
@@ -197,25 +147,21 @@ pub fn rule_numbers(
     stamp: u16,
     out: &mut [u16],
     at: usize,
-) -> RuleNumbers
+) -> Option<RuleCounts>
     requires starts_len_bound { (length starts.now ≤ 65535) × (length starts.now ≤ length marks.old) × (at + 3 * length line.now < 2 ^ 63) × (stamp + 2 < 65536) }
     requires indexed { Indexed (decode_names (length starts.now) bytes.now) bytes.now starts.now firsts.now links.now }
     requires below { Below stamp marks.old }
     ensures { RuleIs (decode_names (length starts.now) bytes.now) line.now stamp out.old at marks.new out.new result }
 {
-    let Place::At(from) = scan::opened_at(line, 0, b"rule") else {
-        return RuleNumbers::Otherwise;
-    };
-    let RuleNumbers::Rule(counts) = lists_at(
+    let from = scan::opened_at(line, 0, b"rule")?;
+    let counts = lists_at(
         line, from, bytes, starts, firsts, links, marks, stamp, out, at,
-    ) else {
-        return RuleNumbers::Otherwise;
-    };
+    )?;
     if !closes_line(line, counts.place) {
-        return RuleNumbers::Otherwise;
+        return None;
     }
     if scan::is_ended(line) {
-        return RuleNumbers::Rule(counts);
+        return Some(counts);
     }
-    RuleNumbers::Otherwise
+    None
 }

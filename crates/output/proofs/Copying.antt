@@ -1,54 +1,17 @@
 -- A copy of a list over another one.
 use Prim.Native.Nat.{ℕ, zero, suc, ◌+◌, ◌-◌, ◌/◌, ◌≤◌, ◌<◌}
 use native.Mathlib.Nat.{zero-add}
-use native.Mathlib.Numerals.{add-one}
 use native.Mathlib.Omega.{arith}
 use mathlib.Core.Path.{◌≡◌, refl, sym, ap, ap₂, ◌∙◌}
 use mathlib.Core.List.{List, [], ◌∷◌, ◌++◌, append-nil}
 use lib.ListN.{length, get_or, set, take, drop, drop_of_length-le, length-append, length-drop, length-set, take-append-drop}
-use lib.Seq.{drop-cons, take-suc, take_all, set_at, append_snoc, length-take-le, take-append-le, take-take, sets, length-sets, lt-length-sets, sets-eq}
+use lib.Seq.{drop-cons, take_all, length-take-le, take-append-le, take-take, sets, length-sets, lt-length-sets, sets-eq}
 use borrow.Rule.Slice.PartMut.{mid_of, post_of, put_mid}
 use Rattle.rules.proofs.Lists.{part_rest}
 
 -- the first i elements of s over those of d
 abbrev overlaid : List ℕ → List ℕ → ℕ → List ℕ
 overlaid s d i = take i s ++ drop i d
-
-overlaid_next : (s d : List ℕ) (i : ℕ) → i < length s → i < length d → set (overlaid s d i) i (get_or s i 0) ≡ overlaid s d (i + 1)
-overlaid_next s d i l k =
-    ap (λ (r : List ℕ). set (take i s ++ r) i (get_or s i 0)) (drop-cons d i 0 k)
-    ∙ set_at (take i s) (get_or d i 0) (drop (suc i) d) (get_or s i 0) i (length-take-le i s (omega arith))
-    ∙ sym (append_snoc (take i s) (get_or s i 0) (drop (suc i) d))
-    ∙ ap (λ (r : List ℕ). r ++ drop (suc i) d) (sym (take-suc s i 0 l))
-    ∙ ap (overlaid s d) (sym (add-one i))
-
-overlaid_all : (s d : List ℕ) (i : ℕ) → length d ≡ length s → length s ≤ i → overlaid s d i ≡ s
-overlaid_all s d i e l =
-    let m : length d ≤ i = omega arith in
-    ap₂ (λ (a b : List ℕ). a ++ b) (take_all i s l) (drop_of_length-le d m) ∙ append-nil s
-
--- element by element: i are copied
-pub record Copying (s d now : List ℕ) (i : ℕ) : Type 0 where
-  pub as_long : length d ≡ length s
-  pub kept : length now ≡ length s
-  pub within : i ≤ length s
-  pub so : now ≡ overlaid s d i
-
-pub start : {s d : List ℕ} → length d ≡ length s → Copying s d d 0
-start e = record { as_long = e; kept = e; within = omega arith; so = refl }
-
-module _ {s d now : List ℕ} {i : ℕ} (h : Copying s d now i) where
-  pub turn : i < length s → Copying s d (set now i (get_or s i 0)) (i + 1)
-  turn l =
-      record {
-        as_long = h.as_long;
-        kept = length-set now i (get_or s i 0) ∙ h.kept;
-        within = omega arith;
-        so = ap (λ (r : List ℕ). set r i (get_or s i 0)) h.so ∙ overlaid_next s d i l (omega arith);
-      }
-
-  pub finish : length s ≤ i → now ≡ s
-  finish l = h.so ∙ overlaid_all s d i h.as_long l
 
 -- the first k elements, stored one by one
 abbrev elements : ℕ → ℕ → List ℕ → List ℕ

@@ -1,4 +1,3 @@
 -- The laws of writing into an output.
 pub mod Emitting
 pub mod Copying
-pub mod Copies

@@ -1,55 +1,8 @@
 // The bytes of a text or of a name store.
-ghost use Rattle.std.specs.Prelude.{◌≡◌, [], ◌∷◌, ◌++◌, ◌≤◌, length, take, drop};
+ghost use Rattle.std.specs.Prelude.{◌≡◌, ◌++◌, ◌≤◌, length, take, drop};
 ghost use Rattle.output.specs.Emitted.{Emitted, InRange};
 
-pub fn push(b: u8, out: &mut [u8], at: usize) -> usize
-    requires { InRange at (b ∷ []) }
-    ensures { Emitted out.old at (b ∷ []) out.new result }
-{
-    if at < out.len() {
-        out[at] = b;
-        return at + 1;
-    }
-    at + 1
-}
-
-// Byte by byte, where the output has room for some.
-fn emit_each(bytes: &[u8], out: &mut [u8], at: usize) -> usize
-    requires { InRange at bytes.now }
-    ensures { Emitted out.old at bytes.now out.new result }
-{
-    let mut next = at;
-    for i in 0..bytes.len() {
-        next = push(bytes[i], out, next);
-    }
-    next
-}
-
-// To a part of the output that has the length of the bytes.
-fn copy(bytes: &[u8], part: &mut [u8])
-    requires { length part.old ≡ length bytes.now }
-    ensures { part.new ≡ bytes.now }
-{
-    for i in 0..bytes.len() {
-        part[i] = bytes[i];
-    }
-}
-
-// For words whose length the compiler knows: it makes a few wide stores of them.
-pub fn emit(bytes: &[u8], out: &mut [u8], at: usize) -> usize
-    requires { InRange at bytes.now }
-    ensures { Emitted out.old at bytes.now out.new result }
-{
-    let end = at + bytes.len();
-    if end <= out.len() {
-        copy(bytes, &mut out[at..end]);
-        return end;
-    }
-    if out.len() <= at {
-        return end;
-    }
-    emit_each(bytes, out, at)
-}
+pub use crate::elements::{emit, push};
 
 // The first, the middle and the last, which may be the same: a branch on their number would often be mispredicted.
 fn copy_few(bytes: &[u8], part: &mut [u8])
@@ -152,7 +105,7 @@ fn copy_name(bytes: &[u8], part: &mut [u8])
         copy_by_sixteens(bytes, part);
         return;
     }
-    copy(bytes, part);
+    part.copy_from_slice(bytes);
 }
 
 // For names, whose lengths it does not know.

@@ -13,7 +13,7 @@ use groups::grouping::fill_tables;
 use groups::plan::Plan;
 use kinds::limits::{Kind, Preference};
 use masks::answers_at::verdict_at;
-use masks::guard::{Guard, check_call};
+use masks::guard::check_call;
 use masks::masks::{fill_masks, first_broken};
 use places::turning::turned;
 use walks::answers::Verdict;
@@ -78,9 +78,8 @@ fn preferred_of(words: &[u16], set: u64, budget: u64) -> Verdict
 pub fn preferred(words: &[u16], set: u64, budget: u64) -> Verdict
     ensures { result ≡ preferred_answer words.now set budget }
 {
-    let guard = check_call(words, Kind::Preference, set, 0, budget);
-    match guard {
-        Guard::Passed => preferred_of(words, set, budget),
-        Guard::Refused { refusal } => Verdict::Refused { refusal: refusal },
+    match check_call(words, Kind::Preference, set, 0, budget) {
+        Ok(()) => preferred_of(words, set, budget),
+        Err(refusal) => Verdict::Refused { refusal },
     }
 }

@@ -7,6 +7,8 @@ use mathlib.Core.List.{List, [], ◌∷◌, ◌++◌}
 use lib.Dec.{T, leb, eqb}
 use lib.ListN.{length, get_or, take, drop, length-append}
 use lib.Seq.{drop-append_seam}
+use Rattle.std.specs.Prelude.{Result}
+use Rattle.kinds.specs.declared.refusals.Refusal.{Refusal}
 use Rattle.kinds.specs.Limits.{atom_limit, rule_limit, occurrence_limit}
 use Rattle.kinds.specs.declared.limits.Kind.TheVariants.{Plain}
 use Rattle.rules.specs.Lists.{sum, flat, from}
@@ -27,7 +29,7 @@ use Rattle.output.proofs.Emitting.{front_inside, front_is}
 use Rattle.rule_index.specs.Index.{counted, index, index_of, rules_with}
 use Rattle.rule_index.specs.Growth.{grown_store, grown_index}
 use Rattle.rule_index.specs.Answers.{store_index}
-use Rattle.rule_index.specs.declared.Grown.{Grown}
+use Rattle.rule_index.specs.declared.GrownSizes.{GrownSizes}
 use Rattle.rule_index.proofs.Growth.{grown_tested, grown_decoded, grown_index_lem}
 use Rattle.rule_index.proofs.IndexSize.{index_few}
 use Rattle.rule_adding.specs.CheckedStore.{Addable}
@@ -122,6 +124,6 @@ module _ {ws index rule : List ℕ} {h : Header} (a : Addable ws index rule h) w
           record { below = omega (arith, ap length front_index, index_small g) },
         )
 
-    pub index_delivered : {before index_before after index_after : List ℕ} {r : Grown} → Delivered (grown_store ws rule) (take size scratch') before index_before after index_after r
+    pub index_delivered : {before index_before after index_after : List ℕ} {r : Result GrownSizes Refusal} → Delivered (grown_store ws rule) (take size scratch') before index_before after index_after r
         → Delivered (grown_store ws rule) (store_index (grown_store ws rule)) before index_before after index_after r
     index_delivered {before} {index_before} {after} {index_after} {r} d = subst (λ (l : List ℕ). Delivered (grown_store ws rule) l before index_before after index_after r) front_index d

@@ -8,16 +8,16 @@ use mathlib.Core.List.{List}
 use lib.Dec.{leb, eqb}
 use lib.ListN.{length, replicate}
 use borrow.Author.Tests.{le-leb, lt-leb}
+use Rattle.std.specs.Prelude.{Option, Some, None}
 use Rattle.kinds.specs.Limits.{atom_limit, rule_limit, occurrence_limit}
 use Rattle.kinds.specs.declared.limits.Kind.{Kind}
 use Rattle.kinds.specs.declared.limits.Kind.TheVariants.{Plain}
 use Rattle.rules.specs.Lists.{sum}
 use Rattle.rules.specs.Rules.{occurrences}
-use Rattle.stores.specs.Checking.{Below, rule_check}
+use Rattle.stores.specs.Checking.{Below, rule_check, rule_end}
 use Rattle.stores.specs.RuleStore.{decode, places, is_rule, is_store}
 use Rattle.stores.specs.declared.rule_store.Header.{Header}
-use Rattle.stores.specs.declared.rule_store.RuleCheck.{RuleCheck}
-use Rattle.stores.specs.declared.rule_store.RuleCheck.TheVariants.{Next, Broken}
+use Rattle.stores.specs.declared.rule_store.RuleEnd.{RuleEnd}
 use Rattle.stores.proofs.RuleStores.{store_law}
 use Rattle.stores.proofs.StoreHeader.{unmarked}
 use Rattle.rule_index.specs.Growth.{grown_store}
@@ -25,13 +25,13 @@ use Rattle.rule_index.proofs.Growth.{grown_tested}
 use Rattle.rule_adding.specs.CheckedStore.{CheckedStore}
 
 -- what an answer says of a test and of the words behind the rule
-when_broken : (t e : Bool) (i u : ℕ) → Broken ≡ cond t (Next i u) Broken → (t && e) ≡ false
+when_broken : (t e : Bool) (i u : ℕ) → None ≡ cond t (Some (rule_end i u)) None → (t && e) ≡ false
 when_broken true e i u h = absurd (let z : ◌≡◌ {A = ℕ} 0 1 = cc in omega arith)
 when_broken false e i u h = refl
 
-when_passed : (t : Bool) (i u j v n : ℕ) → Next j v ≡ cond t (Next i u) Broken → (t && eqb i n) ≡ eqb j n
-when_passed true i u j v n h = let e : i ≡ j = cc in ap (λ (k : ℕ). eqb k n) e
-when_passed false i u j v n h = absurd (let z : ◌≡◌ {A = ℕ} 0 1 = cc in omega arith)
+when_passed : (t : Bool) (i u n : ℕ) (end : RuleEnd) → Some end ≡ cond t (Some (rule_end i u)) None → (t && eqb i n) ≡ eqb end.at n
+when_passed true i u n end h = let e : rule_end i u ≡ end = cc in ap (λ (r : RuleEnd). eqb r.at n) e
+when_passed false i u n end h = absurd (let z : ◌≡◌ {A = ℕ} 0 1 = cc in omega arith)
 
 abbrev no_marks : List ℕ
 no_marks = replicate (atom_limit Plain) 0
@@ -61,19 +61,19 @@ module _ {ws : List ℕ} {kind : Kind} {h : Header} (s : CheckedStore ws kind h)
     pub no_rule_more : rule_limit kind ≤ h.rules → false ≡ is_store (grown_store ws rule)
     no_rule_more l = sym (tested ∙ ap (λ (b : Bool). b && (is_rule kind h.atoms used_here rule && ends)) (lt-leb (suc h.rules) (rule_limit kind) (omega arith)))
 
-    module _ (l : h.rules < rule_limit kind) {got : RuleCheck} (g : got ≡ rule_check kind h.atoms used_here 0 rule) where
+    module _ (l : h.rules < rule_limit kind) {got : Option RuleEnd} (g : got ≡ rule_check kind h.atoms used_here 0 rule) where
       left : is_store (grown_store ws rule) ≡ (is_rule kind h.atoms used_here rule && ends)
       left = tested ∙ ap (λ (b : Bool). b && (is_rule kind h.atoms used_here rule && ends)) (le-leb (suc h.rules) (rule_limit kind) (omega arith))
 
-      pub rule_broken : got ≡ Broken → false ≡ is_store (grown_store ws rule)
+      pub rule_broken : got ≡ None → false ≡ is_store (grown_store ws rule)
       unfolding rule_check
       rule_broken e = sym (left ∙ when_broken (is_rule kind h.atoms used_here rule) ends (0 + (3 + places rule)) (used_here + places rule) (sym e ∙ g))
 
-      pub rule_passed : {at v : ℕ} → got ≡ Next at v → eqb at (length rule) ≡ is_store (grown_store ws rule)
+      pub rule_passed : {end : RuleEnd} → got ≡ Some end → eqb end.at (length rule) ≡ is_store (grown_store ws rule)
       unfolding rule_check
-      rule_passed {at} {v} e =
+      rule_passed {end} e =
           let test = is_rule kind h.atoms used_here rule in
           sym
           (left
           ∙ ap (λ (k : ℕ). test && eqb k (length rule)) (sym (zero-add (3 + places rule)))
-          ∙ when_passed test (0 + (3 + places rule)) (used_here + places rule) at v (length rule) (sym e ∙ g))
+          ∙ when_passed test (0 + (3 + places rule)) (used_here + places rule) (length rule) end (sym e ∙ g))

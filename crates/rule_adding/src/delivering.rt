@@ -6,7 +6,7 @@ ghost use Rattle.rule_adding.specs.Delivered.{Delivered};
 
 use kinds::refusals::Refusal;
 use output::words::{emit, push};
-use rule_index::Grown;
+use rule_index::{Grown, GrownSizes};
 
 fn emit_store(rules: &[u16], rule: &[u16], out: &mut [u16]) -> usize
     requires { (4 ≤ length rules.now) × (get_or rules.now 3 0 < 65535) × InRange 0 (grown_store rules.now rule.now) }
@@ -33,16 +33,12 @@ pub fn deliver(
     let words = rules.len() + rule.len();
     let index_words = index.len();
     if rules_out.len() < words {
-        return Grown::Refused {
-            refusal: Refusal::Output,
-        };
+        return Err(Refusal::Output);
     }
     if index_out.len() < index_words {
-        return Grown::Refused {
-            refusal: Refusal::Output,
-        };
+        return Err(Refusal::Output);
     }
     emit_store(rules, rule, rules_out);
     emit(index, index_out, 0);
-    Grown::Stores { words, index_words }
+    Ok(GrownSizes { words, index_words })
 }

@@ -6,7 +6,7 @@ ghost use Rattle.rule_adding.specs.CheckedStore.{CheckedStore};
 
 use kinds::limits::{Kind, Plain};
 use rule_check::rule_forms::rule_form;
-use stores::rule_store::{Header, RuleCheck};
+use stores::rule_store::Header;
 
 pub fn fits(rules: &[u16], kind: Kind, header: Header, rule: &[u16]) -> bool
     requires { CheckedStore rules.now kind header }
@@ -19,9 +19,8 @@ pub fn fits(rules: &[u16], kind: Kind, header: Header, rule: &[u16]) -> bool
     // The occurrences in the rules that are there.
     let used = rules.len() - header.start - 3 * count;
     let mut marks = [0u16; Plain::ATOMS];
-    let found = rule_form(rule, 0, kind, header.atoms, used, &mut marks, 1);
-    let RuleCheck::Next { at, used: _ } = found else {
+    let Some(end) = rule_form(rule, 0, kind, header.atoms, used, &mut marks, 1) else {
         return false;
     };
-    at == rule.len()
+    end.at == rule.len()
 }

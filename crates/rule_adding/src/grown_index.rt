@@ -34,9 +34,9 @@ fn grow_lists(index: &[u16], marks: &[bool], number: u16, out: &mut [u16]) -> us
 {
     let mut from: usize = 0;
     let mut next: usize = 0;
-    for a in 0..marks.len() {
+    for mark in marks {
         let size = 1 + index[from] as usize;
-        next = grow_list(&index[from..], marks[a], number, out, next);
+        next = grow_list(&index[from..], *mark, number, out, next);
         from += size;
     }
     next

@@ -22,7 +22,7 @@ use kinds::refusals::Refusal;
 use rule_index::Grown;
 use store_check::header::header_of;
 use store_check::store_forms::check_rules;
-use stores::rule_store::{Header, RuleStore};
+use stores::rule_store::Header;
 
 // With a rule that fits and the store's index.
 fn add_checked(
@@ -63,22 +63,13 @@ pub fn add_rule(
     ensures store { rules_out.new ≡ add_store rules.now index.now rule.now rules_out.old index_out.old }
     ensures grown { index_out.new ≡ add_index rules.now index.now rule.now rules_out.old index_out.old }
 {
-    let store = check_rules(rules);
-    let RuleStore::Of(kind) = store else {
-        return Grown::Refused {
-            refusal: Refusal::RuleStore,
-        };
-    };
+    let kind = check_rules(rules).ok_or(Refusal::RuleStore)?;
     let header = header_of(rules, kind);
     if !fits(rules, kind, header, rule) {
-        return Grown::Refused {
-            refusal: Refusal::RuleStore,
-        };
+        return Err(Refusal::RuleStore);
     }
     if !is_store_index(rules, header, index) {
-        return Grown::Refused {
-            refusal: Refusal::RuleIndex,
-        };
+        return Err(Refusal::RuleIndex);
     }
     add_checked(rules, index, rule, header, rules_out, index_out)
 }

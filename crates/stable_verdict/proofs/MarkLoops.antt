@@ -1,4 +1,4 @@
--- What the loops over a `not` list and over the marks keep.
+-- The lists of the rule at the front, and what the loop over the marks keeps.
 use Prim.Native.Nat.{ℕ, suc, ◌+◌, ◌-◌, ◌^◌, ◌≤◌, ◌<◌}
 use mathlib.Core.Path.{◌≡◌, sym, ap, ◌∙◌}
 use mathlib.Core.Bool.{Bool, true, false, not, ◌||◌}
@@ -19,33 +19,6 @@ use Rattle.stores.specs.StoredRules.{StoredRule}
 use Rattle.masks.proofs.MaskBits.{bit_test}
 use Rattle.stores.proofs.RuleLists.{bodies_below, nots_below}
 use Rattle.stable_verdict.specs.ReductMarks.{is_keeping, marked_at}
-
--- the mask of one atom tells whether it is in m
-module _ (m a : ℕ) where
-  module _ (b : ℕ) (q : b ≡ 2 ^ a) where
-    told : eqb (bit_and m b) 0 ≡ not (has m a)
-    told = ap (λ (x : ℕ). eqb (bit_and m x) 0) q ∙ bit_test m a
-
-    pub bit_in : (bit_and m b ≡ 0 → ⊥) → has m a ≡ true
-    bit_in e = not-false (has m a) (sym told ∙ ne_eqb (bit_and m b) 0 e)
-
-    pub bit_out : bit_and m b ≡ 0 → has m a ≡ false
-    bit_out e = not-true (has m a) (sym told ∙ eq-eqb (bit_and m b) 0 e)
-
--- some atom of a list is in m, one atom further
-module _ (m : ℕ) (xs : List ℕ) (i : ℕ) (e : some (has m) xs ≡ some (has m) (drop i xs)) where
-  module _ (h : i < length xs) where
-    here : (b : Bool) → has m (get_or xs i 0) ≡ b → some (has m) xs ≡ (b || some (has m) (drop (suc i) xs))
-    here b q = e ∙ ap (some (has m)) (drop-cons xs i 0 h) ∙ ap (λ (t : Bool). t || some (has m) (drop (suc i) xs)) q
-
-    pub some_found : has m (get_or xs i 0) ≡ true → true ≡ some (has m) xs
-    some_found t = sym (here true t)
-
-    pub some_more : has m (get_or xs i 0) ≡ false → some (has m) xs ≡ some (has m) (drop (i + 1) xs)
-    some_more f = here false f ∙ ap (λ (k : ℕ). some (has m) (drop k xs)) (sym (add-one i))
-
-  pub some_none : length xs ≤ i → false ≡ some (has m) xs
-  some_none l = sym (e ∙ ap (some (has m)) (drop_of_length-le xs l))
 
 -- the lists of the rule at the front, as the code takes them
 module _ (ws : List ℕ) where
@@ -85,6 +58,6 @@ module _ (before : ℕ) (ms : List Bool) (left j : ℕ) (e : marked_at before ms
         let a : marked_at before ms ≡ j + marked_at left' (false ∷ drop (suc j) ms) = next false f ∙ ap (λ (k : ℕ). j + marked_at k (false ∷ drop (suc j) ms)) (sym q) in
         rw (add-one j) (omega arith)
 
-  pub marked_none : length ms ≤ j → j ≡ marked_at before ms
+  pub marked_none : j ≤ length ms → length ms ≤ j → length ms ≡ marked_at before ms
   unfolding marked_at
-  marked_none l = let a : marked_at before ms ≡ j + marked_at left [] = e ∙ ap (λ (x : List Bool). j + marked_at left x) (drop_of_length-le ms l) in omega arith
+  marked_none f l = let a : marked_at before ms ≡ j + marked_at left [] = e ∙ ap (λ (x : List Bool). j + marked_at left x) (drop_of_length-le ms l) in omega arith

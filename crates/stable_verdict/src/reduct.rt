@@ -10,19 +10,21 @@ ghost use Rattle.stores.specs.StoredRules.{StoredRule, StoredRules};
 ghost use Rattle.masks.specs.Masks.{care_at, want_at};
 ghost use Rattle.stable_verdict.specs.ReductMarks.{is_keeping, marks_of, marked_at};
 
-use masks::masks::{bit_of, fill_rules, wide};
+use masks::masks::fill_rules;
 use stores::rule_words::rule_size;
+
+fn is_in(set: u64, atom: u16) -> bool
+    requires { atom < walk_atoms }
+    ensures { result ≡ has set atom }
+{
+    (set >> atom) % 2 == 1
+}
 
 fn some_in(set: u64, atoms: &[u16]) -> bool
     requires { All (λ a. a < walk_atoms) atoms.now }
     ensures { result ≡ some (has set) atoms.now }
 {
-    for i in 0..atoms.len() {
-        if set & bit_of(wide(atoms[i])) != 0 {
-            return true;
-        }
-    }
-    false
+    atoms.iter().any(|atom| is_in(set, *atom))
 }
 
 // Whether the reduct by `of` keeps the rule at the front: none of its `not` atoms is in.
@@ -86,15 +88,13 @@ pub fn marked_at(marks: &[bool], before: usize) -> usize
     ensures { result ≡ marked_at before marks.now }
 {
     let mut left = before;
-    let mut place = 0;
-    while place < marks.len() {
-        if marks[place] {
+    for (place, mark) in marks.iter().enumerate() {
+        if *mark {
             if left == 0 {
                 return place;
             }
             left -= 1;
         }
-        place += 1;
     }
-    place
+    marks.len()
 }

@@ -14,8 +14,8 @@ use groups::grouping::fill_tables;
 use groups::plan::Plan;
 use kinds::limits::{Kind, Plain, Preference};
 use masks::answers_at::verdict_at;
-use masks::guard::{Guard, check_call};
-use masks::masks::{first_broken, wide};
+use masks::guard::check_call;
+use masks::masks::first_broken;
 use places::turning::turned;
 use walks::answers::Verdict;
 
@@ -44,8 +44,8 @@ fn stable_of(words: &[u16], set: u64, budget: u64) -> Verdict
     requires budget_le_budget_limit { budget ≤ budget_limit }
     ensures { result ≡ stable_verdict (decode words.now).atoms (decode words.now).rules set budget }
 {
-    let n = wide(words[1]);
-    let rules = wide(words[3]);
+    let n = words[1] as usize;
+    let rules = words[3] as usize;
     let mut marks = [false; Plain::RULES];
     let mut care = [0u64; Plain::RULES];
     let mut want = [0u64; Plain::RULES];
@@ -65,9 +65,8 @@ fn stable_of(words: &[u16], set: u64, budget: u64) -> Verdict
 pub fn stable(words: &[u16], set: u64, budget: u64) -> Verdict
     ensures { result ≡ stable_answer words.now set budget }
 {
-    let guard = check_call(words, Kind::Plain, set, 0, budget);
-    match guard {
-        Guard::Passed => stable_of(words, set, budget),
-        Guard::Refused { refusal } => Verdict::Refused { refusal: refusal },
+    match check_call(words, Kind::Plain, set, 0, budget) {
+        Ok(()) => stable_of(words, set, budget),
+        Err(refusal) => Verdict::Refused { refusal },
     }
 }

@@ -3,11 +3,12 @@ use Prim.Native.Nat.{ℕ, zero, suc, ◌+◌, ◌-◌, ◌≤◌, ◌<◌}
 use native.Mathlib.Omega.{arith}
 use native.Mathlib.Decide.{dec_lt}
 use mathlib.Core.Path.{◌≡◌, refl, sym, ap, ap₂, ◌∙◌, subst}
-use mathlib.Core.Bool.{Bool, true, false}
+use mathlib.Core.Bool.{Bool, true, false, cond}
 use mathlib.Core.List.{List, [], ◌∷◌, ◌++◌, append-nil}
 use lib.Dec.{leb, eqb}
-use lib.ListN.{length, get_or}
+use lib.ListN.{length, get_or, drop}
 use borrow.Author.Tests.{le-leb, leb-true, leb-false, eq-eqb, ne_eqb}
+use Rattle.std.specs.List.{prefix_len}
 use Rattle.rules.specs.Lists.{keep, filter, from}
 use Rattle.rules.specs.Rules.{count_if}
 use Rattle.rules.specs.Preferred.{of_class}
@@ -114,6 +115,22 @@ stops w (x ∷ ws) l = go (leb x w) refl (stops w ws) l
     go : (b : Bool) → leb x w ≡ b → (up_to w ws < length ws → w < get_or ws (up_to w ws) 0) → count_if b (up_to w ws) < suc (length ws) → w < get_or (x ∷ ws) (count_if b (up_to w ws)) 0
     go true e f h = f (omega arith)
     go false e f h = leb-false x w e
+
+-- the count, from a word before its end on
+pub up_to_from : (w : ℕ) (ws : List ℕ) (first : ℕ) → first ≤ up_to w ws → first + prefix_len (λ x. leb x w) (drop first ws) ≡ up_to w ws
+unfolding up_to
+up_to_from w [] zero l = refl
+up_to_from w [] (suc first) l = absurd (omega arith)
+up_to_from w (x ∷ ws) zero l = go (leb x w) (up_to_from w ws zero (omega arith))
+  where
+    go : (b : Bool) → 0 + prefix_len (λ x. leb x w) ws ≡ up_to w ws → 0 + cond b (1 + prefix_len (λ x. leb x w) ws) 0 ≡ count_if b (up_to w ws)
+    go true e = omega arith
+    go false e = refl
+up_to_from w (x ∷ ws) (suc first) l = go (leb x w) (up_to_from w ws first) l
+  where
+    go : (b : Bool) → (first ≤ up_to w ws → first + prefix_len (λ x. leb x w) (drop first ws) ≡ up_to w ws) → suc first ≤ count_if b (up_to w ws) → suc first + prefix_len (λ x. leb x w) (drop first ws) ≡ count_if b (up_to w ws)
+    go true f h = omega (arith, f (omega arith))
+    go false f h = absurd (omega arith)
 
 -- the count, word by word
 module _ (w : ℕ) (ws : List ℕ) (i : ℕ) (l : i ≤ up_to w ws) where

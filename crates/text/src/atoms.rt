@@ -14,8 +14,8 @@ pub fn place_names(names: &[u8], starts: &mut [u16])
     ensures { Placed (stored_names names.now starts.old) names.now starts.new }
 {
     let mut at: usize = 0;
-    for i in 0..starts.len() {
-        starts[i] = at as u16;
+    for start in starts.iter_mut() {
+        *start = at as u16;
         at += 1 + names[at] as usize;
     }
 }
@@ -35,8 +35,8 @@ pub fn emit_atoms(atoms: &[u16], names: &[u8], starts: &[u16], out: &mut [u8], a
     ensures { Emitted out.old at (atom_items (stored_names names.now starts.now) atoms.now) out.new result }
 {
     let mut next = at;
-    for i in 0..atoms.len() {
-        next = emit_atom(atoms[i] as usize, names, starts, out, next);
+    for atom in atoms {
+        next = emit_atom(*atom as usize, names, starts, out, next);
     }
     next
 }

@@ -11,18 +11,12 @@ use crate::atoms::emit_line;
 use kinds::limits::ClassWord;
 
 // The first atom from `first` on whose class word is above `word`.
-fn class_end(words: &[u16], first: usize, word: u16) -> usize
+pub fn class_end(words: &[u16], first: usize, word: u16) -> usize
     requires { first ≤ up_to word words.now }
     ensures { result ≡ up_to word words.now }
 {
-    let mut i = first;
-    while i < words.len() {
-        if word < words[i] {
-            return i;
-        }
-        i += 1;
-    }
-    i
+    let within = words[first..].iter().take_while(|own| **own <= word);
+    first + within.count()
 }
 
 // The `min` line of the atoms from `first` up to `end`.

@@ -12,8 +12,8 @@ fn mark_atoms(atoms: &[u16], marks: &mut [bool])
     requires { All (λ a. a < length marks.old) atoms.now }
     ensures { Marks (is_member atoms.now) marks.old marks.new }
 {
-    for i in 0..atoms.len() {
-        marks[atoms[i] as usize] = true;
+    for a in atoms {
+        marks[*a as usize] = true;
     }
 }
 
@@ -31,7 +31,7 @@ pub fn mark_rules(words: &[u16], count: usize, marks: &mut [bool])
     ensures { Marks (is_used (rules_from count words.now)) marks.old marks.new }
 {
     let mut from: usize = 0;
-    for i in 0..count {
+    for _ in 0..count {
         let size = rule_size(&words[from..]);
         mark_rule(&words[from..], marks);
         from += size;
@@ -45,9 +45,9 @@ pub fn number_atoms(marks: &[bool], n: usize, numbers: &mut [u16]) -> usize
     ensures by_index { (a : ℕ) → a < n → get_or numbers.new a 0 ≡ length (marked a marks.now) }
 {
     let mut left: usize = 0;
-    for i in 0..n {
+    for (i, mark) in marks[..n].iter().enumerate() {
         numbers[i] = left as u16;
-        if marks[i] {
+        if *mark {
             left += 1;
         }
     }

@@ -26,16 +26,16 @@ returns-in_default c =
     }
 
 pub overflow_add-from : goal.overflow_add-from
-overflow_add-from c = omega (arith, check_part c.loop-atom.invariant c.loop-atom-test.true c.name_end.ensures c.in-At.is)
+overflow_add-from c = omega (arith, check_part c.loop-atom.invariant c.loop-atom-test.true c.name_end.ensures c.in-Some.is)
 
 pub slice_bounds-name-count : goal.slice_bounds-name-count
-slice_bounds-name-count c = omega (arith, check_part c.loop-atom.invariant c.loop-atom-test.true c.name_end.ensures c.in-At.is)
+slice_bounds-name-count c = omega (arith, check_part c.loop-atom.invariant c.loop-atom-test.true c.name_end.ensures c.in-Some.is)
 
 pub slice_bounds-name-start : goal.slice_bounds-name-start
-slice_bounds-name-start c = omega (arith, check_part c.loop-atom.invariant c.loop-atom-test.true c.name_end.ensures c.in-At.is)
+slice_bounds-name-start c = omega (arith, check_part c.loop-atom.invariant c.loop-atom-test.true c.name_end.ensures c.in-Some.is)
 
 pub slice_bounds-name-end : goal.slice_bounds-name-end
-slice_bounds-name-end c = omega (arith, check_part c.loop-atom.invariant c.loop-atom-test.true c.name_end.ensures c.in-At.is)
+slice_bounds-name-end c = omega (arith, check_part c.loop-atom.invariant c.loop-atom-test.true c.name_end.ensures c.in-Some.is)
 
 pub shape_of-starts-then-not-is_allowed : goal.shape_of-starts-then-not-is_allowed
 shape_of-starts-then-not-is_allowed c = c.loop-atom.invariant.same_starts
@@ -49,7 +49,7 @@ shape_of-links-then-not-is_allowed c = c.loop-atom.invariant.same_links
 pub returns-then-not-is_allowed : goal.returns-then-not-is_allowed
 returns-then-not-is_allowed c =
     record {
-      value = check_wrong c.loop-atom.invariant c.loop-atom-test.true c.name_end.ensures c.in-At.is c.is_allowed.ensures c.if-not-is_allowed.true;
+      value = check_wrong c.loop-atom.invariant c.loop-atom-test.true c.name_end.ensures c.in-Some.is c.is_allowed.ensures c.if-not-is_allowed.true;
       indexed = never;
     }
 
@@ -72,12 +72,12 @@ shape_of-links-then-not-enter_new c = c.enter_new.auto.links ∙ c.loop-atom.inv
 pub returns-then-not-enter_new : goal.returns-then-not-enter_new
 returns-then-not-enter_new c =
     record {
-      value = check_twice c.loop-atom.invariant c.loop-atom-test.true c.name_end.ensures c.in-At.is c.is_allowed.ensures c.if-not-is_allowed.false c.enter_new.ensures.value c.if-not-enter_new.true;
+      value = check_twice c.loop-atom.invariant c.loop-atom-test.true c.name_end.ensures c.in-Some.is c.is_allowed.ensures c.if-not-is_allowed.false c.enter_new.ensures.value c.if-not-enter_new.true;
       indexed = never;
     }
 
 pub loop-atom-preserved : goal.loop-atom-preserved
-loop-atom-preserved c = check_again c.loop-atom.invariant c.loop-atom-test.true c.name_end.ensures c.in-At.is c.is_allowed.ensures c.if-not-is_allowed.false c.enter_new.ensures.value c.if-not-enter_new.false c.enter_new.ensures.starts_after c.enter_new.ensures.firsts_after c.enter_new.ensures.links_after
+loop-atom-preserved c = check_again c.loop-atom.invariant c.loop-atom-test.true c.name_end.ensures c.in-Some.is c.is_allowed.ensures c.if-not-is_allowed.false c.enter_new.ensures.value c.if-not-enter_new.false c.enter_new.ensures.starts_after c.enter_new.ensures.firsts_after c.enter_new.ensures.links_after
 
 pub shape_of-starts : goal.shape_of-starts
 shape_of-starts c = c.loop-atom.invariant.same_starts

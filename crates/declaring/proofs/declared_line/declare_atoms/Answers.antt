@@ -1,19 +1,17 @@
-use mathlib.Core.Path.{◌∙◌}
 use Rattle.gathering.specs.Gathered.{state_of}
-use Rattle.lines.proofs.TokenPlaces.{items_few}
-use Rattle.gathering.proofs.HeldState.{held_small}
 use Rattle.numbering.proofs.NameBlocks.{entered_all, entered_some, not_once}
 use Rattle.declaring.proofs.DeclaredSteps.{held_room, room_kept, held_stored, not_expected, name_refused, all_short, declared_twice, rest_short, full_index, past_room, declared_line}
-use native.Mathlib.Omega.{arith}
-use mathlib.Core.Path.{ap}
+use mathlib.Core.Path.{◌≡◌, ap, ◌∙◌}
+use Rattle.numbering.specs.declared.entries.Unentered.TheVariants.{Full}
+use Rattle.std.specs.Prelude.{Err}
 use mathlib.Core.Bool.{not}
 use Rattle.declaring.proofs.declared_line.declare_atoms.Goals as goal
 
-pub returns-then-not-expected : goal.returns-then-not-expected
-returns-then-not-expected c = record { says = not_expected c.requires.held c.requires.held_index c.requires.declared c.is_expected-expected.ensures (ap not c.if-not-expected.true) }
+pub returns-then-not-is_expected : goal.returns-then-not-is_expected
+returns-then-not-is_expected c = record { says = not_expected c.requires.held c.requires.held_index c.requires.declared c.is_expected.ensures (ap not c.if-not-is_expected.true) }
 
 pub returns-then-shape : goal.returns-then-shape
-returns-then-shape c = record { says = name_refused c.requires.held c.requires.held_index c.requires.declared c.is_expected-expected.ensures (ap not c.if-not-expected.false) c.if-shape.true }
+returns-then-shape c = record { says = name_refused c.requires.held c.requires.held_index c.requires.declared c.is_expected.ensures (ap not c.if-not-is_expected.false) c.if-shape.true }
 
 pub enter_names-requires : goal.enter_names-requires
 unfolding state_of
@@ -22,18 +20,10 @@ enter_names-requires c =
     let x = c.requires.held_index in
     let p = c.requires.declared in
     record {
-      from_in_bounds = (p.inside, all_short h x p c.is_expected-expected.ensures (ap not c.if-not-expected.false) c.if-shape.false);
+      from_in_bounds = (p.inside, all_short h x p c.is_expected.ensures (ap not c.if-not-is_expected.false) c.if-shape.false);
       room = held_room h x p;
       stored = held_stored h x p;
     }
-
-pub keep_names-requires : goal.keep_names-requires
-keep_names-requires c =
-    let h = c.requires.held in
-    let x = c.requires.held_index in
-    let p = c.requires.declared in
-    let s = held_small h in
-    (h.classes_fit, omega (arith, s.words, p.is_count, items_few c.args.line.now c.args.shape.from, c.requires.line_len_bound))
 
 pub past_limit-requires : goal.past_limit-requires
 unfolding state_of
@@ -41,47 +31,21 @@ past_limit-requires c =
     let h = c.requires.held in
     let x = c.requires.held_index in
     let p = c.requires.declared in
-    let s = entered_some c.enter_names.ensures c.in-Full.is in
+    let e : c.enter_names.result ≡ Err (Full c.in-Full.at) = c.in-Err.is ∙ ap Err c.in-Full.is in
+    let s = entered_some c.enter_names.ensures e in
     record {
-      at_in_bounds = (s.inside, rest_short h x p c.is_expected-expected.ensures (ap not c.if-not-expected.false) c.if-shape.false s c.enter_names.auto.starts);
+      at_in_bounds = (s.inside, rest_short h x p c.is_expected.ensures (ap not c.if-not-is_expected.false) c.if-shape.false s c.enter_names.auto.starts);
       room = (room_kept h x p c.enter_names.auto.bytes c.enter_names.auto.starts c.enter_names.auto.links, s.index.firsts_room);
-      indexed = full_index h x p c.is_expected-expected.ensures (ap not c.if-not-expected.false) c.if-shape.false s c.enter_names.auto.starts;
+      indexed = full_index h x p c.is_expected.ensures (ap not c.if-not-is_expected.false) c.if-shape.false s c.enter_names.auto.starts;
     }
 
-pub shape_of-words : goal.shape_of-words
-shape_of-words c = c.keep_names.auto.words
-
-pub shape_of-bytes-in-All : goal.shape_of-bytes-in-All
-shape_of-bytes-in-All c = c.enter_names.auto.bytes
-
-pub shape_of-starts-in-All : goal.shape_of-starts-in-All
-shape_of-starts-in-All c = c.enter_names.auto.starts
-
-pub shape_of-firsts-in-All : goal.shape_of-firsts-in-All
-shape_of-firsts-in-All c = c.enter_names.auto.firsts
-
-pub shape_of-links-in-All : goal.shape_of-links-in-All
-shape_of-links-in-All c = c.enter_names.auto.links
-
-pub returns-in-All : goal.returns-in-All
+pub returns-in-Ok : goal.returns-in-Ok
 unfolding state_of
-returns-in-All c =
+returns-in-Ok c =
     let h = c.requires.held in
     let x = c.requires.held_index in
     let p = c.requires.declared in
-    declared_line h x p c.is_expected-expected.ensures (ap not c.if-not-expected.false) c.if-shape.false (entered_all c.enter_names.ensures c.in-All.is) c.enter_names.auto.bytes c.enter_names.auto.starts c.enter_names.auto.links c.keep_names.ensures
-
-pub shape_of-bytes-in-Full : goal.shape_of-bytes-in-Full
-shape_of-bytes-in-Full c = c.past_limit.auto.bytes ∙ c.enter_names.auto.bytes
-
-pub shape_of-starts-in-Full : goal.shape_of-starts-in-Full
-shape_of-starts-in-Full c = c.past_limit.auto.starts ∙ c.enter_names.auto.starts
-
-pub shape_of-firsts-in-Full : goal.shape_of-firsts-in-Full
-shape_of-firsts-in-Full c = c.past_limit.auto.firsts ∙ c.enter_names.auto.firsts
-
-pub shape_of-links-in-Full : goal.shape_of-links-in-Full
-shape_of-links-in-Full c = c.past_limit.auto.links ∙ c.enter_names.auto.links
+    declared_line h x p c.is_expected.ensures (ap not c.if-not-is_expected.false) c.if-shape.false (entered_all c.enter_names.ensures c.in-Ok.is) c.enter_names.auto.bytes c.enter_names.auto.starts c.enter_names.auto.links c.keep_names.ensures
 
 pub returns-in-Full : goal.returns-in-Full
 unfolding state_of
@@ -89,19 +53,8 @@ returns-in-Full c =
     let h = c.requires.held in
     let x = c.requires.held_index in
     let p = c.requires.declared in
-    record { says = past_room h x p c.is_expected-expected.ensures (ap not c.if-not-expected.false) c.if-shape.false (entered_some c.enter_names.ensures c.in-Full.is) c.enter_names.auto.starts c.past_limit.ensures }
-
-pub shape_of-bytes-in-Twice : goal.shape_of-bytes-in-Twice
-shape_of-bytes-in-Twice c = c.enter_names.auto.bytes
-
-pub shape_of-starts-in-Twice : goal.shape_of-starts-in-Twice
-shape_of-starts-in-Twice c = c.enter_names.auto.starts
-
-pub shape_of-firsts-in-Twice : goal.shape_of-firsts-in-Twice
-shape_of-firsts-in-Twice c = c.enter_names.auto.firsts
-
-pub shape_of-links-in-Twice : goal.shape_of-links-in-Twice
-shape_of-links-in-Twice c = c.enter_names.auto.links
+    let e : c.enter_names.result ≡ Err (Full c.in-Full.at) = c.in-Err.is ∙ ap Err c.in-Full.is in
+    record { says = past_room h x p c.is_expected.ensures (ap not c.if-not-is_expected.false) c.if-shape.false (entered_some c.enter_names.ensures e) c.enter_names.auto.starts c.past_limit.ensures }
 
 pub returns-in-Twice : goal.returns-in-Twice
 unfolding state_of
@@ -109,4 +62,4 @@ returns-in-Twice c =
     let h = c.requires.held in
     let x = c.requires.held_index in
     let p = c.requires.declared in
-    record { says = declared_twice h x p c.is_expected-expected.ensures (ap not c.if-not-expected.false) c.if-shape.false (not_once c.enter_names.ensures c.in-Twice.is) }
+    record { says = declared_twice h x p c.is_expected.ensures (ap not c.if-not-is_expected.false) c.if-shape.false (not_once c.enter_names.ensures (c.in-Err.is ∙ ap Err c.in-Twice.is)) }

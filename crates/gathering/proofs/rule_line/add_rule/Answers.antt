@@ -49,18 +49,18 @@ returns-in_default c =
 pub returns-then-rule : goal.returns-then-rule
 returns-then-rule c =
     record {
-      line_is = record { says = twice_in_list c.requires.held c.requires.line_len_bound.1 c.args.line.now (known_names c.requires.held_index c.requires.held) (line_numbered c.rule_numbers.ensures c.in-Rule.is) c.if-rule.true };
+      line_is = record { says = twice_in_list c.requires.held c.requires.line_len_bound.1 c.args.line.now (known_names c.requires.held_index c.requires.held) (line_numbered c.rule_numbers.ensures c.in-Some.is) c.if-rule.true };
       marks_are = record { says = tt };
     }
 
 pub keep_rule-requires : goal.keep_rule-requires
 keep_rule-requires c =
     let s = held_small c.requires.held in
-    (omega (arith, (line_numbered c.rule_numbers.ensures c.in-Rule.is).few, c.requires.line_len_bound.0), omega (arith, s.rules), omega (arith, s.occurrences), omega (arith, s.words))
+    (omega (arith, (line_numbered c.rule_numbers.ensures c.in-Some.is).few, c.requires.line_len_bound.0), omega (arith, s.rules), omega (arith, s.occurrences), omega (arith, s.words))
 
 pub returns : goal.returns
 returns c =
-    let w = (line_numbered c.rule_numbers.ensures c.in-Rule.is) in
+    let w = (line_numbered c.rule_numbers.ensures c.in-Some.is) in
     record {
       line_is = rule_line_lem c.requires.held c.requires.line_len_bound.1 c.args.line.now (known_names c.requires.held_index c.requires.held) w c.if-rule.false refl c.keep_rule.ensures c.requires.held_index;
       marks_are = rule_marks c.requires.held c.requires.line_len_bound.1 c.args.line.now (known_names c.requires.held_index c.requires.held) w c.if-rule.false refl c.keep_rule.ensures c.rule_numbers.auto.marks c.requires.held_marks;

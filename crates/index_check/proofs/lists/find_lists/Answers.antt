@@ -14,7 +14,7 @@ shape_of-ends-then-index-at c = c.loop-a.invariant.ends_long
 
 pub returns-then-index-at : goal.returns-then-index-at
 returns-then-index-at c =
-    let r = find_none c.loop-a.invariant c.loop-a-test.true c.if-index-at.true in
+    let r = find_none c.loop-a.invariant (omega (arith, c.loop-a.invariant.next_long)) c.if-index-at.true in
     record {
       value = r.0;
       lists = r.1;
@@ -31,17 +31,14 @@ shape_of-ends-then-index-first c = c.loop-a.invariant.ends_long
 
 pub returns-then-index-first : goal.returns-then-index-first
 returns-then-index-first c =
-    let r = find_cut c.loop-a.invariant c.loop-a-test.true c.if-index-at.false c.if-index-first.true in
+    let r = find_cut c.loop-a.invariant (omega (arith, c.loop-a.invariant.next_long)) c.if-index-at.false c.if-index-first.true in
     record {
       value = r.0;
       lists = r.1;
     }
 
-pub loop-a-smaller : goal.loop-a-smaller
-loop-a-smaller c = omega (arith, c.loop-a.invariant.next_long)
-
 pub loop-a-preserved : goal.loop-a-preserved
-loop-a-preserved c = find_again c.loop-a.invariant c.loop-a-test.true c.if-index-at.false c.if-index-first.false
+loop-a-preserved c = find_again c.loop-a.invariant (omega (arith, c.loop-a.invariant.next_long)) c.if-index-at.false c.if-index-first.false
 
 pub shape_of-next : goal.shape_of-next
 shape_of-next c = c.loop-a.invariant.next_long
@@ -51,7 +48,7 @@ shape_of-ends c = c.loop-a.invariant.ends_long
 
 pub returns : goal.returns
 returns c =
-    let r = find_end c.loop-a.invariant c.loop-a-test.false in
+    let r = find_end c.loop-a.invariant (omega (arith, c.loop-a.invariant.next_long)) in
     record {
       value = r.0;
       lists = r.1;

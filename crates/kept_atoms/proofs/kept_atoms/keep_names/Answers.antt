@@ -4,11 +4,11 @@ use mathlib.Core.Path.{ap}
 use mathlib.Core.Bool.{not}
 use Rattle.kept_atoms.proofs.kept_atoms.keep_names.Goals as goal
 
-pub returns-then-not-fits : goal.returns-then-not-fits
-returns-then-not-fits c = atoms_over c.args.kind c.args.gathered (word_of c.args.word) c.args.count _ _ _ c.classes_after-classes.ensures c.within-fits.ensures (ap not c.if-not-fits.true)
+pub returns-then-not-within : goal.returns-then-not-within
+returns-then-not-within c = atoms_over c.args.kind c.args.gathered (word_of c.args.word) c.args.count _ _ _ c.classes_after-classes.ensures c.within.ensures (ap not c.if-not-within.true)
 
 pub returns-then-classes-gt-CLASSES : goal.returns-then-classes-gt-CLASSES
-returns-then-classes-gt-CLASSES c = classes_over c.args.kind c.args.gathered (word_of c.args.word) c.args.count _ _ _ c.classes_after-classes.ensures c.within-fits.ensures (ap not c.if-not-fits.false) c.if-classes-gt-CLASSES.true
+returns-then-classes-gt-CLASSES c = classes_over c.args.kind c.args.gathered (word_of c.args.word) c.args.count _ _ _ c.classes_after-classes.ensures c.within.ensures (ap not c.if-not-within.false) c.if-classes-gt-CLASSES.true
 
 pub returns : goal.returns
-returns c = names_kept c.args.kind c.args.gathered (word_of c.args.word) c.args.count _ _ _ c.classes_after-classes.ensures c.within-fits.ensures (ap not c.if-not-fits.false) c.if-classes-gt-CLASSES.false c.stage_after-stage.ensures c.put_class_words-end.ensures
+returns c = names_kept c.args.kind c.args.gathered (word_of c.args.word) c.args.count _ _ _ c.classes_after-classes.ensures c.within.ensures (ap not c.if-not-within.false) c.if-classes-gt-CLASSES.false c.stage_after-stage.ensures c.put_class_words-end.ensures

@@ -5,7 +5,7 @@ pub returns-in_default : goal.returns-in_default
 returns-in_default c = not_closing c.args.line.now c.args.at c.closed_at.ensures c.in_default.is
 
 pub nothing_at-requires : goal.nothing_at-requires
-nothing_at-requires c = closing_inside c.args.line.now c.args.at c.closed_at.ensures c.in-At.is
+nothing_at-requires c = closing_inside c.args.line.now c.args.at c.closed_at.ensures c.in-Some.is
 
 pub returns : goal.returns
-returns c = closing_last c.args.line.now c.args.at c.closed_at.ensures c.in-At.is c.nothing_at.ensures
+returns c = closing_last c.args.line.now c.args.at c.closed_at.ensures c.in-Some.is c.nothing_at.ensures

@@ -9,22 +9,22 @@ pub returns-in_default : goal.returns-in_default
 returns-in_default c = no_head c.args.kind c.args.line.now c.args.from (no_list c.list_at.ensures c.in_default.is)
 
 pub list_at-requires-2 : goal.list_at-requires-2
-list_at-requires-2 c = ((list_is c.list_at.ensures c.in-List.is).inside, whole_body)
+list_at-requires-2 c = ((list_is c.list_at.ensures c.in-Some.is).inside, whole_body)
 
 pub returns-in_default-list_at : goal.returns-in_default-list_at
-returns-in_default-list_at c = no_body c.args.kind c.args.line.now c.args.from (list_is c.list_at.ensures c.in-List.is) (no_list c.list_at-2.ensures c.in_default-list_at.is)
+returns-in_default-list_at c = no_body c.args.kind c.args.line.now c.args.from (list_is c.list_at.ensures c.in-Some.is) (no_list c.list_at-2.ensures c.in_default-list_at.is)
 
 pub list_at-requires-3 : goal.list_at-requires-3
-list_at-requires-3 c = ((list_is c.list_at-2.ensures c.in-List-list_at.is).inside, whole_not)
+list_at-requires-3 c = ((list_is c.list_at-2.ensures c.in-Some-list_at.is).inside, whole_not)
 
 pub returns-in_default-list_at-2 : goal.returns-in_default-list_at-2
-returns-in_default-list_at-2 c = no_not c.args.kind c.args.line.now c.args.from (list_is c.list_at.ensures c.in-List.is) (list_is c.list_at-2.ensures c.in-List-list_at.is) (no_list c.list_at-3.ensures c.in_default-list_at-2.is)
+returns-in_default-list_at-2 c = no_not c.args.kind c.args.line.now c.args.from (list_is c.list_at.ensures c.in-Some.is) (list_is c.list_at-2.ensures c.in-Some-list_at.is) (no_list c.list_at-3.ensures c.in_default-list_at-2.is)
 
 pub closes_line-requires : goal.closes_line-requires
-closes_line-requires c = (list_is c.list_at-3.ensures c.in-List-list_at-2.is).inside
+closes_line-requires c = (list_is c.list_at-3.ensures c.in-Some-list_at-2.is).inside
 
 pub returns-then-closes_line : goal.returns-then-closes_line
-returns-then-closes_line c = ruling c.args.kind c.args.line.now c.args.from (list_is c.list_at.ensures c.in-List.is) (list_is c.list_at-2.ensures c.in-List-list_at.is) (list_is c.list_at-3.ensures c.in-List-list_at-2.is) c.closes_line.ensures c.if-closes_line.true c.any-refused.ensures
+returns-then-closes_line c = ruling c.args.kind c.args.line.now c.args.from (list_is c.list_at.ensures c.in-Some.is) (list_is c.list_at-2.ensures c.in-Some-list_at.is) (list_is c.list_at-3.ensures c.in-Some-list_at-2.is) c.closes_line.ensures c.if-closes_line.true c.any-refused.ensures
 
 pub returns : goal.returns
-returns c = not_ended c.args.kind c.args.line.now c.args.from (list_is c.list_at.ensures c.in-List.is) (list_is c.list_at-2.ensures c.in-List-list_at.is) (list_is c.list_at-3.ensures c.in-List-list_at-2.is) c.closes_line.ensures c.if-closes_line.false
+returns c = not_ended c.args.kind c.args.line.now c.args.from (list_is c.list_at.ensures c.in-Some.is) (list_is c.list_at-2.ensures c.in-Some-list_at.is) (list_is c.list_at-3.ensures c.in-Some-list_at-2.is) c.closes_line.ensures c.if-closes_line.false

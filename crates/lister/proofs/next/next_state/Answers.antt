@@ -1,3 +1,4 @@
+use mathlib.Core.Path.{refl}
 use lib.Dec.{leb}
 use Rattle.kinds.specs.declared.limits.Kind.TheVariants.{Preference}
 use Rattle.stores.specs.RuleStore.{decode}
@@ -10,7 +11,7 @@ use Rattle.lister.proofs.next.next_state.Goals as goal
 
 pub next_of-requires : goal.next_of-requires
 next_of-requires c =
-    let h = call_passes Refused Preference c.args.words.now (leb c.args.start) c.args.start 1 c.args.budget (next_verdict (decode c.args.words.now).words (decode c.args.words.now).rules c.args.start c.args.budget) (up_to_top c.args.start) _ c.check_call-guard.ensures c.in-Passed.is in
+    let h = call_passes Refused Preference c.args.words.now (leb c.args.start) c.args.start 1 c.args.budget (next_verdict (decode c.args.words.now).words (decode c.args.words.now).rules c.args.start c.args.budget) (up_to_top c.args.start) _ c.in-Ok.ensures refl in
     record {
       store_of = h.store;
       words_bound = h.few;
@@ -18,10 +19,10 @@ next_of-requires c =
       budget_le_budget_limit = h.allowed;
     }
 
-pub returns-in-Passed : goal.returns-in-Passed
+pub returns-in-Ok : goal.returns-in-Ok
 unfolding next_answer
-returns-in-Passed c = answer_told Refused Preference c.args.words.now (leb c.args.start) c.args.start 1 c.args.budget (next_verdict (decode c.args.words.now).words (decode c.args.words.now).rules c.args.start c.args.budget) (up_to_top c.args.start) _ c.check_call-guard.ensures c.in-Passed.is _ c.next_of.ensures
+returns-in-Ok c = answer_told Refused Preference c.args.words.now (leb c.args.start) c.args.start 1 c.args.budget (next_verdict (decode c.args.words.now).words (decode c.args.words.now).rules c.args.start c.args.budget) (up_to_top c.args.start) _ c.in-Ok.ensures refl _ c.next_of.ensures
 
-pub returns-in-Refused : goal.returns-in-Refused
+pub returns-in-Err : goal.returns-in-Err
 unfolding next_answer
-returns-in-Refused c = refusal_told Refused Preference c.args.words.now (leb c.args.start) c.args.start 1 c.args.budget (next_verdict (decode c.args.words.now).words (decode c.args.words.now).rules c.args.start c.args.budget) (up_to_top c.args.start) _ c.check_call-guard.ensures _ c.in-Refused.is
+returns-in-Err c = refusal_told Refused Preference c.args.words.now (leb c.args.start) c.args.start 1 c.args.budget (next_verdict (decode c.args.words.now).words (decode c.args.words.now).rules c.args.start c.args.budget) (up_to_top c.args.start) _ c.in-Err.ensures _ refl

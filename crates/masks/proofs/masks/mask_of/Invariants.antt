@@ -5,5 +5,5 @@ use lib.Bits.{bit_or}
 use Rattle.masks.specs.Masks.{place_mask}
 use Rattle.masks.proofs.masks.mask_of.Given as goal
 
-abbrev pub invariant-loop-i : goal.invariant-loop-i
-invariant-loop-i l = (l.i ≤ length l.atoms) × (place_mask l.n l.atoms ≡ bit_or l.m (place_mask l.n (drop l.i l.atoms)))
+abbrev pub invariant-loop-atom : goal.invariant-loop-atom
+invariant-loop-atom l = place_mask l.n l.atoms ≡ bit_or l.m (place_mask l.n (drop l.atom-index l.atoms))

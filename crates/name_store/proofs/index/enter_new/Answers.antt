@@ -40,7 +40,7 @@ pub returns : goal.returns
 returns c =
     let a = c.args in
     record {
-      value = found_new a.atom c.requires.indexed a.name.now c.find.ensures c.in-Missing.is;
+      value = found_new a.atom c.requires.indexed a.name.now c.find.ensures c.in-None.is;
       starts_after = c.enter.ensures.starts_after;
       firsts_after = c.enter.ensures.firsts_after;
       links_after = c.enter.ensures.links_after;

@@ -10,22 +10,22 @@ pub returns-in_default : goal.returns-in_default
 returns-in_default c = none_known c.loop-gap.invariant c.item_at.ensures c.in_default.is
 
 pub overflow_add-start : goal.overflow_add-start
-overflow_add-start c = omega (arith, look_inside c.loop-gap.invariant c.item_at.ensures c.in-At.is)
+overflow_add-start c = omega (arith, look_inside c.loop-gap.invariant c.item_at.ensures c.in-Some.is)
 
 pub overflow_add-to : goal.overflow_add-to
-overflow_add-to c = omega (arith, look_inside c.loop-gap.invariant c.item_at.ensures c.in-At.is)
+overflow_add-to c = omega (arith, look_inside c.loop-gap.invariant c.item_at.ensures c.in-Some.is)
 
 pub slice_bounds-find-end : goal.slice_bounds-find-end
-slice_bounds-find-end c = omega (arith, look_inside c.loop-gap.invariant c.item_at.ensures c.in-At.is)
+slice_bounds-find-end c = omega (arith, look_inside c.loop-gap.invariant c.item_at.ensures c.in-Some.is)
 
 pub find-requires : goal.find-requires
 find-requires c = c.requires.indexed
 
 pub returns-in_default-find : goal.returns-in_default-find
-returns-in_default-find c = one_known c.loop-gap.invariant c.item_at.ensures c.in-At.is c.find.ensures c.in_default-find.is
+returns-in_default-find c = one_known c.loop-gap.invariant c.item_at.ensures c.in-Some.is c.find.ensures c.in_default-find.is
 
 pub loop-gap-smaller : goal.loop-gap-smaller
-loop-gap-smaller c = omega (arith, look_inside c.loop-gap.invariant c.item_at.ensures c.in-At.is, look_long c.loop-gap.invariant c.item_at.ensures c.in-At.is)
+loop-gap-smaller c = omega (arith, look_inside c.loop-gap.invariant c.item_at.ensures c.in-Some.is, look_long c.loop-gap.invariant c.item_at.ensures c.in-Some.is)
 
 pub loop-gap-preserved : goal.loop-gap-preserved
-loop-gap-preserved c = look_again c.loop-gap.invariant c.item_at.ensures c.in-At.is c.find.ensures c.in-Missing.is
+loop-gap-preserved c = look_again c.loop-gap.invariant c.item_at.ensures c.in-Some.is c.find.ensures c.in-None.is

@@ -38,38 +38,38 @@ pub shape_of-links-then-atom-ge-ATOMS : goal.shape_of-links-then-atom-ge-ATOMS
 shape_of-links-then-atom-ge-ATOMS c = c.loop-gap.invariant.3
 
 pub returns-then-atom-ge-ATOMS : goal.returns-then-atom-ge-ATOMS
-returns-then-atom-ge-ATOMS c = record { says = store_full c.loop-gap.invariant.4 c.item_at.ensures c.in-At.is c.if-atom-ge-ATOMS.true }
+returns-then-atom-ge-ATOMS c = record { says = store_full c.loop-gap.invariant.4 c.item_at.ensures c.in-Some.is c.if-atom-ge-ATOMS.true }
 
 pub overflow_add-start : goal.overflow_add-start
-overflow_add-start c = omega (arith, entry_inside c.loop-gap.invariant.4 c.item_at.ensures c.in-At.is)
+overflow_add-start c = omega (arith, entry_inside c.loop-gap.invariant.4 c.item_at.ensures c.in-Some.is)
 
 pub overflow_add-to : goal.overflow_add-to
-overflow_add-to c = omega (arith, entry_inside c.loop-gap.invariant.4 c.item_at.ensures c.in-At.is)
+overflow_add-to c = omega (arith, entry_inside c.loop-gap.invariant.4 c.item_at.ensures c.in-Some.is)
 
 pub slice_bounds-enter_name-end : goal.slice_bounds-enter_name-end
-slice_bounds-enter_name-end c = omega (arith, entry_inside c.loop-gap.invariant.4 c.item_at.ensures c.in-At.is)
+slice_bounds-enter_name-end c = omega (arith, entry_inside c.loop-gap.invariant.4 c.item_at.ensures c.in-Some.is)
 
 pub enter_name-requires : goal.enter_name-requires
 enter_name-requires c =
     record {
-      indexed = entry_index c.loop-gap.invariant.4 c.item_at.ensures c.in-At.is c.if-atom-ge-ATOMS.false;
-      entry_room = entry_room c.loop-gap.invariant.4 c.item_at.ensures c.in-At.is c.if-atom-ge-ATOMS.false;
+      indexed = entry_index c.loop-gap.invariant.4 c.item_at.ensures c.in-Some.is c.if-atom-ge-ATOMS.false;
+      entry_room = entry_room c.loop-gap.invariant.4 c.item_at.ensures c.in-Some.is c.if-atom-ge-ATOMS.false;
     }
 
 pub overflow_add-atom : goal.overflow_add-atom
 overflow_add-atom c = omega (arith, c.if-atom-ge-ATOMS.false)
 
 pub overflow_add-at : goal.overflow_add-at
-overflow_add-at c = omega (arith, entry_inside c.loop-gap.invariant.4 c.item_at.ensures c.in-At.is)
+overflow_add-at c = omega (arith, entry_inside c.loop-gap.invariant.4 c.item_at.ensures c.in-Some.is)
 
 pub overflow_add-at-then-enter_name : goal.overflow_add-at-then-enter_name
-overflow_add-at-then-enter_name c = omega (arith, entry_short c.loop-gap.invariant.4 c.item_at.ensures c.in-At.is, c.loop-gap.invariant.4.stored.short, c.if-atom-ge-ATOMS.false)
+overflow_add-at-then-enter_name c = omega (arith, entry_short c.loop-gap.invariant.4 c.item_at.ensures c.in-Some.is, c.loop-gap.invariant.4.stored.short, c.if-atom-ge-ATOMS.false)
 
 pub loop-gap-smaller : goal.loop-gap-smaller
-loop-gap-smaller c = omega (arith, entry_inside c.loop-gap.invariant.4 c.item_at.ensures c.in-At.is, entry_long c.loop-gap.invariant.4 c.item_at.ensures c.in-At.is)
+loop-gap-smaller c = omega (arith, entry_inside c.loop-gap.invariant.4 c.item_at.ensures c.in-Some.is, entry_long c.loop-gap.invariant.4 c.item_at.ensures c.in-Some.is)
 
 pub loop-gap-preserved : goal.loop-gap-preserved
-loop-gap-preserved c = (c.enter_name.auto.bytes ∙ c.loop-gap.invariant.0, c.enter_name.auto.starts ∙ c.loop-gap.invariant.1, c.enter_name.auto.firsts ∙ c.loop-gap.invariant.2, c.enter_name.auto.links ∙ c.loop-gap.invariant.3, entered_again c.loop-gap.invariant.4 c.item_at.ensures c.in-At.is c.if-atom-ge-ATOMS.false c.enter_name.ensures c.if-enter_name.true c.enter_name.auto.bytes c.enter_name.auto.starts c.enter_name.auto.links)
+loop-gap-preserved c = (c.enter_name.auto.bytes ∙ c.loop-gap.invariant.0, c.enter_name.auto.starts ∙ c.loop-gap.invariant.1, c.enter_name.auto.firsts ∙ c.loop-gap.invariant.2, c.enter_name.auto.links ∙ c.loop-gap.invariant.3, entered_again c.loop-gap.invariant.4 c.item_at.ensures c.in-Some.is c.if-atom-ge-ATOMS.false c.enter_name.ensures c.if-enter_name.true c.enter_name.auto.bytes c.enter_name.auto.starts c.enter_name.auto.links)
 
 pub shape_of-bytes-else-enter_name : goal.shape_of-bytes-else-enter_name
 shape_of-bytes-else-enter_name c = c.enter_name.auto.bytes ∙ c.loop-gap.invariant.0
@@ -84,4 +84,4 @@ pub shape_of-links-else-enter_name : goal.shape_of-links-else-enter_name
 shape_of-links-else-enter_name c = c.enter_name.auto.links ∙ c.loop-gap.invariant.3
 
 pub returns-else-enter_name : goal.returns-else-enter_name
-returns-else-enter_name c = record { says = entered_twice c.loop-gap.invariant.4 c.item_at.ensures c.in-At.is c.if-atom-ge-ATOMS.false c.enter_name.ensures c.if-enter_name.false }
+returns-else-enter_name c = record { says = entered_twice c.loop-gap.invariant.4 c.item_at.ensures c.in-Some.is c.if-atom-ge-ATOMS.false c.enter_name.ensures c.if-enter_name.false }

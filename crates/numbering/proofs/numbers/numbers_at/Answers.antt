@@ -18,14 +18,8 @@ hashed_item_at-requires c = c.loop-gap.invariant.2.inside
 pub closed_at-requires : goal.closed_at-requires
 closed_at-requires c = c.loop-gap.invariant.2.inside
 
-pub shape_of-marks-in_default-closed_at : goal.shape_of-marks-in_default-closed_at
-shape_of-marks-in_default-closed_at c = c.loop-gap.invariant.0
-
-pub shape_of-out-in_default-closed_at : goal.shape_of-out-in_default-closed_at
-shape_of-out-in_default-closed_at c = c.loop-gap.invariant.1
-
-pub returns-in_default-closed_at : goal.returns-in_default-closed_at
-returns-in_default-closed_at c = numbers_unclosed c.loop-gap.invariant.2 refl (hashed_end c.args.line.now c.loop-gap.i c.hashed_item_at.ensures c.in_default.is) c.closed_at.ensures c.in_default-closed_at.is
+pub returns-in_err-place : goal.returns-in_err-place
+returns-in_err-place c = rw c.from_residual.ensures (numbers_unclosed c.loop-gap.invariant.2 refl (hashed_end c.args.line.now c.loop-gap.i c.hashed_item_at.ensures c.in_default.is) c.closed_at.ensures c.in_err-place.was)
 
 pub shape_of-marks-in_default : goal.shape_of-marks-in_default
 shape_of-marks-in_default c = c.loop-gap.invariant.0
@@ -34,51 +28,45 @@ pub shape_of-out-in_default : goal.shape_of-out-in_default
 shape_of-out-in_default c = c.loop-gap.invariant.1
 
 pub returns-in_default : goal.returns-in_default
-returns-in_default c = numbers_closed c.loop-gap.invariant.2 refl (hashed_end c.args.line.now c.loop-gap.i c.hashed_item_at.ensures c.in_default.is) c.closed_at.ensures c.in-At-closed_at.is
+returns-in_default c = numbers_closed c.loop-gap.invariant.2 refl (hashed_end c.args.line.now c.loop-gap.i c.hashed_item_at.ensures c.in_default.is) c.closed_at.ensures c.in_ok-place.was
 
 pub overflow_add-start : goal.overflow_add-start
-overflow_add-start c = omega (arith, number_inside c.loop-gap.invariant.2 refl (hashed_item_lem c.args.line.now c.loop-gap.i c.hashed_item_at.ensures c.in-At.is))
+overflow_add-start c = omega (arith, number_inside c.loop-gap.invariant.2 refl (hashed_item_lem c.args.line.now c.loop-gap.i c.hashed_item_at.ensures c.in-Some.is))
 
 pub overflow_add-to : goal.overflow_add-to
-overflow_add-to c = omega (arith, number_inside c.loop-gap.invariant.2 refl (hashed_item_lem c.args.line.now c.loop-gap.i c.hashed_item_at.ensures c.in-At.is))
+overflow_add-to c = omega (arith, number_inside c.loop-gap.invariant.2 refl (hashed_item_lem c.args.line.now c.loop-gap.i c.hashed_item_at.ensures c.in-Some.is))
 
 pub slice_bounds-find_hashed-end : goal.slice_bounds-find_hashed-end
-slice_bounds-find_hashed-end c = omega (arith, number_inside c.loop-gap.invariant.2 refl (hashed_item_lem c.args.line.now c.loop-gap.i c.hashed_item_at.ensures c.in-At.is))
+slice_bounds-find_hashed-end c = omega (arith, number_inside c.loop-gap.invariant.2 refl (hashed_item_lem c.args.line.now c.loop-gap.i c.hashed_item_at.ensures c.in-Some.is))
 
 pub find_hashed-requires : goal.find_hashed-requires
 find_hashed-requires c =
     record {
       indexed = c.requires.indexed;
-      h_value = hashed_name c.args.line.now c.loop-gap.i c.hashed_item_at.ensures c.in-At.is;
+      h_value = hashed_name c.args.line.now c.loop-gap.i c.hashed_item_at.ensures c.in-Some.is;
     }
 
-pub shape_of-marks-in_default-find_hashed : goal.shape_of-marks-in_default-find_hashed
-shape_of-marks-in_default-find_hashed c = c.loop-gap.invariant.0
-
-pub shape_of-out-in_default-find_hashed : goal.shape_of-out-in_default-find_hashed
-shape_of-out-in_default-find_hashed c = c.loop-gap.invariant.1
-
-pub returns-in_default-find_hashed : goal.returns-in_default-find_hashed
-returns-in_default-find_hashed c = not_declared c.loop-gap.invariant.2 refl (hashed_item_lem c.args.line.now c.loop-gap.i c.hashed_item_at.ensures c.in-At.is) c.find_hashed.ensures c.in_default-find_hashed.is
+pub returns-in_err-atom : goal.returns-in_err-atom
+returns-in_err-atom c = rw c.from_residual-in_err-atom.ensures (not_declared c.loop-gap.invariant.2 refl (hashed_item_lem c.args.line.now c.loop-gap.i c.hashed_item_at.ensures c.in-Some.is) c.find_hashed.ensures c.in_err-atom.was)
 
 pub mark-requires : goal.mark-requires
-mark-requires c = atom_marked c.loop-gap.invariant.2 refl (hashed_item_lem c.args.line.now c.loop-gap.i c.hashed_item_at.ensures c.in-At.is) c.find_hashed.ensures c.in-At-find_hashed.is
+mark-requires c = atom_marked c.loop-gap.invariant.2 refl (hashed_item_lem c.args.line.now c.loop-gap.i c.hashed_item_at.ensures c.in-Some.is) c.find_hashed.ensures c.in_ok-atom.was
 
 pub overflow_cast-atom : goal.overflow_cast-atom
-overflow_cast-atom c = omega (arith, (known_name c.loop-gap.invariant.2 refl (hashed_item_lem c.args.line.now c.loop-gap.i c.hashed_item_at.ensures c.in-At.is) c.find_hashed.ensures c.in-At-find_hashed.is).below, c.requires.from_in_bounds.1, length_decode (length c.args.starts.now) c.args.bytes.now)
+overflow_cast-atom c = omega (arith, (known_name c.loop-gap.invariant.2 refl (hashed_item_lem c.args.line.now c.loop-gap.i c.hashed_item_at.ensures c.in-Some.is) c.find_hashed.ensures c.in_ok-atom.was).below, c.requires.from_in_bounds.1, length_decode (length c.args.starts.now) c.args.bytes.now)
 
 pub push-end-requires : goal.push-end-requires
-push-end-requires c = word_range c.loop-gap.invariant.2 refl (hashed_item_lem c.args.line.now c.loop-gap.i c.hashed_item_at.ensures c.in-At.is) c.find_hashed.ensures c.in-At-find_hashed.is _
+push-end-requires c = word_range c.loop-gap.invariant.2 refl (hashed_item_lem c.args.line.now c.loop-gap.i c.hashed_item_at.ensures c.in-Some.is) c.find_hashed.ensures c.in_ok-atom.was _
 
 pub loop-gap-smaller : goal.loop-gap-smaller
-loop-gap-smaller c = omega (arith, number_inside c.loop-gap.invariant.2 refl (hashed_item_lem c.args.line.now c.loop-gap.i c.hashed_item_at.ensures c.in-At.is), number_long c.loop-gap.invariant.2 refl (hashed_item_lem c.args.line.now c.loop-gap.i c.hashed_item_at.ensures c.in-At.is))
+loop-gap-smaller c = omega (arith, number_inside c.loop-gap.invariant.2 refl (hashed_item_lem c.args.line.now c.loop-gap.i c.hashed_item_at.ensures c.in-Some.is), number_long c.loop-gap.invariant.2 refl (hashed_item_lem c.args.line.now c.loop-gap.i c.hashed_item_at.ensures c.in-Some.is))
 
 pub loop-gap-preserved : goal.loop-gap-preserved
 loop-gap-preserved c =
     let h = c.loop-gap.invariant in
-    let d = (hashed_item_lem c.args.line.now c.loop-gap.i c.hashed_item_at.ensures c.in-At.is) in
+    let d = (hashed_item_lem c.args.line.now c.loop-gap.i c.hashed_item_at.ensures c.in-Some.is) in
     let f = c.find_hashed.ensures in
-    let g = c.in-At-find_hashed.is in
+    let g = c.in_ok-atom.was in
     let m = c.mark.ensures in
     let w = c.push-end.ensures in (
       ap length m.1 ∙ (length-set c.loop-gap.marks _ _ ∙ h.0),

@@ -1,3 +1,4 @@
+use mathlib.Core.Path.{refl}
 use lib.Dec.{ltb}
 use Rattle.kinds.specs.declared.limits.Kind.TheVariants.{Preference}
 use Rattle.stores.specs.RuleStore.{decode}
@@ -10,7 +11,7 @@ use Rattle.preferred_verdict.proofs.preferred.preferred.Goals as goal
 
 pub preferred_of-requires : goal.preferred_of-requires
 preferred_of-requires c =
-    let h = call_passes Refused Preference c.args.words.now (ltb c.args.set) c.args.set 0 c.args.budget (preferred_verdict (decode c.args.words.now).words (decode c.args.words.now).rules c.args.set c.args.budget) (below_top c.args.set) _ c.check_call-guard.ensures c.in-Passed.is in
+    let h = call_passes Refused Preference c.args.words.now (ltb c.args.set) c.args.set 0 c.args.budget (preferred_verdict (decode c.args.words.now).words (decode c.args.words.now).rules c.args.set c.args.budget) (below_top c.args.set) _ c.in-Ok.ensures refl in
     record {
       store_of = h.store;
       words_bound = h.few;
@@ -18,10 +19,10 @@ preferred_of-requires c =
       budget_le_budget_limit = h.allowed;
     }
 
-pub returns-in-Passed : goal.returns-in-Passed
+pub returns-in-Ok : goal.returns-in-Ok
 unfolding preferred_answer
-returns-in-Passed c = answer_told Refused Preference c.args.words.now (ltb c.args.set) c.args.set 0 c.args.budget (preferred_verdict (decode c.args.words.now).words (decode c.args.words.now).rules c.args.set c.args.budget) (below_top c.args.set) _ c.check_call-guard.ensures c.in-Passed.is _ c.preferred_of.ensures
+returns-in-Ok c = answer_told Refused Preference c.args.words.now (ltb c.args.set) c.args.set 0 c.args.budget (preferred_verdict (decode c.args.words.now).words (decode c.args.words.now).rules c.args.set c.args.budget) (below_top c.args.set) _ c.in-Ok.ensures refl _ c.preferred_of.ensures
 
-pub returns-in-Refused : goal.returns-in-Refused
+pub returns-in-Err : goal.returns-in-Err
 unfolding preferred_answer
-returns-in-Refused c = refusal_told Refused Preference c.args.words.now (ltb c.args.set) c.args.set 0 c.args.budget (preferred_verdict (decode c.args.words.now).words (decode c.args.words.now).rules c.args.set c.args.budget) (below_top c.args.set) _ c.check_call-guard.ensures _ c.in-Refused.is
+returns-in-Err c = refusal_told Refused Preference c.args.words.now (ltb c.args.set) c.args.set 0 c.args.budget (preferred_verdict (decode c.args.words.now).words (decode c.args.words.now).rules c.args.set c.args.budget) (below_top c.args.set) _ c.in-Err.ensures _ refl

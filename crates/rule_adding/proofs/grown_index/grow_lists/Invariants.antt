@@ -3,5 +3,5 @@ use Prim.Native.Nat.{◌-◌}
 use lib.ListN.{length}
 use Rattle.rule_adding.proofs.grown_index.grow_lists.Given as goal
 
-abbrev pub invariant-loop-a : goal.invariant-loop-a
-invariant-loop-a l = Growing l.index l.marks l.number l.initial.out l.out l.from l.next l.a
+abbrev pub invariant-loop-mark : goal.invariant-loop-mark
+invariant-loop-mark l = Growing l.index l.marks l.number l.initial.out l.out l.from l.next l.mark-index

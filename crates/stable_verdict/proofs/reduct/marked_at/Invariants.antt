@@ -6,6 +6,3 @@ use Rattle.stable_verdict.proofs.reduct.marked_at.Given as goal
 
 abbrev pub invariant-loop-place : goal.invariant-loop-place
 invariant-loop-place l = marked_at l.before l.marks ≡ l.place + marked_at l.left (drop l.place l.marks)
-
-abbrev pub decreases-loop-place : goal.decreases-loop-place
-decreases-loop-place l = length l.marks - l.place

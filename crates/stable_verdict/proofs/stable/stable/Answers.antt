@@ -1,3 +1,4 @@
+use mathlib.Core.Path.{refl}
 use lib.Dec.{ltb}
 use Rattle.kinds.specs.declared.limits.Kind.TheVariants.{Plain}
 use Rattle.stores.specs.RuleStore.{decode}
@@ -10,7 +11,7 @@ use Rattle.stable_verdict.proofs.stable.stable.Goals as goal
 
 pub stable_of-requires : goal.stable_of-requires
 stable_of-requires c =
-    let h = call_passes Refused Plain c.args.words.now (ltb c.args.set) c.args.set 0 c.args.budget (stable_verdict (decode c.args.words.now).atoms (decode c.args.words.now).rules c.args.set c.args.budget) (below_top c.args.set) _ c.check_call-guard.ensures c.in-Passed.is in
+    let h = call_passes Refused Plain c.args.words.now (ltb c.args.set) c.args.set 0 c.args.budget (stable_verdict (decode c.args.words.now).atoms (decode c.args.words.now).rules c.args.set c.args.budget) (below_top c.args.set) _ c.in-Ok.ensures refl in
     record {
       store_of = h.store;
       words_bound = h.few;
@@ -19,10 +20,10 @@ stable_of-requires c =
       budget_le_budget_limit = h.allowed;
     }
 
-pub returns-in-Passed : goal.returns-in-Passed
+pub returns-in-Ok : goal.returns-in-Ok
 unfolding stable_answer
-returns-in-Passed c = answer_told Refused Plain c.args.words.now (ltb c.args.set) c.args.set 0 c.args.budget (stable_verdict (decode c.args.words.now).atoms (decode c.args.words.now).rules c.args.set c.args.budget) (below_top c.args.set) _ c.check_call-guard.ensures c.in-Passed.is _ c.stable_of.ensures
+returns-in-Ok c = answer_told Refused Plain c.args.words.now (ltb c.args.set) c.args.set 0 c.args.budget (stable_verdict (decode c.args.words.now).atoms (decode c.args.words.now).rules c.args.set c.args.budget) (below_top c.args.set) _ c.in-Ok.ensures refl _ c.stable_of.ensures
 
-pub returns-in-Refused : goal.returns-in-Refused
+pub returns-in-Err : goal.returns-in-Err
 unfolding stable_answer
-returns-in-Refused c = refusal_told Refused Plain c.args.words.now (ltb c.args.set) c.args.set 0 c.args.budget (stable_verdict (decode c.args.words.now).atoms (decode c.args.words.now).rules c.args.set c.args.budget) (below_top c.args.set) _ c.check_call-guard.ensures _ c.in-Refused.is
+returns-in-Err c = refusal_told Refused Plain c.args.words.now (ltb c.args.set) c.args.set 0 c.args.budget (stable_verdict (decode c.args.words.now).atoms (decode c.args.words.now).rules c.args.set c.args.budget) (below_top c.args.set) _ c.in-Err.ensures _ refl

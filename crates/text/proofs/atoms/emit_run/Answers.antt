@@ -1,6 +1,5 @@
 use Rattle.text.proofs.AtomItems.{run_next, run_ends}
 use Rattle.output.proofs.Emitting.{start, turn, finish, range_here, length_kept}
-use Prim.Native.Nat.{◌-◌}
 use borrow.Author.Rules.{rules}
 use Rattle.text.proofs.atoms.emit_run.Goals as goal
 

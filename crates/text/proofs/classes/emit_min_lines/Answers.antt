@@ -1,7 +1,6 @@
 use Rattle.text.proofs.ClassItems.{mins_begin, mins_end, next_class, end_inside, min_range, mins_again}
 use Rattle.output.proofs.Emitting.{length_kept}
 use native.Mathlib.Omega.{arith}
-use Prim.Native.Nat.{◌-◌}
 use Rattle.text.proofs.classes.emit_min_lines.Goals as goal
 
 pub loop-class-init : goal.loop-class-init
@@ -13,9 +12,6 @@ class_end-end-requires c = next_class c.loop-class.invariant
 pub emit_min_line-next-requires : goal.emit_min_line-next-requires
 emit_min_line-next-requires c = (c.requires.0, end_inside c.loop-class.invariant c.loop-class-test.true c.class_end-end.ensures, min_range c.loop-class.invariant c.loop-class-test.true c.class_end-end.ensures)
 
-pub overflow_add-class : goal.overflow_add-class
-overflow_add-class c = omega (arith, c.requires.1.form.0)
-
 pub loop-class-preserved : goal.loop-class-preserved
 loop-class-preserved c = mins_again c.loop-class.invariant c.loop-class-test.true c.class_end-end.ensures c.emit_min_line-next.ensures
 
@@ -24,3 +20,6 @@ shape_of-out c = length_kept c.loop-class.invariant.so
 
 pub returns : goal.returns
 returns c = mins_end c.loop-class.invariant c.loop-class-test.false
+
+pub returns-2 : goal.returns-2
+returns-2 c = mins_end (mins_again c.loop-class.invariant c.loop-class-test.true c.class_end-end.ensures c.emit_min_line-next.ensures) (omega arith)

@@ -1,7 +1,6 @@
 use Rattle.text.proofs.ClassItems.{MinsLeft}
 use Rattle.text.specs.Items.{stored_names}
 use lib.ListN.{length}
-use Prim.Native.Nat.{◌+◌, ◌-◌}
 use Rattle.text.proofs.classes.emit_min_lines.Given as goal
 
 abbrev pub invariant-loop-class : goal.invariant-loop-class

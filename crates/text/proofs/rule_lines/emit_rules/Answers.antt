@@ -2,7 +2,6 @@ use Rattle.text.proofs.RuleLoop.{rules_begin, rules_end, rule_stored, place_insi
 use Rattle.output.proofs.Emitting.{length_kept}
 use Rattle.text.specs.Items.{rule_item, rule_items}
 use native.Mathlib.Omega.{arith}
-use Prim.Native.Nat.{◌-◌}
 use Rattle.text.proofs.rule_lines.emit_rules.Goals as goal
 
 pub loop-i-init : goal.loop-i-init

@@ -1,7 +1,6 @@
 use Rattle.text.proofs.RuleLoop.{RulesLeft}
 use Rattle.text.specs.Items.{stored_names, rule_item}
 use lib.ListN.{length}
-use Prim.Native.Nat.{◌-◌}
 use Rattle.text.proofs.rule_lines.emit_rules.Given as goal
 
 abbrev pub invariant-loop-i : goal.invariant-loop-i

@@ -3,7 +3,6 @@ use Rattle.text.proofs.AtomItems.{last_run}
 use Rattle.output.proofs.Emitting.{start, turn, finish, range_begin, range_here}
 use native.Mathlib.Omega.{arith}
 use mathlib.Core.Path.{refl}
-use borrow.Author.Rules.{rules}
 use Rattle.text.proofs.text.emit_preference.Goals as goal
 
 pub bounds-rules-1 : goal.bounds-rules-1

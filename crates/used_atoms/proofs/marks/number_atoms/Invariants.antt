@@ -1,5 +1,4 @@
 use Rattle.used_atoms.proofs.Numbering.{Numbering}
-use Prim.Native.Nat.{◌-◌}
 use Rattle.used_atoms.proofs.marks.number_atoms.Given as goal
 
 abbrev pub invariant-loop-i : goal.invariant-loop-i

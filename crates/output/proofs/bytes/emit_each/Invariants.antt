@@ -1,7 +1,0 @@
-use Rattle.output.proofs.Emitting.{Emitting}
-use lib.ListN.{length, drop}
-use Prim.Native.Nat.{◌≤◌, ◌-◌}
-use Rattle.output.proofs.bytes.emit_each.Given as goal
-
-abbrev pub invariant-loop-i : goal.invariant-loop-i
-invariant-loop-i l = (l.i ≤ length l.bytes) × Emitting l.bytes l.initial.out l.at (drop l.i l.bytes) l.out l.next

@@ -1,0 +1,40 @@
+// Elements from a place of the output on.
+ghost use Rattle.std.specs.Prelude.{[], ◌∷◌, ◌+◌, ◌^◌, ◌<◌, replicate};
+ghost use Rattle.output.specs.Emitted.{Emitted, InRange};
+
+pub fn push<T: Copy>(x: T, out: &mut [T], at: usize) -> usize
+    requires { InRange at (x ∷ []) }
+    ensures { Emitted out.old at (x ∷ []) out.new result }
+{
+    if at < out.len() {
+        out[at] = x;
+    }
+    at + 1
+}
+
+// Where all have room they are one copy: of items whose number the compiler knows it makes a few wide stores.
+pub fn emit<T: Copy>(items: &[T], out: &mut [T], at: usize) -> usize
+    requires { InRange at items.now }
+    ensures { Emitted out.old at items.now out.new result }
+{
+    let end = at + items.len();
+    if end <= out.len() {
+        out[at..end].copy_from_slice(items);
+    } else if at < out.len() {
+        let room = out.len() - at;
+        out[at..].copy_from_slice(&items[..room]);
+    }
+    end
+}
+
+// An item so many times.
+pub fn emit_copies<T: Copy>(x: T, count: usize, out: &mut [T], at: usize) -> usize
+    requires { at + count < 2 ^ 63 }
+    ensures { Emitted out.old at (replicate count x) out.new result }
+{
+    let mut next = at;
+    for _ in 0..count {
+        next = push(x, out, next);
+    }
+    next
+}
