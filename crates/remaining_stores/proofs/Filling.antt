@@ -14,7 +14,9 @@ use Rattle.stores.specs.StoredRules.{StoredRules}
 use Rattle.stores.proofs.StoredRules.{rules_within}
 use Rattle.lines.specs.Faults.{SoFar}
 use Rattle.lines.specs.Said.{program_of}
-use Rattle.answers.specs.declared.Read.{Read}
+use Rattle.std.specs.Prelude.{Result}
+use Rattle.answers.specs.declared.ReadSizes.{ReadSizes}
+use Rattle.answers.specs.declared.ReadRefusal.{ReadRefusal}
 use Rattle.restriction.specs.Atoms.{is_used}
 use Rattle.restriction.specs.Remaining.{remaining, remaining_names}
 use Rattle.gathering.specs.declared.gathered.Gathered.{Gathered}
@@ -52,6 +54,6 @@ module _ {g : Gathered} {words bytes : List ℕ} (h : Held Preference (state_of 
         tables {p = program_of st} (atoms_is h) few_atoms (omega (arith, room, few_atoms)) (rules_within f)
         (subst (λ (rs : List (Rule ℕ)). Marks (is_used rs) (replicate (atom_limit Preference) false) marks) (rule_part_lem h) m) c e
 
-    pub none_out : count ≡ n → {rules names rules' names' : List ℕ} {r : Read} → Delivered (program_of st) st.names rules names rules' names' r
+    pub none_out : count ≡ n → {rules names rules' names' : List ℕ} {r : Result ReadSizes ReadRefusal} → Delivered (program_of st) st.names rules names rules' names' r
         → Delivered (remaining (program_of st)) (remaining_names (program_of st) st.names) rules names rules' names' r
     none_out q d = all_delivered d f filled (q ∙ atoms_is h) refl

@@ -2,7 +2,7 @@
 use Prim.Native.Nat.{ℕ, suc, ◌+◌, ◌-◌, ◌≤◌, ◌<◌}
 use native.Mathlib.Numerals.{add-one}
 use native.Mathlib.Omega.{arith}
-use mathlib.Core.Path.{◌≡◌, refl, sym, ap, ◌∙◌, subst}
+use mathlib.Core.Path.{◌≡◌, refl, sym, ap, ap₂, ◌∙◌, subst}
 use mathlib.Core.Bool.{Bool, true, false, cond}
 use mathlib.Core.List.{List, [], ◌∷◌, ◌++◌, map, append_assoc}
 use lib.ListN.{length, get_or, take, drop, drop_of_length-le}
@@ -12,7 +12,7 @@ use Rattle.rules.proofs.Lists.{all_at}
 use Rattle.name_store.specs.NameStore.{name_bytes, encode_names, decode_names}
 use Rattle.name_store.proofs.NamePlaces.{NameHere, stands, length_decode}
 use Rattle.output.specs.Emitted.{Emitted, InRange}
-use Rattle.output.proofs.Emitting.{Ahead, Emitting, start, turn, finish, range_here, byte_next}
+use Rattle.output.proofs.Emitting.{Ahead, Emitting, start, turn, finish, renamed, range_here, byte_next}
 use Rattle.restriction.specs.Atoms.{entries}
 use Rattle.used_atoms.specs.Marks.{marked}
 
@@ -62,11 +62,12 @@ module _ {words : List ℕ} {marks : List Bool} {before : List ℕ} {at : ℕ} {
     class_ahead : Ahead (entries 0 words (marked_from marks i (length words))) (keep (get_or marks i false) (get_or words i 0) []) (entries 0 words (marked_from marks (i + 1) (length words)))
     class_ahead = record { is = ap (entries 0 words) (next_marked marks i (length words) l) ∙ keep_entries (λ a. get_or words a 0) (get_or marks i false) i (marked_from marks (i + 1) (length words)) }
 
-    pub class_range : InRange next (keep (get_or marks i false) (get_or words i 0) [])
-    class_range = range_here h.so class_ahead
+    module _ {word : ℕ} {kept : Bool} (w : word ≡ get_or words i 0) (k : kept ≡ get_or marks i false) where
+      pub class_range : InRange next (keep kept word [])
+      class_range = subst (InRange next) (ap₂ (λ (b : Bool) (x : ℕ). keep b x []) (sym k) (sym w)) (range_here h.so class_ahead)
 
-    pub classes_again : {now' : List ℕ} {next' : ℕ} → Emitted now next (keep (get_or marks i false) (get_or words i 0) []) now' next' → ClassesLeft words marks before at now' next' (i + 1)
-    classes_again p = record { so = turn h.so class_ahead p }
+      pub classes_again : {now' : List ℕ} {next' : ℕ} → Emitted now next (keep kept word []) now' next' → ClassesLeft words marks before at now' next' (i + 1)
+      classes_again p = record { so = turn h.so class_ahead (renamed p (ap₂ (λ (b : Bool) (x : ℕ). keep b x []) k w)) }
 
 -- atoms by their numbers
 
@@ -165,14 +166,14 @@ module _ {bytes : List ℕ} {n : ℕ} {marks : List Bool} {before : List ℕ} {a
           ∙ ap (λ (x : List ℕ). cond (get_or marks i false) x [] ++ encode_names (entries [] names (marked_from marks (i + 1) n))) (sym part_is);
     }
 
-    pub name_range : InRange next (cond (get_or marks i false) part [])
-    name_range = range_here h.so name_ahead
+    pub name_range : {kept : Bool} → kept ≡ get_or marks i false → InRange next (cond kept part [])
+    name_range e = subst (λ (b : Bool). InRange next (cond b part [])) (sym e) (range_here h.so name_ahead)
 
-    pub names_again : {now' : List ℕ} {next' : ℕ} → Emitted now next (cond (get_or marks i false) part []) now' next' → NamesLeft bytes n marks before at now' next' (place + 1 + get_or bytes place 0) (i + 1)
-    names_again p = record {
+    pub names_again : {kept : Bool} → kept ≡ get_or marks i false → {now' : List ℕ} {next' : ℕ} → Emitted now next (cond kept part []) now' next' → NamesLeft bytes n marks before at now' next' (place + 1 + get_or bytes place 0) (i + 1)
+    names_again k p = record {
       rest = h.rest;
       here =
           let e : place + 1 + get_or bytes place 0 ≡ place + length (name_bytes name) = omega (arith, name_here.size) in
           ap (λ (k : ℕ). drop k bytes) e ∙ sym (drop-drop (length (name_bytes name)) place bytes) ∙ ap (drop (length (name_bytes name))) split ∙ drop-append_seam (name_bytes name) (encode_names (drop (i + 1) names) ++ h.rest);
-      so = turn h.so name_ahead p;
+      so = turn h.so name_ahead (renamed p (ap (λ (b : Bool). cond b part []) k));
     }

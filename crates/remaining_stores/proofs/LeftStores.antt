@@ -24,7 +24,8 @@ use Rattle.output.specs.Emitted.{Emitted, InRange}
 use Rattle.output.proofs.Emitting.{then, renamed}
 use Rattle.lines.specs.Faults.{SoFar}
 use Rattle.lines.specs.Said.{program_of}
-use Rattle.answers.specs.declared.Read.TheVariants.{Accepted, Refused}
+use Rattle.std.specs.Prelude.{Ok, Err}
+use Rattle.answers.specs.Reading.{read_sizes, read_refusal}
 use Rattle.restriction.specs.Atoms.{is_used, used, renumbered, entries}
 use Rattle.restriction.specs.Remaining.{restrict, left, remaining_of, remaining_names_of, remaining, remaining_names}
 use Rattle.gathering.specs.declared.gathered.Gathered.{Gathered}
@@ -172,14 +173,14 @@ module _ {g : Gathered} {words bytes : List ℕ} (h : Held Preference (state_of 
     names_long : length (encode_names (remaining_names p st.names)) ≡ used
     names_long = omega (arith, u.place, ap length names_are)
 
-    pub rules_lack : length rules < g.words - (n - count) → Delivered (remaining p) (remaining_names p st.names) rules out rules out (Refused Output 0)
+    pub rules_lack : length rules < g.words - (n - count) → Delivered (remaining p) (remaining_names p st.names) rules out rules out (Err (read_refusal Output 0))
     rules_lack l = rules_short (remaining p) (remaining_names p st.names) words_long names_long rules out l
 
-    pub names_lack : length out < used → Delivered (remaining p) (remaining_names p st.names) rules out rules out (Refused Output 0)
+    pub names_lack : length out < used → Delivered (remaining p) (remaining_names p st.names) rules out rules out (Err (read_refusal Output 0))
     names_lack l = names_short (remaining p) (remaining_names p st.names) words_long names_long rules out l
 
     pub left_delivered : g.words - (n - count) ≤ length rules → used ≤ length out
         → {rules' : List ℕ} {x : ℕ} → Emitted rules 0 (encode (remaining p)) rules' x
         → {out' : List ℕ} {y : ℕ} → Emitted out 0 names out' y
-        → Delivered (remaining p) (remaining_names p st.names) rules out rules' out' (Accepted (g.words - (n - count)) used)
+        → Delivered (remaining p) (remaining_names p st.names) rules out rules' out' (Ok (read_sizes (g.words - (n - count)) used))
     left_delivered l m v w = both_written (remaining p) (remaining_names p st.names) words_long names_long rules out l m v (renamed w names_are)

@@ -13,7 +13,9 @@ use Rattle.rules.specs.Renumbering.{Within}
 use Rattle.rules.proofs.Booleans.{or-false}
 use Rattle.rules.proofs.Renumbering.{within_imp, rename_same}
 use Rattle.stores.specs.Program.{Program, ProgramForm}
-use Rattle.answers.specs.declared.Read.{Read}
+use Rattle.std.specs.Prelude.{Result}
+use Rattle.answers.specs.declared.ReadSizes.{ReadSizes}
+use Rattle.answers.specs.declared.ReadRefusal.{ReadRefusal}
 use Rattle.restriction.specs.Atoms.{is_member, is_used, used, place_in}
 use Rattle.restriction.specs.Remaining.{left, remaining, remaining_names}
 use Rattle.restriction.proofs.Places.{member_filter, filter_place, used_covers}
@@ -57,7 +59,7 @@ tables {p} {k} {marks} {numbers} {count} {n} e room table inside m c f = record 
 
 -- the same program and names, delivered
 
-module _ {p : Program} {ns : List (List ℕ)} {rules names rules' names' : List ℕ} {r : Read} (d : Delivered p ns rules names rules' names' r) where
+module _ {p : Program} {ns : List (List ℕ)} {rules names rules' names' : List ℕ} {r : Result ReadSizes ReadRefusal} (d : Delivered p ns rules names rules' names' r) where
   as_remaining : remaining p ≡ p → remaining_names p ns ≡ ns → Delivered (remaining p) (remaining_names p ns) rules names rules' names' r
   as_remaining e f = subst₂ (λ (q : Program) (ms : List (List ℕ)). Delivered q ms rules names rules' names' r) (sym e) (sym f) d
 

@@ -29,8 +29,8 @@ pub fn put_classes(words: &[u16], marks: &[bool], out: &mut [u16], at: usize) ->
     ensures { Emitted out.old at (entries 0 words.now (marked (length words.now) marks.now)) out.new result }
 {
     let mut next = at;
-    for i in 0..words.len() {
-        next = put_class(words[i], marks[i], out, next);
+    for (word, kept) in words.iter().zip(marks) {
+        next = put_class(*word, *kept, out, next);
     }
     next
 }
@@ -41,8 +41,8 @@ fn put_atoms(atoms: &[u16], numbers: &[u16], out: &mut [u16], at: usize) -> usiz
     ensures { Emitted out.old at (entries 0 numbers.now atoms.now) out.new result }
 {
     let mut next = at;
-    for i in 0..atoms.len() {
-        next = push(numbers[atoms[i] as usize], out, next);
+    for a in atoms {
+        next = push(numbers[*a as usize], out, next);
     }
     next
 }
@@ -63,7 +63,7 @@ pub fn put_rules(words: &[u16], count: usize, numbers: &[u16], out: &mut [u16], 
 {
     let mut next = at;
     let mut from: usize = 0;
-    for i in 0..count {
+    for _ in 0..count {
         let size = rule_size(&words[from..]);
         next = put_rule(&words[from..], numbers, out, next);
         from += size;
@@ -88,9 +88,9 @@ pub fn put_names(bytes: &[u8], n: usize, marks: &[bool], out: &mut [u8], at: usi
 {
     let mut next = at;
     let mut from: usize = 0;
-    for i in 0..n {
+    for kept in &marks[..n] {
         let end = from + 1 + bytes[from] as usize;
-        next = put_name(&bytes[from..end], marks[i], out, next);
+        next = put_name(&bytes[from..end], *kept, out, next);
         from = end;
     }
     next

@@ -9,7 +9,7 @@ ghost use Rattle.delivery.specs.Delivered.{Delivered};
 ghost use Rattle.remaining_stores.specs.Tables.{Tables};
 
 use crate::left::{put_classes, put_names, put_rules};
-use answers::Read;
+use answers::{Read, ReadRefusal, ReadSizes};
 use delivery::delivery::{deliver_all, put_header};
 use gathering::gathered::Gathered;
 use kinds::limits::{Counts, Kind, Preference};
@@ -30,26 +30,15 @@ fn put_left(
     ensures { Emitted rules.old 0 (encode (remaining (program_of (state_of Kind.Preference gathered words.now bytes.now)))) rules.new result }
 {
     let before = gathered.counts;
-    let atoms = before.atoms;
-    let count = before.rules;
     let counts = Counts {
         atoms: left,
-        rules: count,
-        occurrences: before.occurrences,
+        ..before
     };
-    let stage = gathered.stage;
-    let after = Gathered {
-        stage,
-        classes: gathered.classes,
-        counts,
-        made: gathered.made,
-        words: gathered.words,
-        bytes: gathered.bytes,
-    };
-    let end = 4 + atoms;
+    let after = Gathered { counts, ..gathered };
+    let end = 4 + before.atoms;
     let headed = put_header(Kind::Preference, after, rules);
     let classed = put_classes(&words[4..end], marks, rules, headed);
-    put_rules(&words[end..], count, numbers, rules, classed)
+    put_rules(&words[end..], before.rules, numbers, rules, classed)
 }
 
 // Counted first, then written.
@@ -66,29 +55,28 @@ fn deliver_left(
     requires { Held Kind.Preference (state_of Kind.Preference gathered words.now bytes.now) gathered words.now bytes.now × Tables (program_of (state_of Kind.Preference gathered words.now bytes.now)) marks.now numbers.now left }
     ensures { Delivered (remaining (program_of (state_of Kind.Preference gathered words.now bytes.now))) (remaining_names (program_of (state_of Kind.Preference gathered words.now bytes.now)) (state_of Kind.Preference gathered words.now bytes.now).names) rules.old names.old rules.new names.new result }
 {
-    let counts = gathered.counts;
-    let atoms = counts.atoms;
+    let atoms = gathered.counts.atoms;
     let filled = gathered.words - (atoms - left);
     let mut none = [0u8; 0];
     let used = put_names(bytes, atoms, marks, &mut none, 0);
     if rules.len() < filled {
-        return Read::Refused {
+        return Err(ReadRefusal {
             refusal: Refusal::Output,
             line: 0,
-        };
+        });
     }
     if names.len() < used {
-        return Read::Refused {
+        return Err(ReadRefusal {
             refusal: Refusal::Output,
             line: 0,
-        };
+        });
     }
     put_left(gathered, left, words, bytes, marks, numbers, rules);
     put_names(bytes, atoms, marks, names, 0);
-    Read::Accepted {
+    Ok(ReadSizes {
         words: filled,
         bytes: used,
-    }
+    })
 }
 
 // Where all atoms stand in some rule, nothing is renumbered.
@@ -102,9 +90,11 @@ fn deliver_used(
     requires { Held Kind.Preference (state_of Kind.Preference gathered words.old bytes.now) gathered words.old bytes.now × ProgramForm (program_of (state_of Kind.Preference gathered words.old bytes.now)) }
     ensures { Delivered (remaining (program_of (state_of Kind.Preference gathered words.old bytes.now))) (remaining_names (program_of (state_of Kind.Preference gathered words.old bytes.now)) (state_of Kind.Preference gathered words.old bytes.now).names) rules.old names.old rules.new names.new result }
 {
-    let counts = gathered.counts;
-    let atoms = counts.atoms;
-    let count = counts.rules;
+    let Counts {
+        atoms,
+        rules: count,
+        ..
+    } = gathered.counts;
     let end = 4 + atoms;
     let mut marks = [false; Preference::ATOMS];
     let mut numbers = [0u16; Preference::ATOMS];
