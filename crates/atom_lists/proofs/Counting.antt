@@ -1,39 +1,34 @@
 -- Counting atoms: those of a test among all, and those of a list that are below a number.
-use Prim.Native.Nat.{ℕ, suc, ◌+◌, ◌-◌, ◌≤◌, ◌<◌}
+use Prim.Native.Nat.{ℕ, suc, ◌+◌, ◌≤◌, ◌<◌}
 use native.Mathlib.Omega.{arith}
 use native.Mathlib.Numerals.{add-one}
-use mathlib.Core.Path.{◌≡◌, ap, ◌∙◌}
-use mathlib.Core.Bool.{Bool, true, false}
-use mathlib.Core.List.{List}
+use mathlib.Core.Path.{◌≡◌, refl, ap, ◌∙◌}
+use mathlib.Core.Bool.{Bool, true, false, cond}
+use mathlib.Core.List.{List, [], ◌∷◌}
 use lib.ListN.{length, get_or, drop, drop_of_length-le}
 use lib.Seq.{drop-cons}
 use borrow.Author.Tests.{lt-ltb, le-ltb}
+use Rattle.std.specs.List.{filter as kept}
 use Rattle.rules.specs.Lists.{keep, filter, from}
 use Rattle.pairing.specs.Loops.{below}
 use Rattle.atom_lists.specs.Split.{count_below}
 
--- among the atoms below n
+-- among all atoms, by their class words
 
-pub record Counting (t : ℕ → Bool) (n i c : ℕ) : Type 0 where
-  pub passed : i ≤ n
-  pub most : c ≤ i
-  pub is : c + length (filter t (from i (n - i))) ≡ length (filter t (from 0 n))
+count_from : (t : ℕ → Bool) (ws all : List ℕ) (s : ℕ) → ((i : ℕ) → get_or all (s + i) 0 ≡ get_or ws i 0) → length (kept t ws) ≡ length (filter (λ a. t (get_or all a 0)) (from s (length ws)))
+count_from t [] all s h = refl
+count_from t (w ∷ ws) all s h =
+    let e : s ≡ s + 0 = omega arith in
+    let here : t (get_or all s 0) ≡ t w = ap (λ (k : ℕ). t (get_or all k 0)) e ∙ ap t (h 0) in
+    let rest = count_from t ws all (suc s) (λ i. let f : suc s + i ≡ s + suc i = omega arith in ap (λ (k : ℕ). get_or all k 0) f ∙ h (suc i)) in
+    rw here (one (t w) rest)
+  where
+    one : (b : Bool) → length (kept t ws) ≡ length (filter (λ a. t (get_or all a 0)) (from (suc s) (length ws))) → length (cond b (w ∷ kept t ws) (kept t ws)) ≡ length (keep b s (filter (λ a. t (get_or all a 0)) (from (suc s) (length ws))))
+    one true e = ap suc e
+    one false e = e
 
-pub count_begins : (t : ℕ → Bool) (n : ℕ) → Counting t n 0 0
-count_begins t n = let e : n - 0 ≡ n = omega arith in record { passed = omega arith; most = omega arith; is = rw e (omega arith) }
-
-module _ {t : ℕ → Bool} {n i c : ℕ} (h : Counting t n i c) where
-  next : i < n → length (filter t (from i (n - i))) ≡ length (keep (t i) i (filter t (from (i + 1) (n - (i + 1)))))
-  next l = let e : n - i ≡ suc (n - (i + 1)) = omega arith in rw (e, add-one)
-
-  pub count_more : {d : ℕ} → i < n → t i ≡ true → d ≡ c + 1 → Counting t n (i + 1) d
-  count_more {d} l e f = record { passed = omega arith; most = omega (arith, h.most); is = omega (arith, h.is, next l ∙ ap (λ (b : Bool). length (keep b i (filter t (from (i + 1) (n - (i + 1)))))) e) }
-
-  pub count_same : {d : ℕ} → i < n → t i ≡ false → d ≡ c → Counting t n (i + 1) d
-  count_same {d} l e f = record { passed = omega arith; most = omega (arith, h.most); is = omega (arith, h.is, next l ∙ ap (λ (b : Bool). length (keep b i (filter t (from (i + 1) (n - (i + 1)))))) e) }
-
-  pub count_ends : n ≤ i → c ≡ length (filter t (from 0 n))
-  count_ends l = let e : n - i ≡ 0 = omega arith in omega (arith, h.is, ap (λ (k : ℕ). length (filter t (from i k))) e)
+pub count_words : (t : ℕ → Bool) (ws : List ℕ) → length (kept t ws) ≡ length (filter (λ a. t (get_or ws a 0)) (from 0 (length ws)))
+count_words t ws = count_from t ws ws 0 (λ i. let e : 0 + i ≡ i = omega arith in ap (λ (k : ℕ). get_or ws k 0) e)
 
 -- in a list
 

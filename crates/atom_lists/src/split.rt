@@ -22,8 +22,8 @@ pub fn count_below(end: u16, atoms: &[u16]) -> u16
     ensures { result ≡ count_below end atoms.now }
 {
     let mut count: u16 = 0;
-    for i in 0..atoms.len() {
-        if atoms[i] < end {
+    for atom in atoms {
+        if *atom < end {
             count += 1;
         }
     }
@@ -59,8 +59,8 @@ pub fn emit_split(atoms: &[u16], split: Split, out: &mut [u16], at: usize, behin
 {
     let mut low = at;
     let mut high = behind;
-    for i in 0..atoms.len() {
-        let is_below = put_atom(atoms[i], split, out, low, high);
+    for atom in atoms {
+        let is_below = put_atom(*atom, split, out, low, high);
         low = chosen(is_below, low + 1, low);
         high = chosen(is_below, high, high + 1);
     }

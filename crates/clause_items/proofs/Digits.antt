@@ -14,8 +14,8 @@ use Rattle.rules.proofs.Booleans.{and-false}
 use Rattle.names.specs.Numerals.{is_digit, is_numeral, value_from, value}
 use Rattle.names.proofs.Numerals.{digit_range}
 use Rattle.clauses.specs.Items.{is_separator, run}
-use Rattle.clause_items.specs.Found.{largest, capped, front, number_at}
-use Rattle.clause_items.specs.declared.numbers.Number.TheVariants.{Value, Broken}
+use Rattle.std.specs.Prelude.{None}
+use Rattle.clause_items.specs.Found.{largest, capped, front, found, number_at}
 use Rattle.clause_items.proofs.CappedLaws.{capped_le, capped_small, capped_digits}
 use Rattle.clause_items.proofs.Gaps.{run_le, run_out, run_ends, run_goes_on, front_goes_on}
 
@@ -67,7 +67,7 @@ module _ {line : List ℕ} {at i v : ℕ} (d : Digits line at i v) where
               ∙ d.says;
         }
 
-    pub digits_broken : is_digit (get_or line i 0) ≡ false → is_separator (get_or line i 0) ≡ false → Broken ≡ number_at at (drop at line)
+    pub digits_broken : is_digit (get_or line i 0) ≡ false → is_separator (get_or line i 0) ≡ false → None ≡ number_at at (drop at line)
     unfolding number_at
     digits_broken e n =
         let f = front_goes_on line i l n in
@@ -85,7 +85,7 @@ leading (b ∷ []) e n = simp e
 leading (b ∷ c ∷ x) e n = simp (e, ne_eqb (length (b ∷ c ∷ x)) 1 (λ q. omega arith))
 
 module _ {line : List ℕ} {at to v : ℕ} (d : DigitsTo line at to v) where
-  number_none : to ≡ at → Broken ≡ number_at at (drop at line)
+  number_none : to ≡ at → None ≡ number_at at (drop at line)
   unfolding number_at
   number_none e =
       let r : run (drop at line) ≡ 0 = omega (arith, d.place) in
@@ -99,26 +99,26 @@ module _ {line : List ℕ} {at to v : ℕ} (d : DigitsTo line at to v) where
         let g : get_or (front (drop at line)) 0 0 ≡ get_or line at 0 = get_or-take (run (drop at line)) (drop at line) 0 0 r ∙ get_or-drop at line 0 0 ∙ ap (λ (n : ℕ). get_or line n 0) (add-zero at) in
         leading (front (drop at line)) d.digits (λ q. omega arith) ∙ simp (n, g)
 
-    number_found : is_numeral (front (drop at line)) ≡ true → Value v to ≡ number_at at (drop at line)
+    number_found : is_numeral (front (drop at line)) ≡ true → found v to ≡ number_at at (drop at line)
     unfolding number_at
     number_found e = simp (e, d.says, d.place)
 
-    number_plain : (get_or line at 0 ≡ 48 → ⊥) → Value v to ≡ number_at at (drop at line)
+    number_plain : (get_or line at 0 ≡ 48 → ⊥) → found v to ≡ number_at at (drop at line)
     number_plain e = number_found (numeral_is ∙ simp (ne_eqb _ _ e))
 
-    number_zero : to - at ≡ 1 → Value v to ≡ number_at at (drop at line)
+    number_zero : to - at ≡ 1 → found v to ≡ number_at at (drop at line)
     number_zero e = number_found (numeral_is ∙ simp (eq-eqb _ _ e, or-true))
 
 -- by the first byte
 module _ (line : List ℕ) (at : ℕ) where
-  pub number_absent : length line ≤ at → at ≤ length line → Broken ≡ number_at at (drop at line)
+  pub number_absent : length line ≤ at → at ≤ length line → None ≡ number_at at (drop at line)
   number_absent o h = number_none (digits_end (digits_begin line at h) (run_out line at o)) refl
 
   module _ (l : at < length line) where
-    pub number_wrong : is_digit (get_or line at 0) ≡ false → Broken ≡ number_at at (drop at line)
+    pub number_wrong : is_digit (get_or line at 0) ≡ false → None ≡ number_at at (drop at line)
     number_wrong e = go (is_separator (get_or line at 0)) refl
       where
-        go : (s : Bool) → is_separator (get_or line at 0) ≡ s → Broken ≡ number_at at (drop at line)
+        go : (s : Bool) → is_separator (get_or line at 0) ≡ s → None ≡ number_at at (drop at line)
         go true q = number_none (digits_end (digits_begin line at (omega arith)) (run_ends line at l q)) refl
         go false q = digits_broken (digits_begin line at (omega arith)) l e q
 
@@ -127,10 +127,10 @@ module _ (line : List ℕ) (at : ℕ) where
       zero_passed : Digits line at (at + 1) 0
       zero_passed = digits_again (digits_begin line at (omega arith)) l (rw z) (rw z)
 
-      pub zero_alone : run (drop (at + 1) line) ≡ 0 → Value 0 (at + 1) ≡ number_at at (drop at line)
+      pub zero_alone : run (drop (at + 1) line) ≡ 0 → found 0 (at + 1) ≡ number_at at (drop at line)
       zero_alone r = number_zero (digits_end zero_passed r) (λ q. omega arith) (omega arith)
 
-      pub zero_led : at + 1 < length line → is_separator (get_or line (at + 1) 0) ≡ false → Broken ≡ number_at at (drop at line)
+      pub zero_led : at + 1 < length line → is_separator (get_or line (at + 1) 0) ≡ false → None ≡ number_at at (drop at line)
       unfolding number_at
       zero_led m n =
           let f : front (drop at line) ≡ get_or line at 0 ∷ (get_or line (at + 1) 0 ∷ front (drop (at + 1 + 1) line)) = front_goes_on line at l (digit_inside (get_or line at 0) (rw z)) ∙ ap (λ x. get_or line at 0 ∷ x) (front_goes_on line (at + 1) m n) in
@@ -141,6 +141,6 @@ module _ (line : List ℕ) (at : ℕ) where
           not_led b c x e = rw e (and-false (every is_digit (c ∷ x)))
 
     -- another digit first
-    pub number_ended : is_digit (get_or line at 0) ≡ true → (get_or line at 0 ≡ 48 → ⊥) → {i v : ℕ} → Digits line at i v → run (drop i line) ≡ 0 → Value v i ≡ number_at at (drop at line)
+    pub number_ended : is_digit (get_or line at 0) ≡ true → (get_or line at 0 ≡ 48 → ⊥) → {i v : ℕ} → Digits line at i v → run (drop i line) ≡ 0 → found v i ≡ number_at at (drop at line)
     number_ended e z {i} {v} d r =
         let n = run_goes_on line at l (digit_inside (get_or line at 0) e) in number_plain (digits_end d r) (λ q. omega (arith, d.place)) z

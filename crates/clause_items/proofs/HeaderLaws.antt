@@ -13,9 +13,12 @@ use Rattle.name_store.specs.NameStore.{same_bytes}
 use Rattle.names.specs.Numerals.{is_numeral, value}
 use Rattle.clauses.specs.Items.{items}
 use Rattle.clauses.specs.Faults.{Step, fault, header_with, header_line}
-use Rattle.clause_items.specs.Found.{capped, gap, front, number_at}
+use Rattle.clause_items.specs.Found.{capped, gap, front, number_at, numbers_step}
 use Rattle.clause_items.specs.declared.numbers.Number.{Number}
-use Rattle.clause_items.specs.declared.numbers.Number.TheVariants.{Value, Broken}
+use Rattle.std.specs.Prelude.{Option, Some, None, Result, Err}
+use Rattle.std.specs.Option.{ok_or}
+use Rattle.kinds.specs.declared.refusals.Refusal.{Refusal}
+use Rattle.clause_items.specs.declared.header.Header.{Header}
 use Rattle.clause_items.proofs.CappedLaws.{capped_small, capped_over}
 use Rattle.clause_items.proofs.FoundNumbers.{number_is, number_not}
 use Rattle.clause_items.proofs.FirstItems.{Fails, First, items_none, first_is, first_fails, first_number}
@@ -39,6 +42,15 @@ no_cnf (c ∷ n ∷ m ∷ x ∷ xs) f = refl
 
 abbrev numbers_line : List (List ℕ) → Step
 numbers_line xs = header_line (bytes "p" ∷ bytes "cnf" ∷ xs)
+
+-- behind the two words
+pub words_line : {line : List ℕ} {to end : ℕ} → First line 0 (bytes "p") to → First line to (bytes "cnf") end → header_line (items line) ≡ numbers_line (items (drop end line))
+words_line p c = ap header_line (p.items_are ∙ ap (λ (xs : List (List ℕ)). bytes "p" ∷ xs) c.items_are)
+
+-- a broken header's refusal
+pub no_header : (n : Option Header) {r : Refusal} → ◌≡◌ {A = Result Header Refusal} (Err r) (ok_or n BrokenClauses) → numbers_step n ≡ fault r
+no_header (Some h) e = cc
+no_header None e = cc
 
 pub no_atoms : (xs : List (List ℕ)) → Fails is_numeral xs → numbers_line xs ≡ fault BrokenClauses
 unfolding header_line same_bytes
@@ -83,11 +95,11 @@ pub record Numbered (line : List ℕ) (at v to : ℕ) : Type 0 where
   pub says : v ≡ capped (value n)
   pub first : First line at n to
 
-module _ (line : List ℕ) (at : ℕ) {from : ℕ} (q : from ≡ at + gap (drop at line)) {r : Number} (e : r ≡ number_at from (drop from line)) where
-  pub numbered : {v to : ℕ} → r ≡ Value v to → Numbered line at v to
+module _ (line : List ℕ) (at : ℕ) {from : ℕ} (q : from ≡ at + gap (drop at line)) {r : Option Number} (e : r ≡ number_at from (drop from line)) where
+  pub numbered : {n : Number} → r ≡ Some n → Numbered line at n.value n.to
   numbered t = let k = number_is (drop from line) from e t in record { n = front (drop from line); numeral = k.numeral; says = k.says; first = first_number line at q k }
 
-  pub unnumbered : r ≡ Broken → Fails is_numeral (items (drop at line))
+  pub unnumbered : r ≡ None → Fails is_numeral (items (drop at line))
   unnumbered t = first_fails line at q is_numeral (number_not (drop from line) from e t)
 
 module _ {line : List ℕ} {at v to : ℕ} (a : Numbered line at v to) where
@@ -101,9 +113,8 @@ module _ {line : List ℕ} {at v to : ℕ} (a : Numbered line at v to) where
     pub has_more : from < length line → numbers_line (items (drop at line)) ≡ fault BrokenClauses
     has_more l = ap numbers_line (items_are ∙ ap (λ (xs : List (List ℕ)). a.n ∷ b.n ∷ xs) (first_is line end q l).items_are) ∙ too_many_lem _ _ _ _
 
-    pub has_two : length line ≤ from → {s : Step} → header_with v w ≡ s → numbers_line (items (drop at line)) ≡ s
-    has_two l t =
+    pub has_two : length line ≤ from → numbers_line (items (drop at line)) ≡ header_with v w
+    has_two l =
         ap numbers_line (items_are ∙ ap (λ (xs : List (List ℕ)). a.n ∷ b.n ∷ xs) (items_none line end q l))
         ∙ two_numbers a.n b.n a.numeral b.numeral
         ∙ sym (ap₂ header_with a.says b.says ∙ capped_atoms (value a.n) (capped (value b.n)) ∙ capped_clauses (value a.n) (value b.n))
-        ∙ t

@@ -27,14 +27,13 @@ fn signed_at(line: &[u8], at: usize, positive: bool) -> Item
     requires { at ≤ length line.now }
     ensures { result ≡ token_item (numbered (cond positive ends wrong) (signed positive) (front (drop at line.now))) (at + run (drop at line.now)) }
 {
-    let found = number_at(line, at);
-    let Number::Value { value, to } = found else {
+    let Some(Number { value: number, to }) = number_at(line, at) else {
         return Item::Broken;
     };
-    if value != 0 {
+    if number != 0 {
         return Item::Literal {
             positive,
-            number: value,
+            number,
             to,
         };
     }

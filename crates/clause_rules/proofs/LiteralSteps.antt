@@ -7,14 +7,13 @@ use mathlib.Core.Bool.{Bool, true, false}
 use mathlib.Core.List.{List, [], ◌∷◌, ◌++◌}
 use lib.ListN.{length, get_or, take, drop, set, length-append, length-drop, length-set, take-append-drop}
 use lib.Seq.{take_at, take-set-le, take-suc-set, drop-set-add}
+use Rattle.std.specs.Prelude.{Option, Some, None}
 use Rattle.kinds.specs.Limits.{atom_limit, occurrence_limit}
 use Rattle.kinds.specs.declared.limits.Kind.TheVariants.{Preference}
 use Rattle.gathering.specs.Gathered.{Filled}
 use Rattle.clauses.specs.Literals.{Literal, positive, negative, signed}
 use Rattle.clauses.specs.Gathered.{Gathered, with_literal}
 use Rattle.clause_rules.specs.declared.clause.ClauseCounts.{ClauseCounts}
-use Rattle.clause_rules.specs.declared.clause.Taken.{Taken}
-use Rattle.clause_rules.specs.declared.clause.Taken.TheVariants.{Next, Full}
 use Rattle.clause_rules.specs.HeldClauses.{HeldClauses, Marked, SameHeader, TakenIs}
 use Rattle.clause_rules.proofs.HeldGathered.{words_used}
 use Rattle.clause_rules.proofs.LiteralMarks.{with_head, with_body, head_there, body_there, head_new, body_new, mark_head, mark_body}
@@ -64,7 +63,7 @@ body_counts c = record {
 }
 
 taken : {g s : Gathered} {c d : ClauseCounts} {l : Literal} {words bodies marks : List ℕ} → with_literal g l ≡ s → SameHeader c d → HeldClauses s d words bodies → Marked s marks
-    → TakenIs g c l words bodies marks (Next d)
+    → TakenIs g c l words bodies marks (Some d)
 taken {d} {words} {bodies} {marks} e same h m = record { says = (same, subst (λ s. HeldClauses s d words bodies) (sym e) h, subst (λ s. Marked s marks) (sym e) m) }
 
 module _ {g : Gathered} {c : ClauseCounts} {words bodies : List ℕ} (h : HeldClauses g c words bodies) where
@@ -123,36 +122,36 @@ module _ {g : Gathered} {c : ClauseCounts} {words bodies : List ℕ} (h : HeldCl
     stamp_is : stamp ≡ suc (length g.rules)
     stamp_is = omega (arith, p.1, h.rules_are)
 
-    pub head_repeated : get_or marks a 0 ≡ stamp → TakenIs g c (positive a) words bodies marks (Next c)
+    pub head_repeated : get_or marks a 0 ≡ stamp → TakenIs g c (positive a) words bodies marks (Some c)
     head_repeated e = taken (head_there m a below_limit (e ∙ stamp_is)) (record { atoms = refl; clauses = refl }) h m
 
-    pub body_repeated : get_or marks (atom_limit Preference + a) 0 ≡ stamp → TakenIs g c (negative a) words bodies marks (Next c)
+    pub body_repeated : get_or marks (atom_limit Preference + a) 0 ≡ stamp → TakenIs g c (negative a) words bodies marks (Some c)
     body_repeated e = taken (body_there m a below_limit (e ∙ stamp_is)) (record { atoms = refl; clauses = refl }) h m
 
     module _ (new : get_or marks a 0 ≡ stamp → ⊥) where
       head_is : with_literal g (positive a) ≡ with_head g a
       head_is = head_new m a below_limit (λ e. new (e ∙ sym stamp_is))
 
-      pub head_full : c.occurrences ≡ occurrence_limit Preference → TakenIs g c (positive a) words bodies marks Full
+      pub head_full : c.occurrences ≡ occurrence_limit Preference → TakenIs g c (positive a) words bodies marks None
       head_full e = record { says = omega (arith, h.occurrences_are, length-append g.heads (a ∷ []), ap (λ s. length s.heads) head_is) }
 
       pub head_taken : (c.occurrences ≡ occurrence_limit Preference → ⊥)
-          → TakenIs g c (positive a) (set words (c.words + 3 + c.heads) a) bodies (set marks a stamp) (Next (head_counts c))
+          → TakenIs g c (positive a) (set words (c.words + 3 + c.heads) a) bodies (set marks a stamp) (Some (head_counts c))
       head_taken few = taken head_is (record { atoms = refl; clauses = refl }) (hold_head few a) (subst (λ n. Marked (with_head g a) (set marks a n)) (sym stamp_is) (mark_head m a below_limit))
 
     module _ (new : get_or marks (atom_limit Preference + a) 0 ≡ stamp → ⊥) where
       body_is : with_literal g (negative a) ≡ with_body g a
       body_is = body_new m a below_limit (λ e. new (e ∙ sym stamp_is))
 
-      pub body_full : c.occurrences ≡ occurrence_limit Preference → TakenIs g c (negative a) words bodies marks Full
+      pub body_full : c.occurrences ≡ occurrence_limit Preference → TakenIs g c (negative a) words bodies marks None
       body_full e = record { says = omega (arith, h.occurrences_are, length-append g.bodies (a ∷ []), ap (λ s. length s.bodies) body_is) }
 
       pub body_taken : (c.occurrences ≡ occurrence_limit Preference → ⊥)
-          → TakenIs g c (negative a) words (set bodies c.bodies a) (set marks (atom_limit Preference + a) stamp) (Next (body_counts c))
+          → TakenIs g c (negative a) words (set bodies c.bodies a) (set marks (atom_limit Preference + a) stamp) (Some (body_counts c))
       body_taken few = taken body_is (record { atoms = refl; clauses = refl }) (hold_body few a) (subst (λ n. Marked (with_body g a) (set marks (atom_limit Preference + a) n)) (sym stamp_is) (mark_body m a below_limit))
 
 -- by its sign
-module _ {g : Gathered} {c : ClauseCounts} {a : ℕ} {words bodies marks : List ℕ} {r : Taken} {sign : Bool} where
+module _ {g : Gathered} {c : ClauseCounts} {a : ℕ} {words bodies marks : List ℕ} {r : Option ClauseCounts} {sign : Bool} where
   pub as_positive : sign ≡ true → TakenIs g c (positive a) words bodies marks r → TakenIs g c (signed sign a) words bodies marks r
   as_positive e t = subst (λ s. TakenIs g c (signed s a) words bodies marks r) (sym e) t
 

@@ -1,5 +1,5 @@
 -- What the scratch and the counts say of the clauses so far.
-use Rattle.std.specs.Prelude.{ℕ, suc, ◌+◌, ◌*◌, ◌≤◌, ◌<◌, ◌≡◌, List, ◌++◌, eqb, length, get_or, take, drop, replicate}
+use Rattle.std.specs.Prelude.{ℕ, suc, ◌+◌, ◌*◌, ◌≤◌, ◌<◌, ◌≡◌, List, ◌++◌, eqb, length, get_or, take, drop, replicate, Option, Some, None}
 use Rattle.kinds.specs.Limits.{atom_limit, rule_limit, occurrence_limit}
 use Rattle.kinds.specs.Sizes.{store_words}
 use Rattle.kinds.specs.declared.limits.Kind.TheVariants.{Preference}
@@ -11,8 +11,6 @@ use Rattle.gathering.specs.Gathered.{Filled}
 use Rattle.clauses.specs.Literals.{Literal}
 use Rattle.clauses.specs.Gathered.{Gathered, nothing, with_literal, with_end, occurrences_in}
 use Rattle.clause_rules.specs.declared.clause.ClauseCounts.{ClauseCounts}
-use Rattle.clause_rules.specs.declared.clause.Taken.{Taken}
-use Rattle.clause_rules.specs.declared.clause.Taken.TheVariants.{Next, Full}
 
 -- what the scratch decodes to
 unfoldable pub held : ClauseCounts → List ℕ → List ℕ → Gathered
@@ -56,12 +54,12 @@ pub record Started (n m : ℕ) (words : List ℕ) (c : ClauseCounts) : Type 0 wh
   pub clauses : c.clauses ≡ m
   pub holds : (bodies : List ℕ) → length bodies ≡ occurrence_limit Preference → HeldClauses nothing c words bodies
 
-abbrev pub TakenSays : Gathered → ClauseCounts → Literal → List ℕ → List ℕ → List ℕ → Taken → Type 0
-TakenSays g c l words bodies marks (Next d) = SameHeader c d × HeldClauses (with_literal g l) d words bodies × Marked (with_literal g l) marks
-TakenSays g c l words bodies marks Full = occurrence_limit Preference < occurrences_in (with_literal g l)
+abbrev pub TakenSays : Gathered → ClauseCounts → Literal → List ℕ → List ℕ → List ℕ → Option ClauseCounts → Type 0
+TakenSays g c l words bodies marks (Some d) = SameHeader c d × HeldClauses (with_literal g l) d words bodies × Marked (with_literal g l) marks
+TakenSays g c l words bodies marks None = occurrence_limit Preference < occurrences_in (with_literal g l)
 
 -- one literal more
-pub record TakenIs (g : Gathered) (c : ClauseCounts) (l : Literal) (words bodies marks : List ℕ) (r : Taken) : Type 0 where
+pub record TakenIs (g : Gathered) (c : ClauseCounts) (l : Literal) (words bodies marks : List ℕ) (r : Option ClauseCounts) : Type 0 where
   pub says : TakenSays g c l words bodies marks r
 
 -- one rule more

@@ -25,13 +25,6 @@ pub struct ClauseCounts {
     pub occurrences: usize,
 }
 
-// A literal more, or one occurrence too many.
-#[derive(Clone, Copy)]
-pub enum Taken {
-    Next(ClauseCounts),
-    Full,
-}
-
 // The class words of the header's atoms, behind the four words of a store's header.
 pub fn start(atoms: usize, clauses: usize, words: &mut [u16]) -> ClauseCounts
     requires { (atoms ≤ atom_limit Kind.Preference) × (clauses ≤ rule_limit Kind.Preference) × (length words.old ≡ store_words) }
@@ -57,25 +50,26 @@ fn take_positive(
     words: &mut [u16],
     bodies: &[u16],
     marks: &mut [u16],
-) -> Taken
+) -> Option<ClauseCounts>
     requires held_clauses { HeldClauses (held counts words.old bodies.now) counts words.old bodies.now }
     requires marked { Marked (held counts words.old bodies.now) marks.old }
     requires atom_lt_atoms { (atom < counts.atoms) × (stamp ≡ counts.rules + 1) }
     ensures { TakenIs (held counts words.old bodies.now) counts (positive atom) words.new bodies.now marks.new result }
 {
     if marks[atom] == stamp {
-        return Taken::Next(counts);
+        return Some(counts);
     }
     if counts.occurrences == Preference::OCCURRENCES {
-        return Taken::Full;
+        return None;
     }
     marks[atom] = stamp;
     let place = counts.words + 3 + counts.heads;
     words[place] = atom as u16;
-    let mut next = counts;
-    next.heads += 1;
-    next.occurrences += 1;
-    Taken::Next(next)
+    Some(ClauseCounts {
+        heads: counts.heads + 1,
+        occurrences: counts.occurrences + 1,
+        ..counts
+    })
 }
 
 // Behind the body atoms; its mark stands behind those of the head atoms.
@@ -86,7 +80,7 @@ fn take_negative(
     words: &[u16],
     bodies: &mut [u16],
     marks: &mut [u16],
-) -> Taken
+) -> Option<ClauseCounts>
     requires held_clauses { HeldClauses (held counts words.now bodies.old) counts words.now bodies.old }
     requires marked { Marked (held counts words.now bodies.old) marks.old }
     requires atom_lt_atoms { (atom < counts.atoms) × (stamp ≡ counts.rules + 1) }
@@ -94,20 +88,22 @@ fn take_negative(
 {
     let mark = Preference::ATOMS + atom;
     if marks[mark] == stamp {
-        return Taken::Next(counts);
+        return Some(counts);
     }
     if counts.occurrences == Preference::OCCURRENCES {
-        return Taken::Full;
+        return None;
     }
     marks[mark] = stamp;
     let place = counts.bodies;
     bodies[place] = atom as u16;
-    let mut next = counts;
-    next.bodies += 1;
-    next.occurrences += 1;
-    Taken::Next(next)
+    Some(ClauseCounts {
+        bodies: counts.bodies + 1,
+        occurrences: counts.occurrences + 1,
+        ..counts
+    })
 }
 
+// A literal more; no counts where there is one occurrence too many.
 pub fn take_literal(
     counts: ClauseCounts,
     positive: bool,
@@ -115,7 +111,7 @@ pub fn take_literal(
     words: &mut [u16],
     bodies: &mut [u16],
     marks: &mut [u16],
-) -> Taken
+) -> Option<ClauseCounts>
     requires held_clauses { HeldClauses (held counts words.old bodies.old) counts words.old bodies.old }
     requires marked { Marked (held counts words.old bodies.old) marks.old }
     requires atom_lt_atoms { atom < counts.atoms }
@@ -138,10 +134,11 @@ pub fn end_clause(counts: ClauseCounts, words: &mut [u16], bodies: &[u16]) -> Cl
     let count = counts.bodies;
     let behind = put_counts(heads, count, 0, words, at);
     let end = emit(&bodies[..count], words, behind + heads);
-    let mut next = counts;
-    next.rules += 1;
-    next.words = end;
-    next.heads = 0;
-    next.bodies = 0;
-    next
+    ClauseCounts {
+        rules: counts.rules + 1,
+        words: end,
+        heads: 0,
+        bodies: 0,
+        ..counts
+    }
 }

@@ -64,7 +64,7 @@ pub fn step2(words: &[u16], count: u16, minimised: u16, n: u16, out: &mut [u16],
 {
     let mut next = at;
     let mut from: usize = 0;
-    for i in 0..count {
+    for _ in 0..count {
         let size = rule_size(&words[from..]);
         next = step2_rule(&words[from..], minimised, n, out, next);
         from += size;
@@ -132,7 +132,7 @@ pub fn step3(
 {
     let mut next = at;
     let mut from: usize = 0;
-    for i in 0..count {
+    for _ in 0..count {
         let size = rule_size(&words[from..]);
         next = step3_rule(&words[from..], unfixed, o, out, next);
         from += size;

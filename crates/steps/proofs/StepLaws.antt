@@ -50,7 +50,7 @@ module _ (o : Offsets) (i a : ℕ) where
 -- the class of a minimised atom is its class word
 module _ {m : ℕ} {ws : List ℕ} (h : FirstMinimised m ws) {a : ℕ} (l : a < m) {class : ℕ} (e : class ≡ class_of ws a) where
   own : get_or ws a 0 ≡ class
-  own = sym (e ∙ minimised_class ws a (h.low.word a (omega (arith, h.inside))) (h.class a l))
+  own = sym (e ∙ minimised_class ws a (h.class a l))
 
   pub own_low : 1 ≤ class
   own_low = omega (arith, own, h.low.word a (omega (arith, h.inside)))

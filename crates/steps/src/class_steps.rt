@@ -9,9 +9,9 @@ ghost use Rattle.atom_lists.specs.ListWords.{each};
 ghost use Rattle.steps.specs.StepWords.{words5, run_words5};
 
 use crate::offsets::Offsets;
-use atom_lists::classes::class_end;
 use atom_lists::words::emit_run;
 use output::words::emit;
+use text::classes::class_end;
 
 // The D. of the atoms of a class, which are those from `first` up to `end`, E.i or U, if E.(i-1).
 fn step5_class(first: u16, end: u16, class: u16, o: Offsets, out: &mut [u16], at: usize) -> usize
@@ -32,7 +32,7 @@ pub fn step5(classes: &[u16], count: u16, o: Offsets, out: &mut [u16], at: usize
     let mut next = at;
     let mut first: u16 = 0;
     for class in 1..=count {
-        let end = class_end(classes, first, class);
+        let end = class_end(classes, first as usize, class) as u16;
         next = step5_class(first, end, class, o, out, next);
         first = end;
     }

@@ -54,7 +54,7 @@ pub fn emit_rules(
 {
     let mut next = at;
     let mut from: usize = 0;
-    for i in 0..count {
+    for _ in 0..count {
         let size = rule_size(&words[from..]);
         next = emit_rule(&words[from..], names, starts, out, next);
         from += size;

@@ -31,7 +31,7 @@ fn dotted_names(letter: u8, bytes: &[u8], count: u16, out: &mut [u8], at: usize)
 {
     let mut next = at;
     let mut from: usize = 0;
-    for i in 0..count {
+    for _ in 0..count {
         next = dotted_name(letter, &bytes[from..], out, next);
         from += 1 + bytes[from] as usize;
     }

@@ -1,18 +1,14 @@
-use Rattle.atom_lists.proofs.Counting.{count_begins, count_more, count_same, count_ends}
+use Rattle.std.proofs.Common.{rules, tests, eqb, not, ℕ, ◌∙◌}
+use Rattle.std.proofs.lemmas.Iterator.{YieldsList-from_slice}
+use Rattle.std.proofs.lemmas.Iterator.Consumers.{YieldsList-from_filter, count_from_yields_List}
+use Rattle.kinds.specs.Limits.{fixed}
 use Rattle.atom_lists.specs.Roles.{unfixed_count}
-use mathlib.Core.Path.{sym, ap, ◌∙◌}
-use mathlib.Core.Bool.{not}
-use native.Mathlib.Omega.{arith}
-use Prim.Native.Nat.{◌-◌}
+use Rattle.atom_lists.proofs.Counting.{count_words}
 use Rattle.atom_lists.proofs.classes.count_unfixed.Goals as goal
-use Rattle.atom_lists.proofs.classes.count_unfixed.Goals.{else-not-is_fixed, then-not-is_fixed}
-
-pub loop-i-init : goal.loop-i-init
-loop-i-init c = count_begins _ _
-
-pub loop-i-preserved : goal.loop-i-preserved
-loop-i-preserved c = elim c.if-not-is_fixed.branch [ then-not-is_fixed w ↦ count_more c.loop-i.invariant c.loop-i-test.true (sym (ap not c.is_fixed.ensures) ∙ ap not w.if-not-is_fixed.true) (omega arith) | else-not-is_fixed w ↦ count_same c.loop-i.invariant c.loop-i-test.true (sym (ap not c.is_fixed.ensures) ∙ ap not w.if-not-is_fixed.false) (omega arith) ]
 
 pub returns : goal.returns
 unfolding unfixed_count
-returns c = count_ends c.loop-i.invariant c.loop-i-test.false
+returns c =
+    let test = λ (w : ℕ). not (eqb w fixed) in
+    count_from_yields_List c.filter-unfixed.result _ c.count.ensures.ran (YieldsList-from_filter _ test (YieldsList-from_slice c.args.classes.now cc) c.filter-unfixed.ensures.closure (λ x b q k. search (rules, tests)))
+    ∙ count_words test c.args.classes.now

@@ -2,7 +2,6 @@ use Rattle.atom_lists.proofs.ListLaws.{run_next, run_ends, single_is}
 use Rattle.atom_lists.specs.ListWords.{single}
 use Rattle.output.proofs.Emitting.{start, turn, finish, range_here, range_renamed, renamed, length_kept}
 use mathlib.Core.Path.{sym}
-use Prim.Native.Nat.{◌-◌}
 use Rattle.atom_lists.proofs.words.emit_run.Goals as goal
 
 pub loop-word-init : goal.loop-word-init

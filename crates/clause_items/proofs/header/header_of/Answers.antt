@@ -7,7 +7,9 @@ use Rattle.name_store.specs.NameStore.{same_bytes}
 use Rattle.clauses.specs.Faults.{header_line}
 use Rattle.clause_items.proofs.FirstItems.{first_fails, first_word}
 use Rattle.clause_items.proofs.Gaps.{from_inside}
-use Rattle.clause_items.proofs.HeaderLaws.{no_p, no_cnf}
+use Rattle.clause_items.proofs.HeaderLaws.{no_p, no_cnf, words_line, no_header}
+use Rattle.clause_items.specs.Found.{numbers_step}
+use Rattle.std.proofs.lemmas.Result.{err_from_is_err_and}
 use Rattle.clause_items.proofs.header.header_of.Goals as goal
 
 pub is_word-requires : goal.is_word-requires
@@ -34,5 +36,16 @@ overflow_add-second c = omega (arith, (first_word _ _ c.skip-second.ensures (byt
 pub header_numbers-requires : goal.header_numbers-requires
 header_numbers-requires c = (first_word _ _ c.skip-second.ensures (bytes "cnf") (omega arith) c.is_word-2.ensures c.if-not-is_word-2.false).inside
 
+pub returns-in_err-header : goal.returns-in_err-header
+returns-in_err-header c =
+    let p = err_from_is_err_and c.from_residual.result c.from_residual.ensures.1 in
+    let b = first_word _ 0 c.skip-first.ensures (bytes "p") (omega arith) c.is_word.ensures c.if-not-is_word.false in
+    rw (p.1, p.2) (words_line b (first_word _ _ c.skip-second.ensures (bytes "cnf") (omega arith) c.is_word-2.ensures c.if-not-is_word-2.false) ∙ c.header_numbers.ensures ∙ no_header _ c.in_err-header.ensures.value)
+
 pub returns : goal.returns
-returns c = let p = first_word _ 0 c.skip-first.ensures (bytes "p") (omega arith) c.is_word.ensures c.if-not-is_word.false in ap header_line (p.items_are ∙ ap (λ (xs : List (List ℕ)). bytes "p" ∷ xs) (first_word _ _ c.skip-second.ensures (bytes "cnf") (omega arith) c.is_word-2.ensures c.if-not-is_word-2.false).items_are) ∙ c.header_numbers.ensures
+returns c =
+    let b = first_word _ 0 c.skip-first.ensures (bytes "p") (omega arith) c.is_word.ensures c.if-not-is_word.false in
+    words_line b (first_word _ _ c.skip-second.ensures (bytes "cnf") (omega arith) c.is_word-2.ensures c.if-not-is_word-2.false)
+    ∙ c.header_numbers.ensures
+    ∙ ap numbers_step c.in_ok-header.ensures.ok_part
+    ∙ c.header_within.ensures

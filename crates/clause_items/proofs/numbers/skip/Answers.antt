@@ -1,14 +1,16 @@
-use Prim.Native.Nat.{◌-◌}
-use native.Mathlib.Omega.{arith}
-use mathlib.Core.Path.{sym, ◌∙◌}
-use Rattle.clause_items.proofs.Gaps.{gap_out, gap_goes_on, gap_ends}
+use Rattle.std.proofs.Common.{◌≡◌, ◌∙◌, sym, ap, ℕ, List, ◌+◌, ◌-◌, length, take, drop, length-drop, arith}
+use Rattle.std.specs.List.{take_while}
+use Rattle.std.proofs.lemmas.List.Folds.{length-prefix_len}
+use Rattle.clauses.specs.Items.{is_separator}
+use Rattle.clause_items.specs.Found.{gap}
+use Rattle.clause_items.proofs.Gaps.{rest_is, from_inside}
 use Rattle.clause_items.proofs.numbers.skip.Goals as goal
 
-pub returns-then-not-separates : goal.returns-then-not-separates
-returns-then-not-separates c = omega (arith, gap_ends c.args.line.now c.loop-i.i c.loop-i-test.true (sym c.is_separator-separates.ensures ∙ c.if-not-separates.true))
+place : (line : List ℕ) (at : ℕ) {n : ℕ} → n ≡ length (take_while is_separator (take (length line - at) (drop at line))) → at + n ≡ at + gap (drop at line)
+place line at e = ap (λ (n : ℕ). at + n) (rw (rest_is line at) at e ∙ length-prefix_len is_separator (drop at line))
 
-pub loop-i-preserved : goal.loop-i-preserved
-loop-i-preserved c = omega (arith, gap_goes_on c.args.line.now c.loop-i.i c.loop-i-test.true (sym c.is_separator-separates.ensures ∙ c.if-not-separates.false))
+pub overflow_add-result : goal.overflow_add-result
+overflow_add-result c = omega (arith, from_inside c.args.line.now c.args.at (place c.args.line.now c.args.at c.gap.ensures) c.requires)
 
 pub returns : goal.returns
-returns c = omega (arith, gap_out c.args.line.now c.loop-i.i c.loop-i-test.false)
+returns c = place c.args.line.now c.args.at c.gap.ensures

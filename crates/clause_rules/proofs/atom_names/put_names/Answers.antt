@@ -11,12 +11,6 @@ loop-atom-init c = names_begin _ _ c.requires
 pub put_name-at-requires : goal.put_name-at-requires
 put_name-at-requires c = (omega (arith, c.loop-atom-test.true, c.requires), range_here c.loop-atom.invariant (names_next _ _ c.loop-atom-test.true))
 
-pub overflow_add-atom : goal.overflow_add-atom
-overflow_add-atom c = omega arith
-
-pub loop-atom-smaller : goal.loop-atom-smaller
-loop-atom-smaller c = omega arith
-
 pub loop-atom-preserved : goal.loop-atom-preserved
 loop-atom-preserved c = turn c.loop-atom.invariant (names_next _ _ c.loop-atom-test.true) c.put_name-at.ensures
 

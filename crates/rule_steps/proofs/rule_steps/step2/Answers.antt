@@ -2,46 +2,45 @@ use Rattle.text.proofs.RuleLoop.{rules_begin, rules_end, rule_stored, place_insi
 use Rattle.atom_lists.specs.ListWords.{each}
 use Rattle.output.proofs.Emitting.{length_kept}
 use native.Mathlib.Omega.{arith}
-use Prim.Native.Nat.{◌-◌}
 use Rattle.rule_steps.proofs.rule_steps.step2.Goals as goal
 
-pub loop-i-init : goal.loop-i-init
+pub loop-init : goal.loop-init
 unfolding each
-loop-i-init c = rules_begin c.requires.1 c.requires.2
+loop-init c = rules_begin c.requires.1 c.requires.2
 
 pub offset_bounds-words-from : goal.offset_bounds-words-from
-offset_bounds-words-from c = omega (arith, place_inside c.loop-i.invariant c.loop-i-test.true)
+offset_bounds-words-from c = omega (arith, place_inside c.loop.invariant c.loop-test.true)
 
 pub slice_bounds-rule_size-count : goal.slice_bounds-rule_size-count
-slice_bounds-rule_size-count c = omega (arith, place_inside c.loop-i.invariant c.loop-i-test.true)
+slice_bounds-rule_size-count c = omega (arith, place_inside c.loop.invariant c.loop-test.true)
 
 pub slice_bounds-rule_size-start : goal.slice_bounds-rule_size-start
-slice_bounds-rule_size-start c = omega (arith, place_inside c.loop-i.invariant c.loop-i-test.true)
+slice_bounds-rule_size-start c = omega (arith, place_inside c.loop.invariant c.loop-test.true)
 
 pub rule_size-size-requires : goal.rule_size-size-requires
-rule_size-size-requires c = (rule_stored c.loop-i.invariant c.loop-i-test.true).inside
+rule_size-size-requires c = (rule_stored c.loop.invariant c.loop-test.true).inside
 
-pub offset_bounds-words-from-in-loop-i : goal.offset_bounds-words-from-in-loop-i
-offset_bounds-words-from-in-loop-i c = omega (arith, place_inside c.loop-i.invariant c.loop-i-test.true)
+pub offset_bounds-words-from-in-loop : goal.offset_bounds-words-from-in-loop
+offset_bounds-words-from-in-loop c = omega (arith, place_inside c.loop.invariant c.loop-test.true)
 
 pub slice_bounds-step2_rule-count : goal.slice_bounds-step2_rule-count
-slice_bounds-step2_rule-count c = omega (arith, place_inside c.loop-i.invariant c.loop-i-test.true)
+slice_bounds-step2_rule-count c = omega (arith, place_inside c.loop.invariant c.loop-test.true)
 
 pub slice_bounds-step2_rule-start : goal.slice_bounds-step2_rule-start
-slice_bounds-step2_rule-start c = omega (arith, place_inside c.loop-i.invariant c.loop-i-test.true)
+slice_bounds-step2_rule-start c = omega (arith, place_inside c.loop.invariant c.loop-test.true)
 
 pub step2_rule-next-requires : goal.step2_rule-next-requires
-step2_rule-next-requires c = (c.requires.0, rule_stored c.loop-i.invariant c.loop-i-test.true, rule_range c.loop-i.invariant c.loop-i-test.true)
+step2_rule-next-requires c = (c.requires.0, rule_stored c.loop.invariant c.loop-test.true, rule_range c.loop.invariant c.loop-test.true)
 
 pub overflow_add-from : goal.overflow_add-from
-overflow_add-from c = omega (arith, place_inside c.loop-i.invariant c.loop-i-test.true, c.rule_size-size.ensures)
+overflow_add-from c = omega (arith, place_inside c.loop.invariant c.loop-test.true, c.rule_size-size.ensures)
 
-pub loop-i-preserved : goal.loop-i-preserved
-loop-i-preserved c = rules_again c.loop-i.invariant c.loop-i-test.true c.rule_size-size.ensures c.step2_rule-next.ensures
+pub loop-preserved : goal.loop-preserved
+loop-preserved c = rules_again c.loop.invariant c.loop-test.true c.rule_size-size.ensures c.step2_rule-next.ensures
 
 pub shape_of-out : goal.shape_of-out
-shape_of-out c = length_kept c.loop-i.invariant.so
+shape_of-out c = length_kept c.loop.invariant.so
 
 pub returns : goal.returns
 unfolding each
-returns c = rules_end c.loop-i.invariant c.loop-i-test.false
+returns c = rules_end c.loop.invariant c.loop-test.false

@@ -1,7 +1,6 @@
 use Rattle.text.proofs.RuleLoop.{RulesLeft}
 use Rattle.steps.specs.StepWords.{words3}
-use Prim.Native.Nat.{◌-◌}
 use Rattle.rule_steps.proofs.rule_steps.step3.Given as goal
 
-abbrev pub invariant-loop-i : goal.invariant-loop-i
-invariant-loop-i l = RulesLeft (words3 l.unfixed l.o.s l.o.u) l.o.n l.count l.words l.initial.out l.at l.out l.next l.from l.i
+abbrev pub invariant-loop : goal.invariant-loop
+invariant-loop l = RulesLeft (words3 l.unfixed l.o.s l.o.u) l.o.n l.count l.words l.initial.out l.at l.out l.next l.from l.counter

@@ -1,5 +1,4 @@
 use Rattle.steps.proofs.ClassSteps.{ClassesLeft}
-use Prim.Native.Nat.{◌+◌, ◌-◌}
 use Rattle.steps.proofs.class_steps.step5.Given as goal
 
 abbrev pub invariant-loop-class : goal.invariant-loop-class

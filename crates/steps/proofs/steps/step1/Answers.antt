@@ -1,6 +1,5 @@
 use Rattle.atom_lists.proofs.ListLaws.{run_next, run_ends}
 use Rattle.output.proofs.Emitting.{start, turn, finish, range_here, length_kept}
-use Prim.Native.Nat.{◌-◌}
 use native.Mathlib.Omega.{arith}
 use Rattle.steps.proofs.steps.step1.Goals as goal
 

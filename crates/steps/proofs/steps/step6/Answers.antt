@@ -1,7 +1,6 @@
 use Rattle.atom_lists.proofs.ListLaws.{run_next, run_ends}
 use Rattle.steps.proofs.StepLaws.{own_low, own_small, own_words}
 use Rattle.output.proofs.Emitting.{start, turn, finish, range_here, length_kept, renamed, range_renamed}
-use Prim.Native.Nat.{◌-◌}
 use native.Mathlib.Omega.{arith}
 use mathlib.Core.Path.{sym}
 use Rattle.steps.proofs.steps.step6.Goals as goal

@@ -1,6 +1,5 @@
 use Rattle.atom_lists.proofs.ListLaws.{run_next, run_ends}
 use Rattle.output.proofs.Emitting.{start, turn, finish, range_here, length_kept}
-use Prim.Native.Nat.{◌-◌}
 use Rattle.steps.proofs.steps.step789.Goals as goal
 
 pub loop-b-init : goal.loop-b-init

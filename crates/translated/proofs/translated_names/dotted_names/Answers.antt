@@ -4,35 +4,35 @@ use native.Mathlib.Omega.{arith}
 use Prim.Native.Nat.{◌-◌}
 use Rattle.translated.proofs.translated_names.dotted_names.Goals as goal
 
-pub loop-i-init : goal.loop-i-init
-loop-i-init c = names_begin c.requires.0 c.requires.1
+pub loop-init : goal.loop-init
+loop-init c = names_begin c.requires.0 c.requires.1
 
 pub slice_bounds-dotted_name-count : goal.slice_bounds-dotted_name-count
-slice_bounds-dotted_name-count c = omega (arith, name_inside c.loop-i.invariant c.loop-i-test.true)
+slice_bounds-dotted_name-count c = omega (arith, name_inside c.loop.invariant c.loop-test.true)
 
 pub slice_bounds-dotted_name-start : goal.slice_bounds-dotted_name-start
-slice_bounds-dotted_name-start c = omega (arith, name_inside c.loop-i.invariant c.loop-i-test.true)
+slice_bounds-dotted_name-start c = omega (arith, name_inside c.loop.invariant c.loop-test.true)
 
 pub dotted_name-next-requires : goal.dotted_name-next-requires
-dotted_name-next-requires c = (name_stored c.loop-i.invariant c.loop-i-test.true, name_range c.loop-i.invariant c.loop-i-test.true)
+dotted_name-next-requires c = (name_stored c.loop.invariant c.loop-test.true, name_range c.loop.invariant c.loop-test.true)
 
 pub bounds-bytes-from : goal.bounds-bytes-from
-bounds-bytes-from c = omega (arith, name_inside c.loop-i.invariant c.loop-i-test.true)
+bounds-bytes-from c = omega (arith, name_inside c.loop.invariant c.loop-test.true)
 
 pub overflow_cast-from : goal.overflow_cast-from
-overflow_cast-from c = omega (arith, name_inside c.loop-i.invariant c.loop-i-test.true)
+overflow_cast-from c = omega (arith, name_inside c.loop.invariant c.loop-test.true)
 
 pub overflow_add-from : goal.overflow_add-from
-overflow_add-from c = omega (arith, name_inside c.loop-i.invariant c.loop-i-test.true)
+overflow_add-from c = omega (arith, name_inside c.loop.invariant c.loop-test.true)
 
-pub overflow_add-from-in-loop-i : goal.overflow_add-from-in-loop-i
-overflow_add-from-in-loop-i c = omega (arith, name_inside c.loop-i.invariant c.loop-i-test.true)
+pub overflow_add-from-in-loop : goal.overflow_add-from-in-loop
+overflow_add-from-in-loop c = omega (arith, name_inside c.loop.invariant c.loop-test.true)
 
-pub loop-i-preserved : goal.loop-i-preserved
-loop-i-preserved c = names_again c.loop-i.invariant c.loop-i-test.true c.dotted_name-next.ensures
+pub loop-preserved : goal.loop-preserved
+loop-preserved c = names_again c.loop.invariant c.loop-test.true c.dotted_name-next.ensures
 
 pub shape_of-out : goal.shape_of-out
-shape_of-out c = length_kept c.loop-i.invariant.so
+shape_of-out c = length_kept c.loop.invariant.so
 
 pub returns : goal.returns
-returns c = names_end c.loop-i.invariant c.loop-i-test.false
+returns c = names_end c.loop.invariant c.loop-test.false
