@@ -8,11 +8,9 @@ pub fn turned(number: u64, atoms: usize) -> u64
     requires { atoms ≤ walk_atoms }
     ensures { result ≡ place atoms number }
 {
-    let mut left = number;
-    let mut r: u64 = 0;
-    for i in 0..atoms {
-        r = left % 2 + 2 * r;
-        left = left / 2;
+    // A shift by all 64 bits is none.
+    if atoms == 0 {
+        return 0;
     }
-    r
+    number.reverse_bits() >> (64 - atoms)
 }

@@ -1,6 +1,5 @@
 use Rattle.printing.proofs.PrintedLines.{member_next, members_end}
 use Rattle.output.proofs.Emitting.{start, turn, finish, range_here, length_kept}
-use Prim.Native.Nat.{◌-◌}
 use Rattle.printing.proofs.printing.emit_members.Goals as goal
 
 pub loop-atom-init : goal.loop-atom-init

@@ -2,7 +2,6 @@ use Rattle.output.proofs.Emitting.{Emitting}
 use Rattle.text.specs.Items.{stored_names}
 use Rattle.printing.specs.Parts.{members}
 use lib.ListN.{length}
-use Prim.Native.Nat.{◌-◌}
 use Rattle.printing.proofs.printing.emit_members.Given as goal
 
 abbrev pub invariant-loop-atom : goal.invariant-loop-atom

@@ -1,7 +1,6 @@
 use Rattle.translated.proofs.NameLaws.{names_begin, names_end, name_stored, name_inside, name_range, names_again}
 use Rattle.output.proofs.Emitting.{length_kept}
 use native.Mathlib.Omega.{arith}
-use Prim.Native.Nat.{◌-◌}
 use Rattle.translated.proofs.translated_names.dotted_names.Goals as goal
 
 pub loop-init : goal.loop-init

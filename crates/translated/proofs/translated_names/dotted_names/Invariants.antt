@@ -1,5 +1,4 @@
 use Rattle.translated.proofs.NameLaws.{NamesLeft}
-use Prim.Native.Nat.{◌-◌}
 use Rattle.translated.proofs.translated_names.dotted_names.Given as goal
 
 abbrev pub invariant-loop : goal.invariant-loop

@@ -1,4 +1,4 @@
-use Rattle.translated.proofs.FileStore.{few_atoms, few_classes_lem, long, few_words, low}
+use Rattle.translated.proofs.FileStore.{few_atoms, few_classes_lem, long, few_words}
 use Rattle.translated.proofs.FileNames.{stored, stored_all, few_first, few_second, names_ahead, names_range}
 use Rattle.text.proofs.AtomItems.{last_run}
 use Rattle.output.proofs.Emitting.{start, turn, finish, range_begin, range_here}
@@ -25,7 +25,7 @@ pub slice_bounds-classes-end : goal.slice_bounds-classes-end
 slice_bounds-classes-end c = omega (arith, long c.requires.0)
 
 pub count_minimised-minimised-requires : goal.count_minimised-minimised-requires
-count_minimised-minimised-requires c = (few_words c.requires.0, low c.requires.0)
+count_minimised-minimised-requires c = few_words c.requires.0
 
 pub count_unfixed-unfixed-requires : goal.count_unfixed-unfixed-requires
 count_unfixed-unfixed-requires c = few_words c.requires.0

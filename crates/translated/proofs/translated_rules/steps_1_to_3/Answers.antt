@@ -1,7 +1,6 @@
 use Rattle.text.proofs.AtomItems.{last_run}
 use Rattle.output.proofs.Emitting.{start, turn, finish, range_begin, range_here, in_front_lem}
 use mathlib.Core.Path.{refl}
-use borrow.Author.Rules.{rules}
 use Rattle.translated.proofs.translated_rules.steps_1_to_3.Goals as goal
 
 pub step1-second-requires : goal.step1-second-requires

@@ -1,4 +1,4 @@
-use Rattle.translated.proofs.FileStore.{few_atoms, few_classes_lem, few_rules, long, few_words, low, few_m, few_q, small, file_fits, classes_fit, header_ahead, store_range}
+use Rattle.translated.proofs.FileStore.{few_atoms, few_classes_lem, few_rules, long, few_words, few_m, few_q, small, file_fits, classes_fit, header_ahead, store_range}
 use Rattle.text.proofs.AtomItems.{last_run}
 use Rattle.output.proofs.Emitting.{start, turn, finish, range_begin, range_here}
 use mathlib.Core.Path.{refl}
@@ -24,7 +24,7 @@ pub slice_bounds-classes-end : goal.slice_bounds-classes-end
 slice_bounds-classes-end c = omega (arith, long c.requires)
 
 pub count_minimised-minimised-requires : goal.count_minimised-minimised-requires
-count_minimised-minimised-requires c = (few_words c.requires, low c.requires)
+count_minimised-minimised-requires c = few_words c.requires
 
 pub count_unfixed-unfixed-requires : goal.count_unfixed-unfixed-requires
 count_unfixed-unfixed-requires c = few_words c.requires
