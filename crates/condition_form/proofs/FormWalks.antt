@@ -8,6 +8,8 @@ use mathlib.Core.Bool.{Bool, true, false, cond, ◌&&◌, ◌||◌}
 use mathlib.Core.List.{List, [], ◌∷◌, ◌++◌}
 use lib.ListN.{length, take, drop}
 use lib.Seq.{drop-drop}
+use Rattle.std.specs.Prelude.{Some, None}
+use Rattle.std.specs.Bool.{then_some}
 use Rattle.kinds.specs.Words.{open_bracket, close_bracket}
 use Rattle.kinds.specs.declared.limits.Kind.{Kind}
 use Rattle.names.specs.Names.{name_class, allowed}
@@ -25,8 +27,6 @@ use Rattle.lines.proofs.TokenCuts.{reach, tokens_cut, from_there, opening_is, cl
 use Rattle.lines.proofs.NameLists.{fit_says}
 use Rattle.lines.proofs.ConditionLines.{when_broken, then_names}
 use Rattle.condition_form.specs.declared.condition.Standing.{Standing}
-use Rattle.condition_form.specs.declared.condition.Standing.TheVariants as Standing
-use Rattle.condition_form.specs.declared.condition.Walk.TheVariants as Walk
 use Rattle.condition_form.specs.ConditionForms.{between, WordUpTo, StandingSays, StandingIs, one_form, from_last, WalkIs}
 
 -- a form that ends with `(then a))`
@@ -93,10 +93,19 @@ walking kind l from h =
       refusing = refl;
     }
 
-module _ {kind : Kind} {l : List ℕ} {from at last depth : ℕ} {refused : Bool} (h : Walking kind l from at last depth refused) {r : Standing} (s : StandingIs kind l at r) where
+module _ {kind : Kind} {l : List ℕ} {from at last depth : ℕ} {refused : Bool} (h : Walking kind l from at last depth refused) where
+  pub walk_stops : StandingIs kind l at None → WalkIs kind l from None
+  unfolding one_form
+  walk_stops s =
+      ⊎_elim
+      (λ n. record { says = no_form (tokens (drop from l)) (sym h.one ∙ ap (one_form depth) n) })
+      (λ n. record { says = no_names (tokens (drop from l)) (sym h.naming ∙ n) })
+      s.says
+
+module _ {kind : Kind} {l : List ℕ} {from at last depth : ℕ} {refused : Bool} (h : Walking kind l from at last depth refused) {r : Standing} (s : StandingIs kind l at (Some r)) where
   module _ {p : ℕ} (e : r ≡ Standing.Opening p) where
     opens : ByteBehind l at open_bracket p
-    opens = subst (StandingSays kind l at) e s.says
+    opens = subst (λ x. StandingSays kind l at (Some x)) e s.says
 
     pub open_inside : p + 1 ≤ length l
     open_inside = omega (arith, opens.inside)
@@ -129,7 +138,7 @@ module _ {kind : Kind} {l : List ℕ} {from at last depth : ℕ} {refused : Bool
 
   module _ {p : ℕ} (e : r ≡ Standing.Closing p) where
     closes : ByteBehind l at close_bracket p
-    closes = subst (StandingSays kind l at) e s.says
+    closes = subst (λ x. StandingSays kind l at (Some x)) e s.says
 
     pub close_inside : p + 1 ≤ length l
     close_inside = omega (arith, closes.inside)
@@ -164,7 +173,7 @@ module _ {kind : Kind} {l : List ℕ} {from at last depth : ℕ} {refused : Bool
       unfolding one_form
       ends = sym h.one ∙ ap₂ one_form d closed ∙ sym f
 
-      pub form_ends : b ≡ true → WalkIs kind l from (Walk.Form last refused)
+      form_ends : b ≡ true → WalkIs kind l from (Some (record { last = last; refused = refused }))
       unfolding from_last words_in
       form_ends t =
           let all : tokens (drop at l) ≡ closing ∷ [] = closed ∙ ap (λ ts. closing ∷ ts) (none (tokens (drop (p + 1) l)) (sym f ∙ t)) in
@@ -184,8 +193,15 @@ module _ {kind : Kind} {l : List ℕ} {from at last depth : ℕ} {refused : Bool
           none [] n = refl
           none (t ∷ ts) n = absurd (let z : ◌≡◌ {A = ℕ} 0 1 = cc in omega arith)
 
-      pub form_ends_early : b ≡ false → WalkIs kind l from Walk.Broken
+      form_ends_early : b ≡ false → WalkIs kind l from None
       form_ends_early t = record { says = no_form (tokens (drop from l)) (ends ∙ t) }
+
+      pub form_closes : WalkIs kind l from (then_some b (record { last = last; refused = refused }))
+      form_closes = go b refl
+        where
+          go : (x : Bool) → b ≡ x → WalkIs kind l from (then_some x (record { last = last; refused = refused }))
+          go true t = form_ends t
+          go false t = form_ends_early t
 
   -- a name
   module _ {to : ℕ} {fit : NameFit} (w : WordUpTo kind l at to fit) where
@@ -223,7 +239,7 @@ module _ {kind : Kind} {l : List ℕ} {from at last depth : ℕ} {refused : Bool
 
   module _ {to : ℕ} (e : r ≡ Standing.Taken to) where
     taken : WordUpTo kind l at to Fit.Taken
-    taken = subst (StandingSays kind l at) e s.says
+    taken = subst (λ x. StandingSays kind l at (Some x)) e s.says
 
     pub taken_inside : to ≤ length l
     taken_inside = up_to taken
@@ -237,7 +253,7 @@ module _ {kind : Kind} {l : List ℕ} {from at last depth : ℕ} {refused : Bool
 
   module _ {to : ℕ} (e : r ≡ Standing.Refused to) where
     turned : WordUpTo kind l at to Fit.Refused
-    turned = subst (StandingSays kind l at) e s.says
+    turned = subst (λ x. StandingSays kind l at (Some x)) e s.says
 
     pub refused_inside : to ≤ length l
     refused_inside = up_to turned
@@ -248,11 +264,3 @@ module _ {kind : Kind} {l : List ℕ} {from at last depth : ℕ} {refused : Bool
     pub walk_refused : Walking kind l from to last depth true
     unfolding allowed
     walk_refused = let t = fit_says kind (x turned) (sym turned.fits) refl in walk_name turned t.0 (sym (ap (λ (y : Bool). refused || y) t.1 ∙ or-true refused))
-
-  pub walk_stops : r ≡ Standing.Neither → WalkIs kind l from Walk.Broken
-  unfolding one_form
-  walk_stops e =
-      ⊎_elim
-      (λ n. record { says = no_form (tokens (drop from l)) (sym h.one ∙ ap (one_form depth) n) })
-      (λ n. record { says = no_names (tokens (drop from l)) (sym h.naming ∙ n) })
-      (subst (StandingSays kind l at) e s.says)

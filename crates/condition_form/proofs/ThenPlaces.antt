@@ -5,26 +5,23 @@ use mathlib.Core.Path.{◌≡◌, refl, sym, ap, ap₂, ◌∙◌, subst}
 use mathlib.Core.Bool.{Bool, true, false, cond}
 use mathlib.Core.List.{List, [], ◌∷◌, ◌++◌}
 use lib.ListN.{length, drop}
+use Rattle.std.specs.Prelude.{Option, Some, None}
+use Rattle.std.specs.Bool.{then_some}
 use Rattle.kinds.specs.Words.{when_word, then_word}
 use Rattle.kinds.specs.declared.limits.Kind.{Kind}
 use Rattle.rules.specs.Lists.{some}
 use Rattle.name_store.specs.NameStore.{same_bytes}
 use Rattle.lines.specs.declared.scan.Item.{Item}
-use Rattle.lines.specs.declared.scan.Item.TheVariants.{At, Stop}
-use Rattle.lines.specs.declared.scan.Place.{Place}
-use Rattle.lines.specs.declared.scan.Place.TheVariants as Place
 use Rattle.lines.specs.Tokens.{Token, opening, closing, word, tokens, leading, items}
 use Rattle.lines.specs.Conditions.{words_in, pairs}
 use Rattle.lines.specs.Forms.{LineForm, condition, broken, opened, opened_of, when_form, are_names, named}
 use Rattle.lines.specs.Faults.{refused_name}
-use Rattle.lines.specs.Shapes.{item_of, is_closing, is_closing_last, opens_with, ClosedSays, ClosedIs, OpenedSays, OpenedIs, then_tokens}
+use Rattle.lines.specs.Shapes.{spaced, item_of, is_closing, is_closing_last, opens_with, ClosedSays, ClosedIs, OpenedSays, OpenedIs, then_tokens}
 use Rattle.lines.proofs.TokenPlaces.{items_end, item_fits, word_is}
 use Rattle.lines.proofs.ConditionLines.{when_form_lem, when_broken, then_names, then_refused}
 use Rattle.condition_form.specs.declared.condition.Walk.{Walk}
-use Rattle.condition_form.specs.declared.condition.Walk.TheVariants as Walk
 use Rattle.condition_form.specs.declared.condition.Then.{Then}
-use Rattle.condition_form.specs.declared.condition.Then.TheVariants as Then
-use Rattle.condition_form.specs.ConditionForms.{between, one_form, from_last, Walked, WalkSays, WalkIs, ThenAt, ThenSays, ThenIs, ConditionAt}
+use Rattle.condition_form.specs.ConditionForms.{between, one_form, from_last, Walked, WalkIs, ThenAt, ThenIs, ConditionAt}
 use Rattle.condition_form.proofs.FormWalks.{one_pairs, last_then}
 
 opened_tokens : (ts : List Token) {w : List ℕ} {us : List Token} → opened_of ts ≡ opened w us → ts ≡ opening ∷ word w ∷ us
@@ -48,8 +45,8 @@ closed_last (closing ∷ t ∷ ts) e = absurd (let z : ◌≡◌ {A = ℕ} 0 1 =
 closed_last (word x ∷ ts) e = absurd (let z : ◌≡◌ {A = ℕ} 0 1 = cc in omega arith)
 
 -- behind `(then`
-module _ (s : List ℕ) (at : ℕ) {q : Place} (o : OpenedIs s at then_word q) where
-  pub no_then : q ≡ Place.Absent → ThenIs s at Then.Absent
+module _ (s : List ℕ) (at : ℕ) {q : Option ℕ} (o : OpenedIs s at then_word q) where
+  pub no_then : q ≡ None → ThenIs s at None
   unfolding opened_of same_bytes
   no_then e =
       record {
@@ -58,8 +55,8 @@ module _ (s : List ℕ) (at : ℕ) {q : Place} (o : OpenedIs s at then_word q) w
             let z : ◌≡◌ {A = ℕ} 0 1 = cc in omega arith);
       }
 
-  module _ {p : ℕ} (e : q ≡ Place.At p) where
-    opens : OpenedSays s at then_word (Place.At p)
+  module _ {p : ℕ} (e : q ≡ Some p) where
+    opens : OpenedSays s at then_word (Some p)
     opens = subst (OpenedSays s at then_word) e o.says
 
     pub then_inside : p ≤ length s
@@ -71,8 +68,8 @@ module _ (s : List ℕ) (at : ℕ) {q : Place} (o : OpenedIs s at then_word q) w
     rest_is : {a : List ℕ} → tokens (drop at s) ≡ then_tokens a → tokens (drop p s) ≡ word a ∷ closing ∷ closing ∷ []
     rest_is f = let g : opening ∷ word then_word ∷ tokens (drop p s) ≡ then_tokens _ = sym is ∙ f in cc
 
-    module _ {r : Item} (i : r ≡ item_of (drop p s)) where
-      pub no_name : r ≡ Stop → ThenIs s at Then.Absent
+    module _ {r : Option Item} (i : r ≡ item_of (drop p s)) where
+      pub no_name : r ≡ None → ThenIs s at None
       unfolding items
       no_name d =
           record {
@@ -80,7 +77,7 @@ module _ (s : List ℕ) (at : ℕ) {q : Place} (o : OpenedIs s at then_word q) w
                 let z : ◌≡◌ {A = ℕ} 0 1 = cc in omega arith);
           }
 
-      module _ {g n : ℕ} (d : r ≡ At g n) where
+      module _ {g n : ℕ} (d : r ≡ spaced g n) where
         pub name_fits : p + g + n ≤ length s
         name_fits = item_fits s p i d
 
@@ -93,8 +90,8 @@ module _ (s : List ℕ) (at : ℕ) {q : Place} (o : OpenedIs s at then_word q) w
         after_name : {b : List ℕ} → tokens (drop at s) ≡ then_tokens b → tokens (drop (p + g + n) s) ≡ closing ∷ closing ∷ []
         after_name f = let k : word a ∷ tokens (drop (p + g + n) s) ≡ word _ ∷ closing ∷ closing ∷ [] = sym named_there ∙ rest_is f in cc
 
-        module _ {t : Place} (c : ClosedIs s (p + g + n) t) where
-          pub no_close : t ≡ Place.Absent → ThenIs s at Then.Absent
+        module _ {t : Option ℕ} (c : ClosedIs s (p + g + n) t) where
+          pub no_close : t ≡ None → ThenIs s at None
           no_close u =
               record {
                 says = λ b f. (let k : is_closing (tokens (drop (p + g + n) s)) ≡ false = subst (ClosedSays s (p + g + n)) u c.says in
@@ -102,15 +99,15 @@ module _ (s : List ℕ) (at : ℕ) {q : Place} (o : OpenedIs s at then_word q) w
                     let z : ◌≡◌ {A = ℕ} 0 1 = cc in omega arith);
               }
 
-          module _ {m : ℕ} (u : t ≡ Place.At m) where
-            closes : ClosedSays s (p + g + n) (Place.At m)
+          module _ {m : ℕ} (u : t ≡ Some m) where
+            closes : ClosedSays s (p + g + n) (Some m)
             closes = subst (ClosedSays s (p + g + n)) u c.says
 
             pub close_inside : m ≤ length s
             close_inside = closes.0.inside
 
             module _ {b : Bool} (f : b ≡ is_closing_last (tokens (drop m s))) where
-              pub then_there : b ≡ true → ThenIs s at (Then.At (p + g) (p + g + n))
+              then_there : b ≡ true → ThenIs s at (Some (record { start = p + g; end = p + g + n }))
               then_there v =
                   record {
                     says = record {
@@ -122,7 +119,7 @@ module _ (s : List ℕ) (at : ℕ) {q : Place} (o : OpenedIs s at then_word q) w
                     };
                   }
 
-              pub then_early : b ≡ false → ThenIs s at Then.Absent
+              then_early : b ≡ false → ThenIs s at None
               then_early v =
                   record {
                     says = λ x j. (let k : closing ∷ tokens (drop m s) ≡ closing ∷ closing ∷ [] = sym closes.1 ∙ after_name j in
@@ -131,60 +128,65 @@ module _ (s : List ℕ) (at : ℕ) {q : Place} (o : OpenedIs s at then_word q) w
                         let z : ◌≡◌ {A = ℕ} 0 1 = cc in omega arith);
                   }
 
+              pub then_ends : ThenIs s at (then_some b (record { start = p + g; end = p + g + n }))
+              then_ends = go b refl
+                where
+                  go : (x : Bool) → b ≡ x → ThenIs s at (then_some x (record { start = p + g; end = p + g + n }))
+                  go true v = then_there v
+                  go false v = then_early v
+
 -- the line
-pub not_opened : (l : List ℕ) {q : Place} → OpenedIs l 0 when_word q → q ≡ Place.Absent → opens_with when_word (opened_of (tokens l)) ≡ true → {A : Type 0} → A
+pub not_opened : (l : List ℕ) {q : Option ℕ} → OpenedIs l 0 when_word q → q ≡ None → opens_with when_word (opened_of (tokens l)) ≡ true → {A : Type 0} → A
 not_opened l o e t =
     let n : opens_with when_word (opened_of (tokens l)) ≡ false = subst (OpenedSays l 0 when_word) e o.says in
     let y : true ≡ false = sym t ∙ n in
     absurd (let z : ◌≡◌ {A = ℕ} 0 1 = cc in omega arith)
 
-module _ {kind : Kind} {l : List ℕ} {f : LineForm} {from : ℕ} (g : f ≡ named (when_form (tokens (drop from l)))) {r : Walk} (w : WalkIs kind l from r) where
-  pub no_form_there : r ≡ Walk.Broken → f ≡ broken
-  no_form_there e = g ∙ subst (WalkSays kind l from) e w.says
+module _ {kind : Kind} {l : List ℕ} {f : LineForm} {from : ℕ} (g : f ≡ named (when_form (tokens (drop from l)))) where
+  pub no_form_there : WalkIs kind l from None → f ≡ broken
+  no_form_there w = g ∙ w.says
 
-  module _ {last : ℕ} {refused : Bool} (e : r ≡ Walk.Form last refused) where
-    walked : Walked kind l from (tokens (drop from l)) last refused
-    walked = subst (WalkSays kind l from) e w.says
+  module _ {v : Walk} (w : WalkIs kind l from (Some v)) where
+    walked : Walked kind l from (tokens (drop from l)) v.last v.refused
+    walked = w.says
 
-    pub last_inside : last ≤ length l
+    pub last_inside : v.last ≤ length l
     last_inside = walked.inside
 
-    module _ {q : Then} (t : ThenIs l last q) where
-      pub no_then_there : q ≡ Then.Absent → f ≡ broken
-      no_then_there d =
-          let n : ThenSays l last Then.Absent = subst (ThenSays l last) d t.says in
-          g ∙ when_broken (tokens (drop from l)) (λ ts a k. absurd (n a (walked.at_last ∙ ap (from_last (tokens (drop from l))) k ∙ last_then (tokens (drop from l)) ts a)))
+    pub no_then_there : ThenIs l v.last None → f ≡ broken
+    no_then_there t =
+        g ∙ when_broken (tokens (drop from l)) (λ ts a k. absurd (t.says a (walked.at_last ∙ ap (from_last (tokens (drop from l))) k ∙ last_then (tokens (drop from l)) ts a)))
 
-      module _ {start end : ℕ} (d : q ≡ Then.At start end) where
-        then_at : ThenAt l last start end
-        then_at = subst (ThenSays l last) d t.says
+    module _ {u : Then} (t : ThenIs l v.last (Some u)) where
+      then_at : ThenAt l v.last u.start u.end
+      then_at = t.says
 
-        abbrev ts : List Token
-        ts = tokens (between from last l)
+      abbrev ts : List Token
+      ts = tokens (between from v.last l)
 
-        abbrev goal : List ℕ
-        goal = between start end l
+      abbrev goal : List ℕ
+      goal = between u.start u.end l
 
-        all : tokens (drop from l) ≡ ts ++ then_tokens goal
-        all = walked.cut ∙ ap (λ us. ts ++ us) then_at.is
+      all : tokens (drop from l) ≡ ts ++ then_tokens goal
+      all = walked.cut ∙ ap (λ us. ts ++ us) then_at.is
 
-        paired : pairs 0 ts ≡ true
-        paired = sym (one_pairs 0 ts goal) ∙ ap (one_form 0) (sym all) ∙ walked.one
+      paired : pairs 0 ts ≡ true
+      paired = sym (one_pairs 0 ts goal) ∙ ap (one_form 0) (sym all) ∙ walked.one
 
-        are_names_lem : are_names (words_in ts ++ (goal ∷ [])) ≡ true
-        are_names_lem = sym (then_names ts goal) ∙ ap (λ us. are_names (words_in us)) (sym all) ∙ walked.are_names_lem
+      are_names_lem : are_names (words_in ts ++ (goal ∷ [])) ≡ true
+      are_names_lem = sym (then_names ts goal) ∙ ap (λ us. are_names (words_in us)) (sym all) ∙ walked.are_names_lem
 
-        pub condition_there : ConditionAt kind l f (record { from = from; to = last; start = start; end = end; refused = refused })
-        condition_there =
-            record {
-              onward = walked.onward;
-              inside = walked.inside;
-              name_onward = then_at.onward;
-              name_inside = then_at.inside;
-              form =
-                  g
-                  ∙ ap named (when_form_lem (tokens (drop from l)) ts goal all ∙ ap (λ (b : Bool). cond b (condition ts goal) broken) paired)
-                  ∙ ap (λ (b : Bool). cond b (condition ts goal) broken) are_names_lem;
-              paired = paired;
-              is_refused = walked.is_refused ∙ ap (λ us. some (refused_name kind) (words_in us)) all ∙ then_refused kind ts goal;
-            }
+      pub condition_there : ConditionAt kind l f (record { from = from; to = v.last; start = u.start; end = u.end; refused = v.refused })
+      condition_there =
+          record {
+            onward = walked.onward;
+            inside = walked.inside;
+            name_onward = then_at.onward;
+            name_inside = then_at.inside;
+            form =
+                g
+                ∙ ap named (when_form_lem (tokens (drop from l)) ts goal all ∙ ap (λ (b : Bool). cond b (condition ts goal) broken) paired)
+                ∙ ap (λ (b : Bool). cond b (condition ts goal) broken) are_names_lem;
+            paired = paired;
+            is_refused = walked.is_refused ∙ ap (λ us. some (refused_name kind) (words_in us)) all ∙ then_refused kind ts goal;
+          }

@@ -8,31 +8,30 @@ ghost use Rattle.condition_form.specs.ConditionForms.{StandingIs, WalkIs, ThenIs
 
 use kinds::limits::Kind;
 use lines::forms::NameFit;
-use lines::scan::{Bracket, Item, Place};
+use lines::scan::{Bracket, Item};
 use lines::{forms, scan};
 
-// What stands at a place: a bracket there, a name up to a place, or neither.
+// What stands at a place: a bracket there, or a name up to a place.
 #[derive(Clone, Copy)]
 enum Standing {
     Opening(usize),
     Closing(usize),
     Taken(usize),
     Refused(usize),
-    Neither,
 }
 
-// One form up to the line's end, whose last opening bracket is at `last`, or none.
+// One form up to the line's end: its last opening bracket is at `last`; whether one of its names is refused.
 #[derive(Clone, Copy)]
-enum Walk {
-    Form { last: usize, refused: bool },
-    Broken,
+struct Walk {
+    last: usize,
+    refused: bool,
 }
 
 // The bytes of a in `(then a))`.
 #[derive(Clone, Copy)]
-enum Then {
-    At { start: usize, end: usize },
-    Absent,
+struct Then {
+    start: usize,
+    end: usize,
 }
 
 // COND's bytes are from..to, those of a start..end; whether one of the names is refused.
@@ -45,34 +44,29 @@ pub struct ConditionPlaces {
     pub refused: bool,
 }
 
-#[derive(Clone, Copy)]
-pub enum ConditionShape {
-    At(ConditionPlaces),
-    Broken,
-}
-
-fn standing_at(line: &[u8], at: usize, kind: Kind) -> Standing
+// A bracket or a name, if one of them stands there.
+fn standing_at(line: &[u8], at: usize, kind: Kind) -> Option<Standing>
     requires { at ≤ length line.now }
     ensures { StandingIs kind line.now at result }
 {
-    let Item::At { gap, size } = scan::item_at(line, at) else {
+    let Some(Item { gap, size }) = scan::item_at(line, at) else {
         return match scan::bracket_at(line, at) {
-            Bracket::Opening(place) => Standing::Opening(place),
-            Bracket::Closing(place) => Standing::Closing(place),
-            Bracket::Absent => Standing::Neither,
+            Bracket::Opening(place) => Some(Standing::Opening(place)),
+            Bracket::Closing(place) => Some(Standing::Closing(place)),
+            Bracket::Absent => None,
         };
     };
     let start = at + gap;
     let to = start + size;
     match forms::name_fit(&line[start..to], kind) {
-        NameFit::Taken => Standing::Taken(to),
-        NameFit::Refused => Standing::Refused(to),
-        NameFit::Wrong => Standing::Neither,
+        NameFit::Taken => Some(Standing::Taken(to)),
+        NameFit::Refused => Some(Standing::Refused(to)),
+        NameFit::Wrong => None,
     }
 }
 
 // The form whose own opening bracket stands before `from`. `(then a))` has one opening bracket: only at the last one it can stand.
-fn form_from(line: &[u8], from: usize, kind: Kind) -> Walk
+fn form_from(line: &[u8], from: usize, kind: Kind) -> Option<Walk>
     requires { from ≤ length line.now }
     ensures { WalkIs kind line.now from result }
 {
@@ -81,7 +75,7 @@ fn form_from(line: &[u8], from: usize, kind: Kind) -> Walk
     let mut depth: usize = 0;
     let mut refused = false;
     loop {
-        match standing_at(line, at, kind) {
+        match standing_at(line, at, kind)? {
             Standing::Opening(place) => {
                 last = place;
                 depth += 1;
@@ -90,10 +84,7 @@ fn form_from(line: &[u8], from: usize, kind: Kind) -> Walk
             Standing::Closing(place) => {
                 at = place + 1;
                 if depth == 0 {
-                    if scan::nothing_at(line, at) {
-                        return Walk::Form { last, refused };
-                    }
-                    return Walk::Broken;
+                    return scan::nothing_at(line, at).then_some(Walk { last, refused });
                 }
                 depth -= 1;
             }
@@ -104,53 +95,37 @@ fn form_from(line: &[u8], from: usize, kind: Kind) -> Walk
                 refused = true;
                 at = to;
             }
-            Standing::Neither => return Walk::Broken,
         }
     }
 }
 
-fn then_at(line: &[u8], at: usize) -> Then
+fn then_at(line: &[u8], at: usize) -> Option<Then>
     requires { at ≤ length line.now }
     ensures { ThenIs line.now at result }
 {
-    let Place::At(behind) = scan::opened_at(line, at, b"then") else {
-        return Then::Absent;
-    };
-    let Item::At { gap, size } = scan::item_at(line, behind) else {
-        return Then::Absent;
-    };
+    let behind = scan::opened_at(line, at, b"then")?;
+    let Item { gap, size } = scan::item_at(line, behind)?;
     let start = behind + gap;
     let end = start + size;
-    let Place::At(closed) = scan::closed_at(line, end) else {
-        return Then::Absent;
-    };
-    if forms::closes_line(line, closed) {
-        return Then::At { start, end };
-    }
-    Then::Absent
+    let closed = scan::closed_at(line, end)?;
+    forms::closes_line(line, closed).then_some(Then { start, end })
 }
 
-pub fn condition_at(line: &[u8], kind: Kind) -> ConditionShape
+pub fn condition_at(line: &[u8], kind: Kind) -> Option<ConditionPlaces>
     requires { opens_with when_word (opened_of (tokens line.now)) ≡ true }
     ensures { ConditionIs kind line.now (form_of line.now) result }
 {
     if !scan::is_ended(line) {
-        return ConditionShape::Broken;
+        return None;
     }
-    let Place::At(from) = scan::opened_at(line, 0, b"when") else {
-        return ConditionShape::Broken;
-    };
-    let Walk::Form { last, refused } = form_from(line, from, kind) else {
-        return ConditionShape::Broken;
-    };
-    let Then::At { start, end } = then_at(line, last) else {
-        return ConditionShape::Broken;
-    };
-    ConditionShape::At(ConditionPlaces {
+    let from = scan::opened_at(line, 0, b"when")?;
+    let walk = form_from(line, from, kind)?;
+    let then = then_at(line, walk.last)?;
+    Some(ConditionPlaces {
         from,
-        to: last,
-        start,
-        end,
-        refused,
+        to: walk.last,
+        start: then.start,
+        end: then.end,
+        refused: walk.refused,
     })
 }

@@ -7,12 +7,12 @@ use mathlib.Core.Bool.{Bool, true, false, cond}
 use lib.ListN.{length, take, length-map}
 use Rattle.kinds.specs.Limits.{atom_limit}
 use Rattle.kinds.specs.declared.limits.Kind.TheVariants.{Preference}
+use Rattle.kinds.specs.declared.refusals.Refusal.{Refusal}
 use Rattle.kinds.specs.declared.refusals.Refusal.TheVariants.{Undeclared, Limit, BrokenCondition}
 use Rattle.rules.specs.Lists.{All, sum}
 use Rattle.rules.specs.Rules.{rule}
 use Rattle.rules.proofs.Lists.{all_from, all_app_r}
-use Rattle.name_store.specs.declared.index.Found.{Found}
-use Rattle.name_store.specs.declared.index.Found.TheVariants as Found
+use Rattle.std.specs.Prelude.{Option, Some, None, Result}
 use Rattle.name_store.specs.NameStore.{decode_names, among}
 use Rattle.name_store.specs.NameIndex.{found}
 use Rattle.conditions.specs.Conditions.{Cond, name, NOT, AND, OR, connectives, names_of}
@@ -28,11 +28,9 @@ use Rattle.lines.specs.Faults.{SoFar, fault, name_number, step_form}
 use Rattle.numbering.specs.Numbers.{undeclared}
 use Rattle.numbering.proofs.NameNumbers.{named, unnamed}
 use Rattle.gathering.specs.declared.gathered.Gathered.{Gathered}
-use Rattle.gathering.specs.declared.gathered.Line.{Line}
 use Rattle.gathering.specs.Gathered.{state_of, Held, HeldIndex, LineIs}
 use Rattle.gathering.proofs.HeldState.{atoms_is, held_small, known_names}
 use Rattle.condition_parts.specs.declared.parts.Parse.{Parse}
-use Rattle.condition_parts.specs.declared.parts.Parse.TheVariants as Parse
 use Rattle.condition_parts.specs.Parts.{Readable, Whole, ParseSays, ParseIs}
 use Rattle.condition_parts.proofs.TableRows.{table_length}
 use Rattle.condition_rules.specs.declared.RulesPut.{RulesPut}
@@ -79,11 +77,11 @@ module _ {g : Gathered} {words bytes starts firsts links : List ℕ} (h : Held P
   count_is : count ≡ connectives_in (tokens s)
   count_is = t.is_count
 
-  module _ {r : Found} (f : r ≡ found a names) where
-    pub unknown_line : r ≡ Found.Missing → step_form st (condition (tokens s) a) ≡ fault Undeclared
+  module _ {r : Option ℕ} (f : r ≡ found a names) where
+    pub unknown_line : r ≡ None → step_form st (condition (tokens s) a) ≡ fault Undeclared
     unknown_line e = name_unknown h (tokens s) a t (subst (λ ns. among ns a ≡ false) same (unnamed a names f e))
 
-    module _ {then : ℕ} (e : r ≡ Found.At then) where
+    module _ {then : ℕ} (e : r ≡ Some then) where
       known : among st.names a ≡ true
       known = subst (λ ns. among ns a ≡ true) same (named a names f e).declared
 
@@ -102,14 +100,14 @@ module _ {g : Gathered} {words bytes starts firsts links : List ℕ} (h : Held P
           numbers = omega (arith, count_is, size);
         }
 
-        module _ {before after : List ℕ} (long : length before ≡ 768) {q : Parse} (w : ParseIs names s g.made before after q) where
-          pub faulty_line : q ≡ Parse.Faulty → step_form st (condition (tokens s) a) ≡ fault BrokenCondition
+        module _ {before after : List ℕ} (long : length before ≡ 768) {q : Option Parse} (w : ParseIs names s g.made before after q) where
+          pub faulty_line : q ≡ None → step_form st (condition (tokens s) a) ≡ fault BrokenCondition
           faulty_line i =
               let z : parse (name_number names) (suc g.made) (tokens s) ≡ unparsed = subst (ParseSays names s g.made before after) i w.says in
               no_condition st (tokens s) a h.kind_is t.ruling (ap (λ ns. parse (name_number ns) (suc st.made) (tokens s)) (sym same) ∙ ap (λ (m : ℕ). parse (name_number names) (suc m) (tokens s)) (sym h.made_is) ∙ z)
 
-          module _ {atom j : ℕ} (i : q ≡ Parse.Condition atom j) where
-            whole : Whole names s g.made before after atom j
+          module _ {v : Parse} (i : q ≡ Some v) where
+            whole : Whole names s g.made before after v.atom v.connectives
             whole = subst (ParseSays names s g.made before after) i w.says
 
             abbrev c : Cond
@@ -121,7 +119,7 @@ module _ {g : Gathered} {words bytes starts firsts links : List ℕ} (h : Held P
             made_few : All (λ u. u ≤ g.made + count) (connectives c)
             made_few = subst (All (λ u. u ≤ g.made + count)) (sym whole.numbered) (all_from (λ u. u ≤ g.made + count) (suc g.made) (length (rows c)) (λ u l m. omega (arith, rows_are)))
 
-            pub put_fits : length after ≡ 768 → (3 * count ≤ length after) × (g.counts.atoms + g.made + count ≤ 65536) × (g.words + 16 * count < 2 ^ 61) × (atom < 65536) × (then < 65536)
+            pub put_fits : length after ≡ 768 → (3 * count ≤ length after) × (g.counts.atoms + g.made + count ≤ 65536) × (g.words + 16 * count < 2 ^ 61) × (v.atom < 65536) × (then < 65536)
             put_fits l =
                 let small = held_small h in (
                   omega arith,
@@ -131,7 +129,7 @@ module _ {g : Gathered} {words bytes starts firsts links : List ℕ} (h : Held P
                   omega (arith, size, (named a names f e).below),
                 )
 
-            module _ {z : RulesPut} {words₂ : List ℕ} (p : RulesPutIs (table_rules count (g.counts.atoms + g.made) after ++ (rule (then ∷ []) (atom ∷ []) [] ∷ [])) words g.words words₂ z) where
+            module _ {z : RulesPut} {words₂ : List ℕ} (p : RulesPutIs (table_rules count (g.counts.atoms + g.made) after ++ (rule (then ∷ []) (v.atom ∷ []) [] ∷ [])) words g.words words₂ z) where
               put : RulesPutIs (condition_rules (length names) c then) words g.words words₂ z
               put = condition_written (length names) g.made c whole.known whole.numbered before rows_are (ap (λ (n : ℕ). n + g.made) (sym size)) whole.is_atom whole.written (omega (arith, table_length (length names) (rows c), rows_are)) then p
 
@@ -153,5 +151,5 @@ module _ {g : Gathered} {words bytes starts firsts links : List ℕ} (h : Held P
                     omega (arith, put.is_occurrences, condition_occurrences (length names) c then, few_occurrences (rows c), rows_are),
                   )
 
-              pub added_line : {o : Line} → o ≡ kept_condition g count z.rules z.occurrences z.end → LineIs Preference st (condition (tokens s) a) words₂ bytes starts firsts links o
+              pub added_line : {o : Result Gathered Refusal} → o ≡ kept_condition g count z.rules z.occurrences z.end → LineIs Preference st (condition (tokens s) a) words₂ bytes starts firsts links o
               added_line k = condition_line h (tokens s) a t known parsed_here put_here.is_rules put_here.is_occurrences put_here.written k x

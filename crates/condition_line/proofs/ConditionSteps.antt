@@ -13,6 +13,7 @@ use Rattle.kinds.specs.Limits.{atom_limit, bracket_limit, text_limit, within}
 use Rattle.kinds.specs.declared.limits.Counts.{Counts}
 use Rattle.kinds.specs.declared.limits.Kind.{Kind}
 use Rattle.kinds.specs.declared.limits.Kind.TheVariants.{Preference}
+use Rattle.kinds.specs.declared.refusals.Refusal.{Refusal}
 use Rattle.kinds.specs.declared.refusals.Refusal.TheVariants.{BrokenForm, Name, DeclaredTwice, Undeclared, Limit, BrokenCondition, DeepBrackets}
 use Rattle.rules.specs.Lists.{All, some, sum, flat, from}
 use Rattle.rules.specs.Rules.{Rule, occurrences}
@@ -27,24 +28,19 @@ use Rattle.conditions.specs.Conditions.{Cond}
 use Rattle.conditions.specs.Numbers.{condition_rules}
 use Rattle.lines.specs.Tokens.{Token, tokens}
 use Rattle.lines.specs.Conditions.{names_in, connectives_in, pairs, deeper, parsed, unparsed, parse}
-use Rattle.lines.specs.Forms.{condition, opened_of, form_of}
-use Rattle.lines.specs.declared.scan.Place.{Place}
-use Rattle.lines.specs.declared.scan.Place.TheVariants as Place
+use Rattle.lines.specs.Forms.{LineForm, condition, opened_of, form_of}
 use Rattle.lines.specs.Shapes.{opens_with, OpenedSays, OpenedIs}
 use Rattle.lines.specs.Faults.{SoFar, next, fault, is_ruling, refused_name, first, name_number, with_condition_lem, all_counts, taken, counts_of, add_condition, step_form}
 use Rattle.numbering.specs.Numbers.{undeclared}
 use Rattle.gathering.specs.declared.gathered.Gathered.{Gathered}
-use Rattle.gathering.specs.declared.gathered.Line.{Line}
-use Rattle.gathering.specs.declared.gathered.Line.TheVariants.{Next, Fault}
+use Rattle.std.specs.Prelude.{Option, Some, None, is_some, Result, Ok, Err}
+use Rattle.std.specs.Option.{ok_or}
 use Rattle.gathering.specs.Gathered.{state_of, stored_words, Filled, Held, HeldIndex, LineSays, LineIs, first_line, opens_condition}
 use Rattle.gathering.proofs.HeldState.{atoms_is, rules_is, occurrences_is, held_is, fill_more, within_limits, limits_within, known_names}
 use Rattle.gathering.proofs.RuleSteps.{store_fits}
 use Rattle.condition_form.specs.declared.condition.ConditionPlaces.{ConditionPlaces}
-use Rattle.condition_form.specs.declared.condition.ConditionShape.{ConditionShape}
-use Rattle.condition_form.specs.declared.condition.ConditionShape.TheVariants as Shape
 use Rattle.condition_form.specs.ConditionForms.{between, ConditionAt, ConditionIs}
 use Rattle.condition_scan.specs.declared.scan.Scan.{Scan}
-use Rattle.condition_scan.specs.declared.scan.Scan.TheVariants as Scan
 use Rattle.condition_scan.specs.Scans.{Scanned, ScanSays, ScanIs}
 use Rattle.condition_scan.proofs.FewConnectives.{connectives_few}
 use Rattle.condition_line.specs.ConditionLine.{condition_counts, with_condition, kept_condition, Tested}
@@ -103,22 +99,27 @@ module _ (st : SoFar) (ts : List Token) (a : List ℕ) (preference : st.kind ≡
 
 -- a line that opens as a condition
 
-module _ (l : List ℕ) {q : Place} (o : OpenedIs l 0 when_word q) where
-  pub condition_opened : {kind : Kind} → kind ≡ Preference → {p : ℕ} → q ≡ Place.At p → true ≡ opens_condition kind l
-  unfolding same_bytes
-  condition_opened e {p} f = let k : OpenedSays l 0 when_word (Place.At p) = subst (OpenedSays l 0 when_word) f o.says in sym (ap (λ k. opens_condition k l) e ∙ ap (opens_with when_word) k.1)
+pub opens : (l : List ℕ) (q : Option ℕ) → OpenedIs l 0 when_word q → is_some q ≡ opens_with when_word (opened_of (tokens l))
+unfolding same_bytes
+opens l None o = sym o.says
+opens l (Some p) o = sym (ap (opens_with when_word) o.says.1)
 
-  pub condition_absent : {kind : Kind} → kind ≡ Preference → q ≡ Place.Absent → false ≡ opens_condition kind l
-  condition_absent e f = let k : opens_with when_word (opened_of (tokens l)) ≡ false = subst (OpenedSays l 0 when_word) f o.says in sym (ap (λ k. opens_condition k l) e ∙ k)
+-- where there is none, the line is refused
+pub refused_line_lem : {T : Type 0} {o : Option T} {k e : Refusal} → ◌≡◌ {A = Result T Refusal} (Err e) (ok_or o k) → o ≡ None → {r : Result Gathered Refusal} → ((x : Refusal) × (r ≡ Err x) × (x ≡ e))
+    → {st : SoFar} {f : LineForm} {words bytes starts firsts links : List ℕ} → step_form st f ≡ fault k → LineIs Preference st f words bytes starts firsts links r
+refused_line_lem {T} {o} {k} {e} v n {r} p {st} {f} {words} {bytes} {starts} {firsts} {links} s =
+    let same : ◌≡◌ {A = Result T Refusal} (Err e) (Err k) = v ∙ ap (λ q. ok_or q k) n in
+    let is : e ≡ k = cc in
+    record { says = subst (LineSays Preference st f words bytes starts firsts links) (sym (p.1 ∙ ap Err (p.2 ∙ is))) s }
 
 -- what is kept
 
 module _ (g : Gathered) (more rules places end : ℕ) {fits : Bool} (f : fits ≡ within Preference (condition_counts g.counts (g.counts.atoms + (g.made + more)) rules places)) where
-  pub over_limit : not fits ≡ true → Fault Limit ≡ kept_condition g more rules places end
+  pub over_limit : not fits ≡ true → Err Limit ≡ kept_condition g more rules places end
   unfolding kept_condition
   over_limit d = rw (sym f, d)
 
-  pub within_limit : not fits ≡ false → Next (with_condition g more rules places end) ≡ kept_condition g more rules places end
+  pub within_limit : not fits ≡ false → Ok (with_condition g more rules places end) ≡ kept_condition g more rules places end
   unfolding kept_condition
   within_limit d = rw (sym f, d)
 
@@ -223,12 +224,12 @@ module _ {g : Gathered} {words bytes : List ℕ} (h : Held Preference (state_of 
                   bytes_room = h.bytes_room;
                 }
 
-            pub condition_line : {r : Line} → r ≡ kept_condition g count rules places end → {starts firsts links : List ℕ} → HeldIndex g bytes starts firsts links → LineIs Preference st (condition ts a) words₂ bytes starts firsts links r
+            pub condition_line : {r : Result Gathered Refusal} → r ≡ kept_condition g count rules places end → {starts firsts links : List ℕ} → HeldIndex g bytes starts firsts links → LineIs Preference st (condition ts a) words₂ bytes starts firsts links r
             unfolding kept_condition
             condition_line {r} e {starts} {firsts} {links} x = record { says = subst (LineSays Preference st (condition ts a) words₂ bytes starts firsts links) (sym e) (go (within Preference all) refl step_is) }
               where
                 go : (f : Bool) → within Preference all ≡ f → step_form st (condition ts a) ≡ first (not f) Limit (next after)
-                    → LineSays Preference st (condition ts a) words₂ bytes starts firsts links (first_line (not f) Limit (Next (with_condition g count rules places end)))
+                    → LineSays Preference st (condition ts a) words₂ bytes starts firsts links (first_line (not f) Limit (Ok (with_condition g count rules places end)))
                 go false q z = z
                 go true q z =
                     let held = condition_held q in
@@ -253,31 +254,31 @@ module _ {g : Gathered} {words bytes starts firsts links : List ℕ} (h : Held P
   pub all_allowed : All (λ y. T (allowed Preference y)) names
   all_allowed = subst (All (λ y. T (allowed Preference y))) (sym same) h.names_allowed
 
-  module _ {q : Scan} (w : ScanIs names (tokens s) q) where
-    pub unparsed_line : q ≡ Scan.Unparsed → step_form here (condition (tokens s) a) ≡ fault BrokenCondition
+  module _ {q : Option Scan} (w : ScanIs names (tokens s) q) where
+    pub unparsed_line : q ≡ None → step_form here (condition (tokens s) a) ≡ fault BrokenCondition
     unparsed_line e = no_condition here (tokens s) a h.kind_is is_ruling_lem (subst (ScanSays names (tokens s)) e w.says (name_number here.names) (suc here.made))
 
-    module _ {deep : Bool} {count : ℕ} {missing : Bool} (e : q ≡ Scan.Condition deep count missing) where
-      scanned : Scanned names (tokens s) deep count missing
+    module _ {v : Scan} (e : q ≡ Some v) where
+      scanned : Scanned names (tokens s) v.deep v.connectives v.undeclared
       scanned = subst (ScanSays names (tokens s)) e w.says
 
       parses : (c : Cond) × (parse (name_number here.names) (suc here.made) (tokens s) ≡ parsed c)
       parses = scanned.is_condition (name_number here.names) (suc here.made)
 
-      pub few_here : length s ≤ text_limit → count ≤ text_limit
+      pub few_here : length s ≤ text_limit → v.connectives ≤ text_limit
       few_here l = omega (arith, scanned.is_count, connectives_few s)
 
-      pub deep_line : deep ≡ true → step_form here (condition (tokens s) a) ≡ fault DeepBrackets
+      pub deep_line : v.deep ≡ true → step_form here (condition (tokens s) a) ≡ fault DeepBrackets
       deep_line d = too_deep here (tokens s) a h.kind_is is_ruling_lem parses.1 (sym scanned.is_deep ∙ d)
 
-      module _ (d : deep ≡ false) {refused : Bool} (r : refused ≡ some (refused_name Preference) (names_in (tokens s) ++ (a ∷ []))) where
+      module _ (d : v.deep ≡ false) {refused : Bool} (r : refused ≡ some (refused_name Preference) (names_in (tokens s) ++ (a ∷ []))) where
         shallow : deeper bracket_limit (tokens s) ≡ false
         shallow = sym scanned.is_deep ∙ d
 
         pub refused_line : refused ≡ true → step_form here (condition (tokens s) a) ≡ fault Name
         refused_line n = name_refused here (tokens s) a h.kind_is is_ruling_lem parses.1 shallow (sym r ∙ n)
 
-        module _ (n : refused ≡ false) {is-taken : Bool} (k : is-taken ≡ some (λ t. among names (made_name t)) (from (suc g.made) count)) where
+        module _ (n : refused ≡ false) {is-taken : Bool} (k : is-taken ≡ some (λ t. among names (made_name t)) (from (suc g.made) v.connectives)) where
           taken_is : taken here (connectives_in (tokens s)) ≡ is-taken
           taken_is =
               ap (λ ns. some (λ t. among ns (made_name t)) (from (suc here.made) (connectives_in (tokens s)))) (sym same)
@@ -289,13 +290,13 @@ module _ {g : Gathered} {words bytes starts firsts links : List ℕ} (h : Held P
           taken_line u = made_taken here (tokens s) a h.kind_is is_ruling_lem parses.1 shallow (sym r ∙ n) (taken_is ∙ u)
 
           module _ (u : is-taken ≡ false) where
-            missing_is : undeclared here.names (names_in (tokens s)) ≡ missing
+            missing_is : undeclared here.names (names_in (tokens s)) ≡ v.undeclared
             missing_is = ap (λ ns. undeclared ns (names_in (tokens s))) (sym same) ∙ sym scanned.is_undeclared
 
-            pub undeclared_line : missing ≡ true → step_form here (condition (tokens s) a) ≡ fault Undeclared
+            pub undeclared_line : v.undeclared ≡ true → step_form here (condition (tokens s) a) ≡ fault Undeclared
             undeclared_line m = not_declared here (tokens s) a h.kind_is is_ruling_lem parses.1 shallow (sym r ∙ n) (taken_is ∙ u) (some_front (λ y. not (among here.names y)) (names_in (tokens s)) a (missing_is ∙ m))
 
-            pub tested : missing ≡ false → length s ≤ text_limit → Tested here (tokens s) a count
+            pub tested : v.undeclared ≡ false → length s ≤ text_limit → Tested here (tokens s) a v.connectives
             tested m l = record {
               ruling = is_ruling_lem;
               parses = parses;
@@ -309,11 +310,11 @@ module _ {g : Gathered} {words bytes starts firsts links : List ℕ} (h : Held P
 
 -- its places in the line
 
-module _ (l : List ℕ) {q : ConditionShape} (w : ConditionIs Preference l (form_of l) q) where
-  pub broken_line : (st : SoFar) → q ≡ Shape.Broken → step_form st (form_of l) ≡ fault BrokenForm
+module _ (l : List ℕ) {q : Option ConditionPlaces} (w : ConditionIs Preference l (form_of l) q) where
+  pub broken_line : (st : SoFar) → q ≡ None → step_form st (form_of l) ≡ fault BrokenForm
   broken_line st e = ap (step_form st) (subst (ConditionIs Preference l (form_of l)) e w)
 
-  module _ {p : ConditionPlaces} (e : q ≡ Shape.At p) where
+  module _ {p : ConditionPlaces} (e : q ≡ Some p) where
     at : ConditionAt Preference l (form_of l) p
     at = subst (ConditionIs Preference l (form_of l)) e w
 
@@ -329,5 +330,5 @@ module _ (l : List ℕ) {q : ConditionShape} (w : ConditionIs Preference l (form
     pub condition_places : (length l ≤ text_limit → length spoken ≤ text_limit) × (pairs 0 (tokens spoken) ≡ true) × (p.refused ≡ some (refused_name Preference) (names_in (tokens spoken) ++ (called ∷ [])))
     condition_places = (λ m. omega (arith, length_take_drop (p.to - p.from) p.from l), at.paired, at.is_refused)
 
-    pub line_here : {st : SoFar} {words bytes starts firsts links : List ℕ} {r : Line} → LineIs Preference st (condition (tokens spoken) called) words bytes starts firsts links r → LineIs Preference st (form_of l) words bytes starts firsts links r
+    pub line_here : {st : SoFar} {words bytes starts firsts links : List ℕ} {r : Result Gathered Refusal} → LineIs Preference st (condition (tokens spoken) called) words bytes starts firsts links r → LineIs Preference st (form_of l) words bytes starts firsts links r
     line_here {st} {words} {bytes} {starts} {firsts} {links} {r} = subst (λ f. LineIs Preference st f words bytes starts firsts links r) (sym at.form)

@@ -1,5 +1,5 @@
 -- What a condition's line is tested for, and what it adds to the counts.
-use Rattle.std.specs.Prelude.{ℕ, suc, ◌+◌, ◌≤◌, ◌≡◌, true, false, not, List, [], ◌∷◌, ◌++◌}
+use Rattle.std.specs.Prelude.{ℕ, suc, ◌+◌, ◌≤◌, ◌≡◌, true, false, not, List, [], ◌∷◌, ◌++◌, Result, Ok}
 use Rattle.kinds.specs.Limits.{bracket_limit, text_limit, within}
 use Rattle.rules.specs.Lists.{some}
 use Rattle.conditions.specs.Conditions.{Cond}
@@ -9,10 +9,9 @@ use Rattle.lines.specs.Faults.{SoFar, is_ruling, refused_name, name_number, take
 use Rattle.numbering.specs.Numbers.{undeclared}
 use Rattle.kinds.specs.declared.limits.Counts.{Counts}
 use Rattle.kinds.specs.declared.limits.Kind.TheVariants.{Preference}
+use Rattle.kinds.specs.declared.refusals.Refusal.{Refusal}
 use Rattle.kinds.specs.declared.refusals.Refusal.TheVariants.{Limit}
 use Rattle.gathering.specs.declared.gathered.Gathered.{Gathered}
-use Rattle.gathering.specs.declared.gathered.Line.{Line}
-use Rattle.gathering.specs.declared.gathered.Line.TheVariants.{Next}
 use Rattle.gathering.specs.Gathered.{first_line}
 
 -- so many rules and occurrences more
@@ -31,9 +30,9 @@ with_condition g more rules places end = record {
 }
 
 -- the limits count the atoms that conditions made
-unfoldable pub kept_condition : Gathered → ℕ → ℕ → ℕ → ℕ → Line
+unfoldable pub kept_condition : Gathered → ℕ → ℕ → ℕ → ℕ → Result Gathered Refusal
 kept_condition g more rules places end =
-    first_line (not (within Preference (condition_counts g.counts (g.counts.atoms + (g.made + more)) rules places))) Limit (Next (with_condition g more rules places end))
+    first_line (not (within Preference (condition_counts g.counts (g.counts.atoms + (g.made + more)) rules places))) Limit (Ok (with_condition g more rules places end))
 
 -- a condition's brackets and words ts, and a, behind the tests that come before the atom a is looked up
 pub record Tested (st : SoFar) (ts : List Token) (a : List ℕ) (count : ℕ) : Type 0 where

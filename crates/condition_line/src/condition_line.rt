@@ -9,68 +9,52 @@ ghost use Rattle.lines.specs.Faults.{is_ruling, refused_name};
 ghost use Rattle.gathering.specs.Gathered.{state_of, Held, HeldIndex, LineIs, opens_condition};
 ghost use Rattle.condition_line.specs.ConditionLine.{kept_condition, Tested};
 
-use condition_form::condition::{ConditionShape, condition_at};
-use condition_parts::parts::{Parse, parse_condition};
+use condition_form::condition::condition_at;
+use condition_parts::parts::parse_condition;
 use condition_rules::{RulesPut, put_condition};
-use condition_scan::scan::{Scan, scan_condition};
-use gathering::gathered::{Gathered, Line};
+use condition_scan::scan::scan_condition;
+use gathering::gathered::Gathered;
 use kinds::limits::{Counts, Kind, Preference};
 use kinds::refusals::Refusal;
 use lines::scan;
-use lines::scan::Place;
 use made_names::declared::any_declared;
 use name_store::index;
-use name_store::index::Found;
 
 // Only a preference file has conditions.
 pub fn opens_condition(line: &[u8], kind: Kind) -> bool
     ensures { result ≡ opens_condition kind line.now }
 {
-    match kind {
-        Kind::Plain => false,
-        Kind::Preference => {
-            if let Place::At(_) = scan::opened_at(line, 0, b"when") {
-                return true;
-            }
-            false
-        }
-    }
+    matches!(kind, Kind::Preference) && scan::opened_at(line, 0, b"when").is_some()
 }
 
 // A condition whose rules stand written: the counts with them, or one that passes its limit.
-fn keep_condition(gathered: Gathered, connectives: usize, put: RulesPut) -> Line
+fn keep_condition(
+    gathered: Gathered,
+    connectives: usize,
+    put: RulesPut,
+) -> Result<Gathered, Refusal>
     requires { (connectives < 2 ^ 32) × (gathered.made < 2 ^ 32) × (gathered.counts.atoms < 2 ^ 32) × (gathered.counts.rules < 2 ^ 32) × (gathered.counts.occurrences < 2 ^ 32) × (put.rules < 2 ^ 32) × (put.occurrences < 2 ^ 32) }
     ensures { result ≡ kept_condition gathered connectives put.rules put.occurrences put.end }
 {
     let before = gathered.counts;
-    let atoms = before.atoms;
     let made = gathered.made + connectives;
-    let rules = before.rules + put.rules;
-    let occurrences = before.occurrences + put.occurrences;
-    let all = Counts {
-        atoms: atoms + made,
-        rules,
-        occurrences,
-    };
-    let fits = all.within(Kind::Preference);
-    if !fits {
-        return Line::Fault(Refusal::Limit);
-    }
     let counts = Counts {
-        atoms,
-        rules,
-        occurrences,
+        rules: before.rules + put.rules,
+        occurrences: before.occurrences + put.occurrences,
+        ..before
     };
-    let stage = gathered.stage;
-    let classes = gathered.classes;
-    let bytes = gathered.bytes;
-    Line::Next(Gathered {
-        stage,
-        classes,
+    let all = Counts {
+        atoms: before.atoms + made,
+        ..counts
+    };
+    if !all.within(Kind::Preference) {
+        return Err(Refusal::Limit);
+    }
+    Ok(Gathered {
         counts,
         made,
         words: put.end,
-        bytes,
+        ..gathered
     })
 }
 
@@ -85,26 +69,22 @@ fn add_condition(
     starts: &[u16],
     firsts: &[u16],
     links: &[u16],
-) -> Line
+) -> Result<Gathered, Refusal>
     requires tested { Tested (state_of Kind.Preference gathered words.old bytes.now) (tokens spoken.now) name.now connectives }
     requires held { Held Kind.Preference (state_of Kind.Preference gathered words.old bytes.now) gathered words.old bytes.now }
     requires held_index { HeldIndex gathered bytes.now starts.now firsts.now links.now }
     ensures { LineIs Kind.Preference (state_of Kind.Preference gathered words.old bytes.now) (condition (tokens spoken.now) name.now) words.new bytes.now starts.now firsts.now links.now result }
 {
-    let counts = gathered.counts;
-    let atoms = counts.atoms;
+    let atoms = gathered.counts.atoms;
     let made = gathered.made;
-    let Found::At(then) = index::find(bytes, &starts[..atoms], firsts, links, name) else {
-        return Line::Fault(Refusal::Undeclared);
-    };
+    let then = index::find(bytes, &starts[..atoms], firsts, links, name).ok_or(
+        Refusal::Undeclared,
+    )?;
     if Preference::ATOMS < atoms + made + connectives {
-        return Line::Fault(Refusal::Limit);
+        return Err(Refusal::Limit);
     }
     let mut table = [0u16; 3 * Preference::ATOMS];
-    let Parse::Condition {
-        atom,
-        connectives: _,
-    } = parse_condition(
+    let parse = parse_condition(
         spoken,
         made,
         bytes,
@@ -113,14 +93,12 @@ fn add_condition(
         links,
         &mut table,
     )
-    else {
-        return Line::Fault(Refusal::BrokenCondition);
-    };
+    .ok_or(Refusal::BrokenCondition)?;
     let put = put_condition(
         &table,
         connectives,
         atoms + made,
-        atom,
+        parse.atom,
         then,
         words,
         gathered.words,
@@ -139,34 +117,29 @@ fn test_condition(
     starts: &[u16],
     firsts: &[u16],
     links: &[u16],
-) -> Line
+) -> Result<Gathered, Refusal>
     requires spoken_len_bound { (length spoken.now ≤ text_limit) × (is_ruling gathered.stage ≡ true) × (pairs 0 (tokens spoken.now) ≡ true) × (refused ≡ some (refused_name Kind.Preference) (names_in (tokens spoken.now) ++ (name.now ∷ []))) }
     requires held { Held Kind.Preference (state_of Kind.Preference gathered words.old bytes.now) gathered words.old bytes.now }
     requires held_index { HeldIndex gathered bytes.now starts.now firsts.now links.now }
     ensures { LineIs Kind.Preference (state_of Kind.Preference gathered words.old bytes.now) (condition (tokens spoken.now) name.now) words.new bytes.now starts.now firsts.now links.now result }
 {
-    let counts = gathered.counts;
-    let atoms = counts.atoms;
+    let atoms = gathered.counts.atoms;
     let made = gathered.made;
-    let Scan::Condition {
-        deep,
-        connectives,
-        undeclared,
-    } = scan_condition(spoken, bytes, &starts[..atoms], firsts, links)
-    else {
-        return Line::Fault(Refusal::BrokenCondition);
-    };
-    if deep {
-        return Line::Fault(Refusal::DeepBrackets);
+    let scanned = scan_condition(spoken, bytes, &starts[..atoms], firsts, links).ok_or(
+        Refusal::BrokenCondition,
+    )?;
+    let connectives = scanned.connectives;
+    if scanned.deep {
+        return Err(Refusal::DeepBrackets);
     }
     if refused {
-        return Line::Fault(Refusal::Name);
+        return Err(Refusal::Name);
     }
     if any_declared(made, connectives, bytes, &starts[..atoms], firsts, links) {
-        return Line::Fault(Refusal::DeclaredTwice);
+        return Err(Refusal::DeclaredTwice);
     }
-    if undeclared {
-        return Line::Fault(Refusal::Undeclared);
+    if scanned.undeclared {
+        return Err(Refusal::Undeclared);
     }
     add_condition(
         spoken,
@@ -190,24 +163,17 @@ pub fn read_condition(
     starts: &[u16],
     firsts: &[u16],
     links: &[u16],
-) -> Line
+) -> Result<Gathered, Refusal>
     requires line_len_bound { (length line.now ≤ text_limit) × (is_ruling gathered.stage ≡ true) × (opens_condition Kind.Preference line.now ≡ true) }
     requires held { Held Kind.Preference (state_of Kind.Preference gathered words.old bytes.now) gathered words.old bytes.now }
     requires held_index { HeldIndex gathered bytes.now starts.now firsts.now links.now }
     ensures { LineIs Kind.Preference (state_of Kind.Preference gathered words.old bytes.now) (form_of line.now) words.new bytes.now starts.now firsts.now links.now result }
 {
-    let ConditionShape::At(places) = condition_at(line, Kind::Preference) else {
-        return Line::Fault(Refusal::BrokenForm);
-    };
-    let from = places.from;
-    let to = places.to;
-    let start = places.start;
-    let end = places.end;
-    let refused = places.refused;
+    let places = condition_at(line, Kind::Preference).ok_or(Refusal::BrokenForm)?;
     test_condition(
-        &line[from..to],
-        &line[start..end],
-        refused,
+        &line[places.from..places.to],
+        &line[places.start..places.end],
+        places.refused,
         gathered,
         words,
         bytes,

@@ -15,17 +15,15 @@ use Rattle.conditions.specs.Written as Written
 use Rattle.conditions.specs.Rows.{Row, not_row, and-row, or-row, rows}
 use Rattle.conditions.specs.Numbers.{in_file}
 use Rattle.conditions.specs.Table.{not_kind, and_kind, or_kind, row_words}
-use Rattle.lines.specs.declared.scan.Place.{Place}
-use Rattle.lines.specs.declared.scan.Place.TheVariants as Place
+use Rattle.std.specs.Prelude.{Some, None}
 use Rattle.lines.specs.Tokens.{Token, word, tokens}
 use Rattle.lines.specs.Conditions.{names_in, connectives_in, Pending, bracket, negate, conjoin, disjoin, with_and, with_or, part, after, parse_from}
 use Rattle.lines.specs.Faults.{name_number}
 use Rattle.lines.specs.Shapes.{ClosedSays, ClosedIs}
 use Rattle.numbering.specs.Numbers.{undeclared}
 use Rattle.condition_parts.specs.declared.parts.Part.{Part}
-use Rattle.condition_parts.specs.declared.parts.Part.TheVariants as Part
 use Rattle.condition_parts.specs.Places.{is_leading, OpeningSays, OpeningIs, WordSays, WordIs}
-use Rattle.condition_parts.specs.Parts.{Level, disjunctions, conjunctions, single, Open, Behind, Readable, PartAt, PartSays, PartIs}
+use Rattle.condition_parts.specs.Parts.{Level, disjunctions, conjunctions, single, Open, Behind, Readable, PartAt, PartIs}
 use Rattle.condition_parts.proofs.ConditionLaws.{IsConnective, is_not_lem, is_and, is_or, names_connective, connectives_connective, names_opening, connectives_opening, names_closing, connectives_closing, part_not, part_opening, after_and, after_or, negated, conjoined, disjoined, unbracketed, unclosed}
 use Rattle.condition_parts.proofs.TableRows.{row_put, rows_put}
 
@@ -158,9 +156,9 @@ module _ {names : List (List ℕ)} {s : List ℕ} {made-before : ℕ} where
   -- reading goes on behind an opening bracket, a connective's word, a part
 
   module _ {at next : ℕ} {table : List ℕ} (h : Readable names s at made-before next table) where
-    pub behind_opening : {r : Place} → OpeningIs s at r → {p : ℕ} → r ≡ Place.At p → Readable names s p made-before next table
-    behind_opening o {p} e =
-        let k = subst (OpeningSays s at) e o.says in
+    pub behind_opening : {p : ℕ} → OpeningIs s at (Some p) → Readable names s p made-before next table
+    behind_opening {p} o =
+        let k : OpeningSays s at (Some p) = o.says in
         let a : names_in (tokens (drop at s)) ≡ names_in (tokens (drop p s)) = ap names_in k.1 ∙ names_opening (tokens (drop p s)) in
         let b : connectives_in (tokens (drop at s)) ≡ connectives_in (tokens (drop p s)) = ap connectives_in k.1 ∙ connectives_opening (tokens (drop p s)) in
         record {
@@ -170,9 +168,9 @@ module _ {names : List (List ℕ)} {s : List ℕ} {made-before : ℕ} where
           numbers = omega (arith, h.numbers);
         }
 
-    pub behind_word : {w : List ℕ} → IsConnective w → {r : Place} → WordIs s at w r → {p : ℕ} → r ≡ Place.At p → Readable names s p made-before (next + 1) table
-    behind_word {w} i o {p} e =
-        let k = subst (WordSays s at w) e o.says in
+    pub behind_word : {w : List ℕ} → IsConnective w → {p : ℕ} → WordIs s at w (Some p) → Readable names s p made-before (next + 1) table
+    behind_word {w} i {p} o =
+        let k : WordSays s at w (Some p) = o.says in
         let a : names_in (tokens (drop at s)) ≡ names_in (tokens (drop p s)) = ap names_in k.1 ∙ names_connective i (tokens (drop p s)) in
         let b : connectives_in (tokens (drop at s)) ≡ suc (connectives_in (tokens (drop p s))) = ap connectives_in k.1 ∙ connectives_connective i (tokens (drop p s)) in
         record {
@@ -225,12 +223,12 @@ module _ {names : List (List ℕ)} {s : List ℕ} {made-before : ℕ} where
 
   -- a part, a word, and what stands behind the word
   module _ (j : Joint) {at next : ℕ} {before mid : List ℕ} {place left row : ℕ} (h : PartAt (level j) names s at made-before next before mid place left row)
-      {r : Place} (o : WordIs s place (word_of j) r) {to : ℕ} (e : r ≡ Place.At to) where
+      {to : ℕ} (o : WordIs s place (word_of j) (Some to)) where
     abbrev t : ℕ
     t = suc (made-before + row)
 
-    found : WordSays s place (word_of j) (Place.At to)
-    found = subst (WordSays s place (word_of j)) e o.says
+    found : WordSays s place (word_of j) (Some to)
+    found = o.says
 
     goes_on : (ps : List Pending) → Open (level j) ps
         → parse_from (name_number names) (suc (made-before + next)) ps part (tokens (drop at s)) ≡ parse_from (name_number names) (suc (made-before + (row + 1))) (awaits j h.condition t ∷ ps) part (tokens (drop to s))
@@ -241,11 +239,9 @@ module _ {names : List (List ℕ)} {s : List ℕ} {made-before : ℕ} where
         ∙ word_met (name_number names) t j h.condition ps (tokens (drop to s)) q
         ∙ ap (λ (i : ℕ). parse_from (name_number names) i (awaits j h.condition t ∷ ps) part (tokens (drop to s))) u
 
-    pub right_faulty : {after_table : List ℕ} {right : Part} → PartIs (lower j) names s to made-before (row + 1) mid after_table right → right ≡ Part.Faulty
-        → (last : List ℕ) → PartIs (level j) names s at made-before next before last Part.Faulty
-    right_faulty {after_table} k f last =
-        let faults = subst (PartSays (lower j) names s to made-before (row + 1) mid after_table) f k.says in
-        record { says = λ ps q. goes_on ps q ∙ faults (awaits j h.condition t ∷ ps) (open_awaiting j h.condition t ps) }
+    pub right_faulty : {after_table : List ℕ} → PartIs (lower j) names s to made-before (row + 1) mid after_table None
+        → (last : List ℕ) → PartIs (level j) names s at made-before next before last None
+    right_faulty k last = record { says = λ ps q. goes_on ps q ∙ k.says (awaits j h.condition t ∷ ps) (open_awaiting j h.condition t ps) }
 
     module _ {after_table last : List ℕ} {end right later n : ℕ} (k : PartAt (lower j) names s to made-before (row + 1) mid after_table end right later) (b : Behind (lower j) (tokens (drop end s)))
         (w : last ≡ sets after_table (3 * row) (kind_of j ∷ left ∷ right ∷ [])) (m : n ≡ length names) where
@@ -301,34 +297,29 @@ module _ {names : List (List ℕ)} {s : List ℕ} {made-before : ℕ} where
           }
 
   -- what an answer says
-  module _ {l : Level} {at next : ℕ} {before after_table : List ℕ} {r : Part} (h : PartIs l names s at made-before next before after_table r) {place atom next' : ℕ} (e : r ≡ Part.At place atom next') where
-    said : PartSays l names s at made-before next before after_table (Part.At place atom next')
-    said = subst (PartSays l names s at made-before next before after_table) e h.says
+  module _ {l : Level} {at next : ℕ} {before after_table : List ℕ} {p : Part} (h : PartIs l names s at made-before next before after_table (Some p)) where
+    pub part_read : PartAt l names s at made-before next before after_table p.place p.atom p.next
+    part_read = h.says.0
 
-    pub part_read : PartAt l names s at made-before next before after_table place atom next'
-    part_read = said.0
+    pub part_behind : Behind l (tokens (drop p.place s))
+    part_behind = h.says.1
 
-    pub part_behind : Behind l (tokens (drop place s))
-    part_behind = said.1
+  pub first_faulty : (j : Joint) {at next : ℕ} {before after_table : List ℕ} → PartIs (lower j) names s at made-before next before after_table None
+      → (last : List ℕ) → PartIs (level j) names s at made-before next before last None
+  first_faulty j h last = record { says = λ ps o. h.says ps (open_lower j ps o) }
 
-  pub first_faulty : (j : Joint) {at next : ℕ} {before after_table : List ℕ} {r : Part} → PartIs (lower j) names s at made-before next before after_table r → r ≡ Part.Faulty
-      → (last : List ℕ) → PartIs (level j) names s at made-before next before last Part.Faulty
-  first_faulty j {at} {next} {before} {after_table} h e last =
-      let faults = subst (PartSays (lower j) names s at made-before next before after_table) e h.says in
-      record { says = λ ps o. faults ps (open_lower j ps o) }
-
-  pub no_more : (j : Joint) {at next : ℕ} {before after_table : List ℕ} {place atom next' : ℕ} → PartAt (level j) names s at made-before next before after_table place atom next'
-      → Behind (lower j) (tokens (drop place s)) → {r : Place} → WordIs s place (word_of j) r → r ≡ Place.Absent → PartIs (level j) names s at made-before next before after_table (Part.At place atom next')
-  no_more j {place = place} h b o e = record { says = (h, behind_level j (tokens (drop place s)) b (subst (WordSays s place (word_of j)) e o.says)) }
+  pub no_more : (j : Joint) {at next : ℕ} {before after_table : List ℕ} {p : Part} → PartAt (level j) names s at made-before next before after_table p.place p.atom p.next
+      → Behind (lower j) (tokens (drop p.place s)) → WordIs s p.place (word_of j) None → PartIs (level j) names s at made-before next before after_table (Some p)
+  no_more j {p = p} h b o = record { says = (h, behind_level j (tokens (drop p.place s)) b o.says) }
 
 module _ (names : List (List ℕ)) (s : List ℕ) (made-before at next : ℕ) where
   -- a part behind `not`
-  module _ {r : Place} (o : WordIs s at not_word r) {to : ℕ} (e : r ≡ Place.At to) where
+  module _ {to : ℕ} (o : WordIs s at not_word (Some to)) where
     abbrev u : ℕ
     u = suc (made-before + next)
 
-    not_found : WordSays s at not_word (Place.At to)
-    not_found = subst (WordSays s at not_word) e o.says
+    not_found : WordSays s at not_word (Some to)
+    not_found = o.says
 
     behind_not : (ps : List Pending) → parse_from (name_number names) u ps part (tokens (drop at s)) ≡ parse_from (name_number names) (suc (made-before + (next + 1))) (negate u ∷ ps) part (tokens (drop to s))
     behind_not ps =
@@ -337,11 +328,9 @@ module _ (names : List (List ℕ)) (s : List ℕ) (made-before at next : ℕ) wh
         ∙ part_not (name_number names) u ps (tokens (drop to s))
         ∙ ap (λ (i : ℕ). parse_from (name_number names) i (negate u ∷ ps) part (tokens (drop to s))) v
 
-    pub negated_faulty : {before after_table : List ℕ} {q : Part} → PartIs single names s to made-before (next + 1) before after_table q → q ≡ Part.Faulty
-        → (last : List ℕ) → PartIs single names s at made-before next before last Part.Faulty
-    negated_faulty {before} {after_table} k f last =
-        let faults = subst (PartSays single names s to made-before (next + 1) before after_table) f k.says in
-        record { says = λ ps q. behind_not ps ∙ faults (negate u ∷ ps) tt }
+    pub negated_faulty : {before after_table : List ℕ} → PartIs single names s to made-before (next + 1) before after_table None
+        → (last : List ℕ) → PartIs single names s at made-before next before last None
+    negated_faulty k last = record { says = λ ps q. behind_not ps ∙ k.says (negate u ∷ ps) tt }
 
     module _ {before after_table last : List ℕ} {end atom later n : ℕ} (k : PartAt single names s to made-before (next + 1) before after_table end atom later)
         (w : last ≡ sets after_table (3 * next) (not_kind ∷ atom ∷ 0 ∷ [])) (m : n ≡ length names) where
@@ -369,7 +358,7 @@ module _ (names : List (List ℕ)) (s : List ℕ) (made-before at next : ℕ) wh
       behind_is : connectives_in (tokens (drop at s)) ≡ suc (connectives_in (tokens (drop to s)))
       behind_is = ap connectives_in not_found.1 ∙ connectives_connective is_not_lem (tokens (drop to s))
 
-      pub negated_part : PartIs single names s at made-before next before last (Part.At end (n + made-before + next) later)
+      pub negated_part : PartIs single names s at made-before next before last (Some (record { place = end; atom = n + made-before + next; next = later }))
       negated_part =
           let size : length (rows negation) ≡ suc (length (rows k.condition)) = ap length negation_rows in
           record {
@@ -398,32 +387,29 @@ module _ (names : List (List ℕ)) (s : List ℕ) (made-before at next : ℕ) wh
           }
 
   -- a part in brackets
-  module _ {r : Place} (o : OpeningIs s at r) {inner : ℕ} (e : r ≡ Place.At inner) where
-    opening_found : OpeningSays s at (Place.At inner)
-    opening_found = subst (OpeningSays s at) e o.says
+  module _ {inner : ℕ} (o : OpeningIs s at (Some inner)) where
+    opening_found : OpeningSays s at (Some inner)
+    opening_found = o.says
 
     inside_bracket : (number : ℕ) (ps : List Pending) → parse_from (name_number names) number ps part (tokens (drop at s)) ≡ parse_from (name_number names) number (bracket ∷ ps) part (tokens (drop inner s))
     inside_bracket number ps = ap (parse_from (name_number names) number ps part) opening_found.1 ∙ part_opening (name_number names) number ps (tokens (drop inner s))
 
-    pub inner_faulty : {before after_table : List ℕ} {q : Part} → PartIs disjunctions names s inner made-before next before after_table q → q ≡ Part.Faulty
-        → (last : List ℕ) → PartIs single names s at made-before next before last Part.Faulty
-    inner_faulty {before} {after_table} k f last =
-        let faults = subst (PartSays disjunctions names s inner made-before next before after_table) f k.says in
-        record { says = λ ps q. inside_bracket (suc (made-before + next)) ps ∙ faults (bracket ∷ ps) tt }
+    pub inner_faulty : {before after_table : List ℕ} → PartIs disjunctions names s inner made-before next before after_table None
+        → (last : List ℕ) → PartIs single names s at made-before next before last None
+    inner_faulty k last = record { says = λ ps q. inside_bracket (suc (made-before + next)) ps ∙ k.says (bracket ∷ ps) tt }
 
-    module _ {before after_table : List ℕ} {place atom later : ℕ} (k : PartAt disjunctions names s inner made-before next before after_table place atom later) {q : Place} (c : ClosedIs s place q) where
+    module _ {before after_table : List ℕ} {place atom later : ℕ} (k : PartAt disjunctions names s inner made-before next before after_table place atom later) where
       up_to_closing : (ps : List Pending)
           → parse_from (name_number names) (suc (made-before + next)) ps part (tokens (drop at s)) ≡ parse_from (name_number names) (suc (made-before + later)) (bracket ∷ ps) (after k.condition) (tokens (drop place s))
       up_to_closing ps = inside_bracket (suc (made-before + next)) ps ∙ k.parses (bracket ∷ ps) tt
 
-      pub unclosed_faulty : Behind disjunctions (tokens (drop place s)) → q ≡ Place.Absent → (last : List ℕ) → PartIs single names s at made-before next before last Part.Faulty
-      unclosed_faulty b f last =
-          let open? = subst (ClosedSays s place) f c.says in
-          record { says = λ ps i. up_to_closing ps ∙ unclosed (name_number names) (suc (made-before + later)) k.condition ps (tokens (drop place s)) b.0 b.1 open? }
+      pub unclosed_faulty : Behind disjunctions (tokens (drop place s)) → ClosedIs s place None → (last : List ℕ) → PartIs single names s at made-before next before last None
+      unclosed_faulty b c last =
+          record { says = λ ps i. up_to_closing ps ∙ unclosed (name_number names) (suc (made-before + later)) k.condition ps (tokens (drop place s)) b.0 b.1 c.says }
 
-      pub bracketed_part : {end : ℕ} → q ≡ Place.At end → PartIs single names s at made-before next before after_table (Part.At end atom later)
-      bracketed_part {end} f =
-          let closed = subst (ClosedSays s place) f c.says in
+      pub bracketed_part : {end : ℕ} → ClosedIs s place (Some end) → PartIs single names s at made-before next before after_table (Some (record { place = end; atom = atom; next = later }))
+      bracketed_part {end} c =
+          let closed : ClosedSays s place (Some end) = c.says in
           let in_front_lem : connectives_in (tokens (drop at s)) ≡ connectives_in (tokens (drop inner s)) = ap connectives_in opening_found.1 ∙ connectives_opening (tokens (drop inner s)) in
           let at_end_lem : connectives_in (tokens (drop place s)) ≡ connectives_in (tokens (drop end s)) = ap connectives_in closed.1 ∙ connectives_closing (tokens (drop end s)) in
           record {

@@ -8,47 +8,48 @@ use mathlib.Core.List.{List, [], ◌∷◌}
 use lib.ListN.{length, drop}
 use Rattle.kinds.specs.Words.{not_word, and_word, or_word}
 use Rattle.rules.specs.Lists.{from, is_empty}
-use Rattle.name_store.specs.declared.index.Found.{Found}
-use Rattle.name_store.specs.declared.index.Found.TheVariants as Found
+use Rattle.std.specs.Prelude.{Option, Some, None, is_some}
 use Rattle.name_store.specs.NameStore.{same_bytes, among}
 use Rattle.name_store.specs.NameIndex.{found}
 use Rattle.conditions.specs.Conditions.{name, connectives, names_of}
 use Rattle.conditions.specs.Rows.{rows}
 use Rattle.conditions.specs.Numbers.{in_file}
 use Rattle.lines.specs.declared.scan.Item.{Item}
-use Rattle.lines.specs.declared.scan.Item.TheVariants.{At, Stop}
-use Rattle.lines.specs.declared.scan.Place.{Place}
-use Rattle.lines.specs.declared.scan.Place.TheVariants as Place
+use Rattle.std.specs.Bool.{then_some}
 use Rattle.lines.specs.Tokens.{Token, opening, closing, word, tokens, leading, items}
 use Rattle.lines.specs.Conditions.{called, sort_of, names_in, connectives_in, Pending, unparsed, part, after, parse_from, parse}
 use Rattle.lines.specs.Faults.{name_number}
-use Rattle.lines.specs.Shapes.{item_of}
+use Rattle.lines.specs.Shapes.{spaced, item_of}
 use Rattle.lines.proofs.TokenPlaces.{items_end, item_fits, item_long, item, word_is}
 use Rattle.numbering.specs.Numbers.{undeclared}
 use Rattle.numbering.proofs.NameNumbers.{Named, named, unnamed}
 use Rattle.condition_parts.specs.declared.parts.Part.{Part}
-use Rattle.condition_parts.specs.declared.parts.Part.TheVariants as Part
-use Rattle.condition_parts.specs.declared.parts.Parse.TheVariants as Parse
-use Rattle.condition_parts.specs.Places.{is_opening, is_leading, WordSays, WordIs}
-use Rattle.condition_parts.specs.Parts.{disjunctions, single, Behind, PartAt, PartSays, PartIs, ParseIs}
+use Rattle.condition_parts.specs.Places.{is_opening, is_leading, WordIs}
+use Rattle.condition_parts.specs.Parts.{disjunctions, single, Behind, PartAt, PartIs, ParseIs}
 use Rattle.condition_parts.proofs.ConditionLaws.{called_sort, names_called, connectives_called, part_called, part_nothing, part_closing, part_and, part_or, more_behind, nothing_behind}
 
 module _ (names : List (List ℕ)) (s : List ℕ) (at next : ℕ) where
   -- the answer, whatever was made before and whatever the table holds
-  abbrev Answer : Part → Type 0
+  abbrev Answer : Option Part → Type 0
   Answer r = (made-before : ℕ) (table : List ℕ) → PartIs single names s at made-before next table table r
 
-  faulty : ((t : ℕ) (ps : List Pending) → parse_from (name_number names) t ps part (tokens (drop at s)) ≡ unparsed) → Answer Part.Faulty
+  faulty : ((t : ℕ) (ps : List Pending) → parse_from (name_number names) t ps part (tokens (drop at s)) ≡ unparsed) → Answer None
   faulty f made-before table = record { says = λ ps o. f (suc (made-before + next)) ps }
 
-  pub and_faulty : {r : Place} → WordIs s at and_word r → {p : ℕ} → r ≡ Place.At p → Answer Part.Faulty
-  and_faulty o {p} e = faulty (λ t ps. ap (parse_from (name_number names) t ps part) (subst (WordSays s at and_word) e o.says).1 ∙ part_and (name_number names) t ps (tokens (drop p s)))
+  pub and_faulty : (r : Option ℕ) → WordIs s at and_word r → is_some r ≡ true → Answer None
+  and_faulty None o e = absurd (let z : ◌≡◌ {A = ℕ} 0 1 = cc in omega arith)
+  and_faulty (Some p) o e = faulty (λ t ps. ap (parse_from (name_number names) t ps part) o.says.1 ∙ part_and (name_number names) t ps (tokens (drop p s)))
 
-  pub or_faulty : {r : Place} → WordIs s at or_word r → {p : ℕ} → r ≡ Place.At p → Answer Part.Faulty
-  or_faulty o {p} e = faulty (λ t ps. ap (parse_from (name_number names) t ps part) (subst (WordSays s at or_word) e o.says).1 ∙ part_or (name_number names) t ps (tokens (drop p s)))
+  pub or_faulty : (r : Option ℕ) → WordIs s at or_word r → is_some r ≡ true → Answer None
+  or_faulty None o e = absurd (let z : ◌≡◌ {A = ℕ} 0 1 = cc in omega arith)
+  or_faulty (Some p) o e = faulty (λ t ps. ap (parse_from (name_number names) t ps part) o.says.1 ∙ part_or (name_number names) t ps (tokens (drop p s)))
 
-  module _ {r : Item} (e : r ≡ item_of (drop at s)) where
-    pub none_faulty : is_opening (tokens (drop at s)) ≡ false → r ≡ Stop → Answer Part.Faulty
+  not_there : {w : List ℕ} (r : Option ℕ) → WordIs s at w r → is_some r ≡ false → is_leading w (tokens (drop at s)) ≡ false
+  not_there None o e = o.says
+  not_there (Some p) o e = absurd (let z : ◌≡◌ {A = ℕ} 0 1 = cc in omega arith)
+
+  module _ {r : Option Item} (e : r ≡ item_of (drop at s)) where
+    pub none_faulty : is_opening (tokens (drop at s)) ≡ false → r ≡ None → Answer None
     unfolding items
     none_faulty n d = faulty (λ t ps. go t ps (tokens (drop at s)) n (items_end s at e d))
       where
@@ -58,8 +59,8 @@ module _ (names : List (List ℕ)) (s : List ℕ) (at next : ℕ) where
         go t ps (closing ∷ ts) n l = part_closing (name_number names) t ps ts
         go t ps (word x ∷ ts) n l = absurd (let z : ◌≡◌ {A = ℕ} 0 1 = cc in omega arith)
 
-    module _ {g n : ℕ} (d : r ≡ At g n) (not_not : is_leading not_word (tokens (drop at s)) ≡ false)
-        {p : Place} (a : WordIs s at and_word p) (no_and : p ≡ Place.Absent) {q : Place} (o : WordIs s at or_word q) (no_or : q ≡ Place.Absent) where
+    module _ {g n : ℕ} (d : r ≡ spaced g n) (not_not : is_leading not_word (tokens (drop at s)) ≡ false)
+        (p : Option ℕ) (a : WordIs s at and_word p) (no_and : is_some p ≡ false) (q : Option ℕ) (o : WordIs s at or_word q) (no_or : is_some q ≡ false) where
       abbrev x : List ℕ
       x = item s at e d
 
@@ -73,20 +74,20 @@ module _ (names : List (List ℕ)) (s : List ℕ) (at next : ℕ) where
       other w f = sym (ap (is_leading w) is) ∙ f
 
       is_called : sort_of x ≡ called
-      is_called = called_sort x (other not_word not_not) (other and_word (subst (WordSays s at and_word) no_and a.says)) (other or_word (subst (WordSays s at or_word) no_or o.says))
+      is_called = called_sort x (other not_word not_not) (other and_word (not_there p a no_and)) (other or_word (not_there q o no_or))
 
       names_are : names_in (tokens (drop at s)) ≡ x ∷ names_in later
       names_are = ap names_in is ∙ names_called x later is_called
 
-      module _ {f : Found} (h : f ≡ found x names) where
-        pub unknown_faulty : undeclared names (names_in (tokens (drop at s))) ≡ false → f ≡ Found.Missing → Answer Part.Faulty
+      module _ {f : Option ℕ} (h : f ≡ found x names) where
+        pub unknown_faulty : undeclared names (names_in (tokens (drop at s))) ≡ false → f ≡ None → Answer None
         unknown_faulty u m =
             let missing : among names x ≡ false = unnamed x names h m in
             let known : (not (among names x) || undeclared names (names_in later)) ≡ false = sym (ap (undeclared names) names_are) ∙ u in
             let z : true ≡ false = sym (ap (λ (b : Bool). not b || undeclared names (names_in later)) missing) ∙ known in
             absurd (let y : ◌≡◌ {A = ℕ} 0 1 = cc in omega arith)
 
-        pub name_known : {j : ℕ} → f ≡ Found.At j → Answer (Part.At (at + g + n) j next)
+        pub name_known : {j : ℕ} → f ≡ Some j → Answer (Some (record { place = at + g + n; atom = j; next = next }))
         unfolding rows connectives names_of in_file
         name_known {j} m made-before table =
             let k : Named names x j = named x names h m in
@@ -117,17 +118,17 @@ module _ (names : List (List ℕ)) (s : List ℕ) (made-before : ℕ) where
   unfolding parse
   starts = ap (λ (i : ℕ). parse_from (name_number names) (suc i) [] part (tokens s)) (sym (add-zero made-before))
 
-  pub whole_faulty : {before after_table : List ℕ} {r : Part} → PartIs disjunctions names s 0 made-before 0 before after_table r → r ≡ Part.Faulty → ParseIs names s made-before before after_table Parse.Faulty
-  whole_faulty {before} {after_table} h e = record { says = starts ∙ subst (PartSays disjunctions names s 0 made-before 0 before after_table) e h.says [] tt }
+  pub whole_faulty : {before after_table : List ℕ} → PartIs disjunctions names s 0 made-before 0 before after_table None → ParseIs names s made-before before after_table None
+  whole_faulty h = record { says = starts ∙ h.says [] tt }
 
   module _ {before after_table : List ℕ} {place atom count : ℕ} (h : PartAt disjunctions names s 0 made-before 0 before after_table place atom count) {r : Bool} (e : r ≡ is_empty (tokens (drop place s))) where
     up_to : parse (name_number names) (suc made-before) (tokens s) ≡ parse_from (name_number names) (suc (made-before + count)) [] (after h.condition) (tokens (drop place s))
     up_to = starts ∙ h.parses [] tt
 
-    pub more_faulty : Behind disjunctions (tokens (drop place s)) → r ≡ false → ParseIs names s made-before before after_table Parse.Faulty
+    more_faulty : Behind disjunctions (tokens (drop place s)) → r ≡ false → ParseIs names s made-before before after_table None
     more_faulty b f = record { says = up_to ∙ more_behind (name_number names) (suc (made-before + count)) h.condition (tokens (drop place s)) b.0 b.1 (sym e ∙ f) }
 
-    pub whole_part : r ≡ true → ParseIs names s made-before before after_table (Parse.Condition atom count)
+    whole_part : r ≡ true → ParseIs names s made-before before after_table (Some (record { atom = atom; connectives = count }))
     unfolding connectives_in
     whole_part f =
         let none : tokens (drop place s) ≡ [] = nothing (tokens (drop place s)) (sym e ∙ f) in
@@ -148,3 +149,10 @@ module _ (names : List (List ℕ)) (s : List ℕ) (made-before : ℕ) where
         nothing : (ts : List Token) → is_empty ts ≡ true → ts ≡ []
         nothing [] p = refl
         nothing (t ∷ ts) p = absurd (let z : ◌≡◌ {A = ℕ} 0 1 = cc in omega arith)
+
+    pub whole_read : Behind disjunctions (tokens (drop place s)) → ParseIs names s made-before before after_table (then_some r (record { atom = atom; connectives = count }))
+    whole_read b = go r refl
+      where
+        go : (x : Bool) → r ≡ x → ParseIs names s made-before before after_table (then_some x (record { atom = atom; connectives = count }))
+        go true f = whole_part f
+        go false f = more_faulty b f

@@ -1,5 +1,5 @@
 -- Parts of a condition, as the code reads them: where a part ends, its atom, and its connectives' rows in the table.
-use Rattle.std.specs.Prelude.{ℕ, suc, ◌+◌, ◌*◌, ◌<◌, ◌≤◌, ◌≡◌, false, List, [], ◌∷◌, ◌++◌, length, drop}
+use Rattle.std.specs.Prelude.{ℕ, suc, ◌+◌, ◌*◌, ◌<◌, ◌≤◌, ◌≡◌, false, List, [], ◌∷◌, ◌++◌, length, drop, Option, Some, None}
 use Rattle.std.proofs.lemmas.List.Edits.{sets}
 use Rattle.kinds.specs.Words.{and_word, or_word}
 use Rattle.rules.specs.Lists.{All, flat, from}
@@ -13,9 +13,7 @@ use Rattle.lines.specs.Conditions.{names_in, connectives_in, Pending, bracket, n
 use Rattle.lines.specs.Faults.{name_number}
 use Rattle.numbering.specs.Numbers.{undeclared}
 use Rattle.condition_parts.specs.declared.parts.Part.{Part}
-use Rattle.condition_parts.specs.declared.parts.Part.TheVariants as Part
 use Rattle.condition_parts.specs.declared.parts.Parse.{Parse}
-use Rattle.condition_parts.specs.declared.parts.Parse.TheVariants as Parse
 use Rattle.condition_parts.specs.Places.{is_leading}
 
 -- what is read: parts joined by `or`, by `and`, or one that nothing joins
@@ -66,14 +64,14 @@ pub record PartAt (level : Level) (names : List (List ℕ)) (s : List ℕ) (at m
   pub parses : (ps : List Pending) → Open level ps
       → parse_from (name_number names) (suc (made + next)) ps part (tokens (drop at s)) ≡ parse_from (name_number names) (suc (made + next')) ps (after condition) (tokens (drop place s))
 
-abbrev pub PartSays : Level → List (List ℕ) → List ℕ → ℕ → ℕ → ℕ → List ℕ → List ℕ → Part → Type 0
-PartSays level names s at made next before after_table (Part.At place atom next') =
-    PartAt level names s at made next before after_table place atom next' × Behind level (tokens (drop place s))
-PartSays level names s at made next before after_table Part.Faulty =
+abbrev pub PartSays : Level → List (List ℕ) → List ℕ → ℕ → ℕ → ℕ → List ℕ → List ℕ → Option Part → Type 0
+PartSays level names s at made next before after_table (Some p) =
+    PartAt level names s at made next before after_table p.place p.atom p.next × Behind level (tokens (drop p.place s))
+PartSays level names s at made next before after_table None =
     (ps : List Pending) → Open level ps → parse_from (name_number names) (suc (made + next)) ps part (tokens (drop at s)) ≡ unparsed
 
 -- what the answer of a level says
-pub record PartIs (level : Level) (names : List (List ℕ)) (s : List ℕ) (at made next : ℕ) (before after_table : List ℕ) (r : Part) : Type 0 where
+pub record PartIs (level : Level) (names : List (List ℕ)) (s : List ℕ) (at made next : ℕ) (before after_table : List ℕ) (r : Option Part) : Type 0 where
   pub says : PartSays level names s at made next before after_table r
 
 -- the whole is a condition, and its table stands written
@@ -87,9 +85,9 @@ pub record Whole (names : List (List ℕ)) (s : List ℕ) (made : ℕ) (before a
   pub known : All (λ a. a < length names) (names_of condition)
   pub written : after_table ≡ sets before 0 (flat (row_words (length names)) (rows condition))
 
-abbrev pub ParseSays : List (List ℕ) → List ℕ → ℕ → List ℕ → List ℕ → Parse → Type 0
-ParseSays names s made before after_table (Parse.Condition atom count) = Whole names s made before after_table atom count
-ParseSays names s made before after_table Parse.Faulty = parse (name_number names) (suc made) (tokens s) ≡ unparsed
+abbrev pub ParseSays : List (List ℕ) → List ℕ → ℕ → List ℕ → List ℕ → Option Parse → Type 0
+ParseSays names s made before after_table (Some p) = Whole names s made before after_table p.atom p.connectives
+ParseSays names s made before after_table None = parse (name_number names) (suc made) (tokens s) ≡ unparsed
 
-pub record ParseIs (names : List (List ℕ)) (s : List ℕ) (made : ℕ) (before after_table : List ℕ) (r : Parse) : Type 0 where
+pub record ParseIs (names : List (List ℕ)) (s : List ℕ) (made : ℕ) (before after_table : List ℕ) (r : Option Parse) : Type 0 where
   pub says : ParseSays names s made before after_table r

@@ -14,26 +14,22 @@ use crate::places::{opening_at, word_at};
 use crate::rows;
 use crate::rows::put_row;
 use lines::scan;
-use lines::scan::{Item, Place};
+use lines::scan::Item;
 use name_store::index;
-use name_store::index::Found;
 
-// The place behind a part, its atom, and the row of the connective that comes next. Otherwise there is no condition.
+// The place behind a part, its atom, and the row of the connective that comes next.
 #[derive(Clone, Copy)]
-pub enum Part {
-    At {
-        place: usize,
-        atom: usize,
-        next: usize,
-    },
-    Faulty,
+pub struct Part {
+    pub place: usize,
+    pub atom: usize,
+    pub next: usize,
 }
 
 // The atom of a whole condition, and how many connectives it has.
 #[derive(Clone, Copy)]
-pub enum Parse {
-    Condition { atom: usize, connectives: usize },
-    Faulty,
+pub struct Parse {
+    pub atom: usize,
+    pub connectives: usize,
 }
 
 // The name at `at`, whose number is found through the index.
@@ -45,27 +41,20 @@ fn name_at(
     starts: &[u16],
     firsts: &[u16],
     links: &[u16],
-) -> Part
+) -> Option<Part>
     requires at_in_bounds { (at ≤ length s.now) × (undeclared (decode_names (length starts.now) bytes.now) (names_in (tokens (drop at s.now))) ≡ false) }
     requires s_value { (is_opening (tokens (drop at s.now)) ≡ false) × (is_leading not_word (tokens (drop at s.now)) ≡ false) }
     requires indexed { Indexed (decode_names (length starts.now) bytes.now) bytes.now starts.now firsts.now links.now }
     ensures { (made : ℕ) (table : List ℕ) → PartIs single (decode_names (length starts.now) bytes.now) s.now at made next table table result }
 {
-    let Place::Absent = word_at(s, at, b"and") else {
-        return Part::Faulty;
-    };
-    let Place::Absent = word_at(s, at, b"or") else {
-        return Part::Faulty;
-    };
-    let Item::At { gap, size } = scan::item_at(s, at) else {
-        return Part::Faulty;
-    };
+    if word_at(s, at, b"and").is_some() || word_at(s, at, b"or").is_some() {
+        return None;
+    }
+    let Item { gap, size } = scan::item_at(s, at)?;
     let start = at + gap;
     let place = start + size;
-    let Found::At(atom) = index::find(bytes, starts, firsts, links, &s[start..place]) else {
-        return Part::Faulty;
-    };
-    Part::At { place, atom, next }
+    let atom = index::find(bytes, starts, firsts, links, &s[start..place])?;
+    Some(Part { place, atom, next })
 }
 
 // Parts joined by `or`.
@@ -80,43 +69,31 @@ pub fn or_level(
     firsts: &[u16],
     links: &[u16],
     table: &mut [u16],
-) -> Part
+) -> Option<Part>
     requires readable { Readable (decode_names (length starts.now) bytes.now) s.now at made next table.old }
     requires indexed { Indexed (decode_names (length starts.now) bytes.now) bytes.now starts.now firsts.now links.now }
     ensures { PartIs disjunctions (decode_names (length starts.now) bytes.now) s.now at made next table.old table.new result }
 {
-    let Part::At {
-        place: first,
-        atom: first_atom,
-        next: first_next,
-    } = and_level(s, at, made, next, bytes, starts, firsts, links, table)
-    else {
-        return Part::Faulty;
-    };
-    let mut place = first;
-    let mut atom = first_atom;
-    let mut row = first_next;
-    loop {
-        let Place::At(to) = word_at(s, place, b"or") else {
-            return Part::At {
-                place,
-                atom,
-                next: row,
-            };
+    let mut part = and_level(s, at, made, next, bytes, starts, firsts, links, table)?;
+    while let Some(to) = word_at(s, part.place, b"or") {
+        let right = and_level(
+            s,
+            to,
+            made,
+            part.next + 1,
+            bytes,
+            starts,
+            firsts,
+            links,
+            table,
+        )?;
+        put_row(table, part.next, rows::OR, part.atom, right.atom);
+        part = Part {
+            atom: starts.len() + made + part.next,
+            ..right
         };
-        let Part::At {
-            place: end,
-            atom: right,
-            next: later,
-        } = and_level(s, to, made, row + 1, bytes, starts, firsts, links, table)
-        else {
-            return Part::Faulty;
-        };
-        put_row(table, row, rows::OR, atom, right);
-        atom = starts.len() + made + row;
-        place = end;
-        row = later;
     }
+    Some(part)
 }
 
 // Parts joined by `and`.
@@ -131,43 +108,31 @@ pub fn and_level(
     firsts: &[u16],
     links: &[u16],
     table: &mut [u16],
-) -> Part
+) -> Option<Part>
     requires readable { Readable (decode_names (length starts.now) bytes.now) s.now at made next table.old }
     requires indexed { Indexed (decode_names (length starts.now) bytes.now) bytes.now starts.now firsts.now links.now }
     ensures { PartIs conjunctions (decode_names (length starts.now) bytes.now) s.now at made next table.old table.new result }
 {
-    let Part::At {
-        place: first,
-        atom: first_atom,
-        next: first_next,
-    } = not_level(s, at, made, next, bytes, starts, firsts, links, table)
-    else {
-        return Part::Faulty;
-    };
-    let mut place = first;
-    let mut atom = first_atom;
-    let mut row = first_next;
-    loop {
-        let Place::At(to) = word_at(s, place, b"and") else {
-            return Part::At {
-                place,
-                atom,
-                next: row,
-            };
+    let mut part = not_level(s, at, made, next, bytes, starts, firsts, links, table)?;
+    while let Some(to) = word_at(s, part.place, b"and") {
+        let right = not_level(
+            s,
+            to,
+            made,
+            part.next + 1,
+            bytes,
+            starts,
+            firsts,
+            links,
+            table,
+        )?;
+        put_row(table, part.next, rows::AND, part.atom, right.atom);
+        part = Part {
+            atom: starts.len() + made + part.next,
+            ..right
         };
-        let Part::At {
-            place: end,
-            atom: right,
-            next: later,
-        } = not_level(s, to, made, row + 1, bytes, starts, firsts, links, table)
-        else {
-            return Part::Faulty;
-        };
-        put_row(table, row, rows::AND, atom, right);
-        atom = starts.len() + made + row;
-        place = end;
-        row = later;
     }
+    Some(part)
 }
 
 // A part behind any number of `not`.
@@ -182,28 +147,20 @@ pub fn not_level(
     firsts: &[u16],
     links: &[u16],
     table: &mut [u16],
-) -> Part
+) -> Option<Part>
     requires readable { Readable (decode_names (length starts.now) bytes.now) s.now at made next table.old }
     requires indexed { Indexed (decode_names (length starts.now) bytes.now) bytes.now starts.now firsts.now links.now }
     ensures { PartIs single (decode_names (length starts.now) bytes.now) s.now at made next table.old table.new result }
 {
-    let Place::At(to) = word_at(s, at, b"not") else {
+    let Some(to) = word_at(s, at, b"not") else {
         return bracket(s, at, made, next, bytes, starts, firsts, links, table);
     };
-    let Part::At {
-        place,
-        atom,
-        next: later,
-    } = not_level(s, to, made, next + 1, bytes, starts, firsts, links, table)
-    else {
-        return Part::Faulty;
-    };
-    put_row(table, next, rows::NOT, atom, 0);
-    Part::At {
-        place,
+    let part = not_level(s, to, made, next + 1, bytes, starts, firsts, links, table)?;
+    put_row(table, next, rows::NOT, part.atom, 0);
+    Some(Part {
         atom: starts.len() + made + next,
-        next: later,
-    }
+        ..part
+    })
 }
 
 // A condition in brackets, or a name.
@@ -218,31 +175,18 @@ pub fn bracket(
     firsts: &[u16],
     links: &[u16],
     table: &mut [u16],
-) -> Part
+) -> Option<Part>
     requires readable { Readable (decode_names (length starts.now) bytes.now) s.now at made next table.old }
     requires indexed { Indexed (decode_names (length starts.now) bytes.now) bytes.now starts.now firsts.now links.now }
     requires s_value { is_leading not_word (tokens (drop at s.now)) ≡ false }
     ensures { PartIs single (decode_names (length starts.now) bytes.now) s.now at made next table.old table.new result }
 {
-    let Place::At(inner) = opening_at(s, at) else {
+    let Some(inner) = opening_at(s, at) else {
         return name_at(s, at, next, bytes, starts, firsts, links);
     };
-    let Part::At {
-        place,
-        atom,
-        next: later,
-    } = or_level(s, inner, made, next, bytes, starts, firsts, links, table)
-    else {
-        return Part::Faulty;
-    };
-    let Place::At(end) = scan::closed_at(s, place) else {
-        return Part::Faulty;
-    };
-    Part::At {
-        place: end,
-        atom,
-        next: later,
-    }
+    let part = or_level(s, inner, made, next, bytes, starts, firsts, links, table)?;
+    let place = scan::closed_at(s, part.place)?;
+    Some(Part { place, ..part })
 }
 
 // The whole condition, its connectives numbered on from those that earlier lines made.
@@ -254,21 +198,14 @@ pub fn parse_condition(
     firsts: &[u16],
     links: &[u16],
     table: &mut [u16],
-) -> Parse
+) -> Option<Parse>
     requires readable { Readable (decode_names (length starts.now) bytes.now) s.now 0 made 0 table.old }
     requires indexed { Indexed (decode_names (length starts.now) bytes.now) bytes.now starts.now firsts.now links.now }
     ensures { ParseIs (decode_names (length starts.now) bytes.now) s.now made table.old table.new result }
 {
-    let Part::At { place, atom, next } = or_level(
-        s, 0, made, 0, bytes, starts, firsts, links, table,
-    ) else {
-        return Parse::Faulty;
-    };
-    if scan::nothing_at(s, place) {
-        return Parse::Condition {
-            atom,
-            connectives: next,
-        };
-    }
-    Parse::Faulty
+    let part = or_level(s, 0, made, 0, bytes, starts, firsts, links, table)?;
+    scan::nothing_at(s, part.place).then_some(Parse {
+        atom: part.atom,
+        connectives: part.next,
+    })
 }

@@ -8,6 +8,7 @@ use mathlib.Core.Bool.{Bool, true, false, cond, not, ◌||◌}
 use mathlib.Core.List.{List, [], ◌∷◌}
 use lib.Dec.{ltb}
 use lib.ListN.{length, drop}
+use Rattle.std.specs.Prelude.{Some, None}
 use borrow.Author.Tests.{ltb-true, ltb-false, lt-ltb, le-ltb, not-true, not-false}
 use Rattle.kinds.specs.Limits.{bracket_limit}
 use Rattle.rules.proofs.Booleans.{or-true, or-false}
@@ -16,12 +17,9 @@ use Rattle.lines.specs.Tokens.{Token, opening, closing, word, tokens}
 use Rattle.lines.specs.Conditions.{WordSort, negation, conjunction, disjunction, called, sort_of, by_sort, names_in, connectives_in, pairs, deeper}
 use Rattle.numbering.specs.Numbers.{undeclared}
 use Rattle.condition_scan.specs.declared.scan.Symbol.{Symbol}
-use Rattle.condition_scan.specs.declared.scan.Symbol.TheVariants as Symbol
 use Rattle.condition_scan.specs.declared.scan.Step.{Step}
-use Rattle.condition_scan.specs.declared.scan.Step.TheVariants as Step
 use Rattle.condition_scan.specs.declared.scan.Seen.{Seen}
-use Rattle.condition_scan.specs.declared.scan.Scan.TheVariants as Scan
-use Rattle.condition_scan.specs.Scans.{is_scan, symbol_by, symbol_of, TokenTo, StepSays, StepIs, is_fitting, after_of, Countable, ScanIs}
+use Rattle.condition_scan.specs.Scans.{is_scan, symbol_by, symbol_of, TokenTo, StepIs, is_fitting, after_of, Countable, ScanIs}
 use Rattle.condition_scan.proofs.Turns.{parses, parses_not}
 
 -- one bracket more, past the limit or not
@@ -218,63 +216,63 @@ few_after st Symbol.Joint = (omega arith, omega arith)
 few_after st Symbol.Declared = (omega arith, omega arith)
 few_after st Symbol.Undeclared = (omega arith, omega arith)
 
-module _ {names : List (List ℕ)} {s : List ℕ} {at : ℕ} {st : Seen} (h : Scanning names s at st) {r : Step} (w : StepIs names s at r) where
-  unparsed_there : is_scan true (tokens s) ≡ false → ScanIs names (tokens s) Scan.Unparsed
+module _ {names : List (List ℕ)} {s : List ℕ} {at : ℕ} {st : Seen} (h : Scanning names s at st) where
+  unparsed_there : is_scan true (tokens s) ≡ false → ScanIs names (tokens s) None
   unparsed_there e = record { says = λ numbers t. parses_not numbers t (tokens s) h.all_paired e }
 
-  module _ {to : ℕ} {y : Symbol} (e : r ≡ Step.To to y) where
-    token_to : TokenTo names s at to y
-    token_to = subst (StepSays names s at) e w.says
+  module _ {t : Step} (w : StepIs names s at (Some t)) where
+    token_to : TokenTo names s at t.to t.symbol
+    token_to = w.says
 
-    pub to_inside : to ≤ length s
+    pub to_inside : t.to ≤ length s
     to_inside = token_to.inside
 
-    pub to_onward : at < to
+    pub to_onward : at < t.to
     to_onward = token_to.onward
 
-    left : Passing names (tokens s) (token_to.token ∷ tokens (drop to s)) st
+    left : Passing names (tokens s) (token_to.token ∷ tokens (drop t.to s)) st
     left = subst (λ us. Passing names (tokens s) us st) token_to.is h.passing
 
-    pub countable : length s < 2 ^ 64 → Countable st y
+    pub countable : length s < 2 ^ 64 → Countable st t.symbol
     countable l =
         record {
-          opened = λ f. closes_open names token_to.token (tokens (drop to s)) st.depth (sym token_to.is_symbol ∙ f) left.paired;
+          opened = λ f. closes_open names token_to.token (tokens (drop t.to s)) st.depth (sym token_to.is_symbol ∙ f) left.paired;
           few_open = omega (arith, h.few_open, to_onward, to_inside);
           few = omega (arith, h.few, to_onward, to_inside);
         }
 
-    module _ {b : Bool} (f : b ≡ is_fitting y st.part) where
+    module _ {b : Bool} (f : b ≡ is_fitting t.symbol st.part) where
       fitting : b ≡ is_fitting (symbol_of names token_to.token) st.part
       fitting = f ∙ ap (λ z. is_fitting z st.part) token_to.is_symbol
 
-      pub misplaced : not b ≡ true → ScanIs names (tokens s) Scan.Unparsed
-      misplaced d = unparsed_there (sym left.scans ∙ misfit names token_to.token (tokens (drop to s)) st.part (sym fitting ∙ not-true b d))
+      pub misplaced : not b ≡ true → ScanIs names (tokens s) None
+      misplaced d = unparsed_there (sym left.scans ∙ misfit names token_to.token (tokens (drop t.to s)) st.part (sym fitting ∙ not-true b d))
 
-      pub scan_again : not b ≡ false → {st' : Seen} → st' ≡ after_of st y → Scanning names s to st'
-      scan_again d {st'} k = subst (Scanning names s to) (sym k) goes_on
+      pub scan_again : not b ≡ false → {st' : Seen} → st' ≡ after_of st t.symbol → Scanning names s t.to st'
+      scan_again d {st'} k = subst (Scanning names s t.to) (sym k) goes_on
         where
-          goes_on : Scanning names s to (after_of st y)
+          goes_on : Scanning names s t.to (after_of st t.symbol)
           goes_on =
               record {
                 inside = to_inside;
-                few_open = omega (arith, (few_after st y).0, h.few_open, to_onward);
-                few = omega (arith, (few_after st y).1, h.few, to_onward);
+                few_open = omega (arith, (few_after st t.symbol).0, h.few_open, to_onward);
+                few = omega (arith, (few_after st t.symbol).1, h.few, to_onward);
                 all_paired = h.all_paired;
-                passing = subst (λ z. Passing names (tokens s) (tokens (drop to s)) (after_of st z)) (sym token_to.is_symbol) (pass token_to.token left (sym fitting ∙ not-false b d));
+                passing = subst (λ z. Passing names (tokens s) (tokens (drop t.to s)) (after_of st z)) (sym token_to.is_symbol) (pass token_to.token left (sym fitting ∙ not-false b d));
               }
 
-  module _ (e : r ≡ Step.End) where
+  module _ (w : StepIs names s at None) where
     none_left : tokens (drop at s) ≡ []
-    none_left = subst (StepSays names s at) e w.says
+    none_left = w.says
 
     ended : Passing names (tokens s) [] st
     ended = subst (λ us. Passing names (tokens s) us st) none_left h.passing
 
-    pub part_missing : st.part ≡ true → ScanIs names (tokens s) Scan.Unparsed
+    pub part_missing : st.part ≡ true → ScanIs names (tokens s) None
     unfolding is_scan
     part_missing f = unparsed_there (sym ended.scans ∙ ap (λ (b : Bool). is_scan b []) f)
 
-    pub scan_ends : st.part ≡ false → ScanIs names (tokens s) (Scan.Condition st.deep st.connectives st.undeclared)
+    pub scan_ends : st.part ≡ false → ScanIs names (tokens s) (Some (record { deep = st.deep; connectives = st.connectives; undeclared = st.undeclared }))
     unfolding is_scan deeper connectives_in names_in
     scan_ends f =
         let all : is_scan true (tokens s) ≡ true = sym ended.scans ∙ ap (λ (b : Bool). is_scan b []) f in

@@ -1,5 +1,5 @@
 -- With brackets that pair, whether tokens are a condition is told by whether a part or a connective must come next (document 02, W-208).
-use Rattle.std.specs.Prelude.{ℕ, ◌+◌, ◌-◌, ◌^◌, ◌≤◌, ◌<◌, ◌≡◌, Bool, true, false, cond, not, List, [], ◌∷◌, ltb, length, drop}
+use Rattle.std.specs.Prelude.{ℕ, ◌+◌, ◌-◌, ◌^◌, ◌≤◌, ◌<◌, ◌≡◌, Bool, true, false, cond, not, List, [], ◌∷◌, ltb, length, drop, Option, Some, None}
 use Rattle.kinds.specs.Limits.{bracket_limit}
 use Rattle.name_store.specs.NameStore.{among}
 use Rattle.conditions.specs.Conditions.{Cond}
@@ -7,12 +7,9 @@ use Rattle.lines.specs.Tokens.{Token, opening, closing, word, tokens}
 use Rattle.lines.specs.Conditions.{WordSort, sort_of, by_sort, names_in, connectives_in, deeper, parsed, unparsed, parse}
 use Rattle.numbering.specs.Numbers.{undeclared}
 use Rattle.condition_scan.specs.declared.scan.Symbol.{Symbol}
-use Rattle.condition_scan.specs.declared.scan.Symbol.TheVariants as Symbol
 use Rattle.condition_scan.specs.declared.scan.Step.{Step}
-use Rattle.condition_scan.specs.declared.scan.Step.TheVariants as Step
 use Rattle.condition_scan.specs.declared.scan.Seen.{Seen}
 use Rattle.condition_scan.specs.declared.scan.Scan.{Scan}
-use Rattle.condition_scan.specs.declared.scan.Scan.TheVariants as Scan
 
 -- parts and connectives take turns: true while a part must come next
 unfoldable pub is_scan : Bool → List Token → Bool
@@ -45,11 +42,11 @@ pub record TokenTo (names : List (List ℕ)) (s : List ℕ) (at to : ℕ) (symbo
   pub is : tokens (drop at s) ≡ token ∷ tokens (drop to s)
   pub is_symbol : symbol ≡ symbol_of names token
 
-abbrev pub StepSays : List (List ℕ) → List ℕ → ℕ → Step → Type 0
-StepSays names s at (Step.To to symbol) = TokenTo names s at to symbol
-StepSays names s at Step.End = tokens (drop at s) ≡ []
+abbrev pub StepSays : List (List ℕ) → List ℕ → ℕ → Option Step → Type 0
+StepSays names s at (Some t) = TokenTo names s at t.to t.symbol
+StepSays names s at None = tokens (drop at s) ≡ []
 
-pub record StepIs (names : List (List ℕ)) (s : List ℕ) (at : ℕ) (r : Step) : Type 0 where
+pub record StepIs (names : List (List ℕ)) (s : List ℕ) (at : ℕ) (r : Option Step) : Type 0 where
   pub says : StepSays names s at r
 
 abbrev pub is_fitting : Symbol → Bool → Bool
@@ -81,9 +78,9 @@ pub record Scanned (names : List (List ℕ)) (ts : List Token) (deep : Bool) (co
   pub is_count : connectives ≡ connectives_in ts
   pub is_undeclared : missing ≡ undeclared names (names_in ts)
 
-abbrev pub ScanSays : List (List ℕ) → List Token → Scan → Type 0
-ScanSays names ts Scan.Unparsed = (numbers : List ℕ → ℕ) (t : ℕ) → parse numbers t ts ≡ unparsed
-ScanSays names ts (Scan.Condition deep connectives missing) = Scanned names ts deep connectives missing
+abbrev pub ScanSays : List (List ℕ) → List Token → Option Scan → Type 0
+ScanSays names ts None = (numbers : List ℕ → ℕ) (t : ℕ) → parse numbers t ts ≡ unparsed
+ScanSays names ts (Some c) = Scanned names ts c.deep c.connectives c.undeclared
 
-pub record ScanIs (names : List (List ℕ)) (ts : List Token) (r : Scan) : Type 0 where
+pub record ScanIs (names : List (List ℕ)) (ts : List Token) (r : Option Scan) : Type 0 where
   pub says : ScanSays names ts r

@@ -1,7 +1,6 @@
 -- What a word is in a condition.
 use Rattle.lines.specs.Conditions.{WordSort, negation, conjunction, disjunction, called}
 use Rattle.condition_scan.specs.declared.sorts.Sort.{Sort}
-use Rattle.condition_scan.specs.declared.sorts.Sort.TheVariants as Sort
 
 abbrev pub word_sort : Sort → WordSort
 word_sort Sort.Not = negation

@@ -10,7 +10,6 @@ use crate::sorts::{Sort, sort_of};
 use kinds::limits::Preference;
 use lines::scan::{Bracket, bracket_at};
 use name_store::index;
-use name_store::index::Found;
 use numbering::hashed_items::{HashedItem, hashed_item_at};
 
 // A token as the scan tells it from others: `and` and `or` are joints.
@@ -24,10 +23,11 @@ enum Symbol {
     Undeclared,
 }
 
+// The token at a place, up to another.
 #[derive(Clone, Copy)]
-enum Step {
-    To { to: usize, symbol: Symbol },
-    End,
+struct Step {
+    to: usize,
+    symbol: Symbol,
 }
 
 // Whether a part must come next; the open brackets, and whether they were ever too many; the connectives; whether a name was undeclared.
@@ -40,14 +40,12 @@ struct Seen {
     undeclared: bool,
 }
 
+// Of a condition: whether its brackets are too many, its connectives, and whether a name is undeclared.
 #[derive(Clone, Copy)]
-pub enum Scan {
-    Unparsed,
-    Condition {
-        deep: bool,
-        connectives: usize,
-        undeclared: bool,
-    },
+pub struct Scan {
+    pub deep: bool,
+    pub connectives: usize,
+    pub undeclared: bool,
 }
 
 // A word with its hash.
@@ -65,51 +63,50 @@ fn word_symbol(
 {
     match sort_of(word) {
         Sort::Not => Symbol::Negation,
-        Sort::And => Symbol::Joint,
-        Sort::Or => Symbol::Joint,
+        Sort::And | Sort::Or => Symbol::Joint,
         Sort::Name => match index::find_hashed(bytes, starts, firsts, links, word, hash) {
-            Found::At(_) => Symbol::Declared,
-            Found::Missing => Symbol::Undeclared,
+            Some(_) => Symbol::Declared,
+            None => Symbol::Undeclared,
         },
     }
 }
 
-fn step_at(s: &[u8], at: usize, bytes: &[u8], starts: &[u16], firsts: &[u16], links: &[u16]) -> Step
+fn step_at(
+    s: &[u8],
+    at: usize,
+    bytes: &[u8],
+    starts: &[u16],
+    firsts: &[u16],
+    links: &[u16],
+) -> Option<Step>
     requires at_in_bounds { at ≤ length s.now }
     requires indexed { Indexed (decode_names (length starts.now) bytes.now) bytes.now starts.now firsts.now links.now }
     ensures { StepIs (decode_names (length starts.now) bytes.now) s.now at result }
 {
-    let HashedItem::At { gap, size, hash } = hashed_item_at(s, at) else {
+    let Some(HashedItem { gap, size, hash }) = hashed_item_at(s, at) else {
         return match bracket_at(s, at) {
-            Bracket::Opening(place) => Step::To {
+            Bracket::Opening(place) => Some(Step {
                 to: place + 1,
                 symbol: Symbol::Opening,
-            },
-            Bracket::Closing(place) => Step::To {
+            }),
+            Bracket::Closing(place) => Some(Step {
                 to: place + 1,
                 symbol: Symbol::Closing,
-            },
-            Bracket::Absent => Step::End,
+            }),
+            Bracket::Absent => None,
         };
     };
     let start = at + gap;
     let to = start + size;
     let symbol = word_symbol(&s[start..to], hash, bytes, starts, firsts, links);
-    Step::To { to, symbol }
+    Some(Step { to, symbol })
 }
 
 // Whether the symbol may come next.
 fn fits(symbol: Symbol, part: bool) -> bool
     ensures { result ≡ is_fitting symbol part }
 {
-    match symbol {
-        Symbol::Opening => part,
-        Symbol::Closing => !part,
-        Symbol::Negation => part,
-        Symbol::Joint => !part,
-        Symbol::Declared => part,
-        Symbol::Undeclared => part,
-    }
+    part != matches!(symbol, Symbol::Closing | Symbol::Joint)
 }
 
 fn after(seen: Seen, symbol: Symbol) -> Seen
@@ -150,7 +147,13 @@ fn after(seen: Seen, symbol: Symbol) -> Seen
     }
 }
 
-pub fn scan_condition(s: &[u8], bytes: &[u8], starts: &[u16], firsts: &[u16], links: &[u16]) -> Scan
+pub fn scan_condition(
+    s: &[u8],
+    bytes: &[u8],
+    starts: &[u16],
+    firsts: &[u16],
+    links: &[u16],
+) -> Option<Scan>
     requires s_value { pairs 0 (tokens s.now) ≡ true }
     requires indexed { Indexed (decode_names (length starts.now) bytes.now) bytes.now starts.now firsts.now links.now }
     ensures { ScanIs (decode_names (length starts.now) bytes.now) (tokens s.now) result }
@@ -163,21 +166,19 @@ pub fn scan_condition(s: &[u8], bytes: &[u8], starts: &[u16], firsts: &[u16], li
         connectives: 0,
         undeclared: false,
     };
-    loop {
-        let Step::To { to, symbol } = step_at(s, at, bytes, starts, firsts, links) else {
-            if seen.part {
-                return Scan::Unparsed;
-            }
-            return Scan::Condition {
-                deep: seen.deep,
-                connectives: seen.connectives,
-                undeclared: seen.undeclared,
-            };
-        };
-        if !fits(symbol, seen.part) {
-            return Scan::Unparsed;
+    while let Some(step) = step_at(s, at, bytes, starts, firsts, links) {
+        if !fits(step.symbol, seen.part) {
+            return None;
         }
-        seen = after(seen, symbol);
-        at = to;
+        seen = after(seen, step.symbol);
+        at = step.to;
     }
+    if seen.part {
+        return None;
+    }
+    Some(Scan {
+        deep: seen.deep,
+        connectives: seen.connectives,
+        undeclared: seen.undeclared,
+    })
 }

@@ -16,8 +16,7 @@ use Rattle.names.specs.Names.{made_name, takes, allowed}
 use Rattle.names.proofs.MadeNames.{made_past}
 use Rattle.name_store.specs.NameStore.{same_bytes, among}
 use Rattle.name_store.specs.NameIndex.{found}
-use Rattle.name_store.specs.declared.index.Found.{Found}
-use Rattle.name_store.specs.declared.index.Found.TheVariants.{At, Missing}
+use Rattle.std.specs.Prelude.{Option, Some, None, is_some}
 use Rattle.name_store.proofs.NameStores.{same_equal, not_seen}
 use Rattle.name_store.proofs.NameChains.{missing_differs, found_among}
 use Rattle.output.specs.Emitted.{Emitted}
@@ -30,15 +29,22 @@ module _ (t : ℕ) {d after : List ℕ} {size : ℕ} (e : Emitted d 0 (made_name
   pub name_inside : size ≤ length after
   name_inside = front_inside e (omega (arith, name_short t))
 
-  module _ (names : List (List ℕ)) {r : Found} (is : r ≡ found (take size after) names) where
+  module _ (names : List (List ℕ)) {r : Option ℕ} (is : r ≡ found (take size after) names) where
     looked_up : r ≡ found (made_name t) names
     looked_up = is ∙ ap (λ x. found x names) (front_is e (omega (arith, name_short t)))
 
-    pub declared : {j : ℕ} → r ≡ At j → true ≡ among names (made_name t)
+    declared : {j : ℕ} → r ≡ Some j → true ≡ among names (made_name t)
     declared f = sym (is_true_lem (among names (made_name t)) (found_among (made_name t) 0 names (sym looked_up ∙ f)))
 
-    pub undeclared : r ≡ Missing → false ≡ among names (made_name t)
+    undeclared : r ≡ None → false ≡ among names (made_name t)
     undeclared f = sym (is_false (among names (made_name t)) (T-not-out (among names (made_name t)) ((not_seen (made_name t) names).1 (missing_differs (made_name t) 0 names (sym looked_up ∙ f)))))
+
+    pub looked : is_some r ≡ among names (made_name t)
+    looked = go r refl
+      where
+        go : (o : Option ℕ) → r ≡ o → is_some o ≡ among names (made_name t)
+        go (Some j) f = declared f
+        go None f = undeclared f
 
 -- the numbers after those made
 

@@ -8,7 +8,7 @@ ghost use Rattle.name_store.specs.NameIndex.{Indexed};
 
 use crate::writing::emit_made;
 use kinds::limits::{Kind, Preference};
-use name_store::index::{Found, find};
+use name_store::index::find;
 
 // `T.` and the digits of the largest number.
 const LONGEST: usize = 22;
@@ -19,10 +19,7 @@ fn is_declared(number: usize, bytes: &[u8], starts: &[u16], firsts: &[u16], link
 {
     let mut name = [0u8; LONGEST];
     let size = emit_made(number, &mut name, 0);
-    let Found::Missing = find(bytes, starts, firsts, links, &name[..size]) else {
-        return true;
-    };
-    false
+    find(bytes, starts, firsts, links, &name[..size]).is_some()
 }
 
 // The last number that a name of so many made atoms can have: no greater number is in any name.
@@ -30,11 +27,7 @@ fn last_named(made: usize, count: usize) -> usize
     requires { (made ≤ atom_limit Kind.Preference) × (count < 2 ^ 32) }
     ensures { result ≡ min (made + count) (atom_limit Kind.Preference) }
 {
-    let last = made + count;
-    if last < Preference::ATOMS {
-        return last;
-    }
-    Preference::ATOMS
+    (made + count).min(Preference::ATOMS)
 }
 
 // Whether one of the next `count` names is declared, where `made` atoms have theirs.

@@ -46,9 +46,6 @@ put_row-put-requires c = omega (arith, c.loop-i.invariant.short, c.requires.2)
 pub overflow_add-rules : goal.overflow_add-rules
 overflow_add-rules c = omega (arith, (rows_fit c.loop-i.invariant c.loop-i-test.true c.put_row-put.ensures).0, c.loop-i.invariant.few_rules, c.requires.2)
 
-pub overflow_add-i : goal.overflow_add-i
-overflow_add-i c = omega (arith, c.requires.2)
-
 pub loop-i-smaller : goal.loop-i-smaller
 loop-i-smaller c = omega (arith, c.loop-i-test.true)
 

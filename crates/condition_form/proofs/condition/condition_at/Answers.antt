@@ -14,20 +14,20 @@ returns-then-not-is_ended c = unended_broken c.args.line.now c.is_ended.ensures 
 pub opened_at-requires : goal.opened_at-requires
 opened_at-requires c = (zero-le, whole_when)
 
-pub returns-in_default : goal.returns-in_default
-returns-in_default c = not_opened c.args.line.now c.opened_at.ensures c.in_default.is c.requires
+pub returns-in_err-from : goal.returns-in_err-from
+returns-in_err-from c = not_opened c.args.line.now c.opened_at.ensures c.in_err-from.was c.requires
 
 pub form_from-requires : goal.form_from-requires
-form_from-requires c = opened_inside when_word c.args.line.now 0 c.opened_at.ensures c.in-At.is
+form_from-requires c = opened_inside when_word c.args.line.now 0 c.opened_at.ensures c.in_ok-from.was
 
-pub returns-in_default-form_from : goal.returns-in_default-form_from
-returns-in_default-form_from c = no_form_there (of_when c.args.line.now c.is_ended.ensures (ap not c.if-not-is_ended.false) c.opened_at.ensures c.in-At.is) c.form_from.ensures c.in_default-form_from.is
+pub returns-in_err-walk : goal.returns-in_err-walk
+returns-in_err-walk c = rw c.from_residual-in_err-walk.ensures (no_form_there (of_when c.args.line.now c.is_ended.ensures (ap not c.if-not-is_ended.false) c.opened_at.ensures c.in_ok-from.was) c.in_err-walk.ensures)
 
 pub then_at-requires : goal.then_at-requires
-then_at-requires c = last_inside (of_when c.args.line.now c.is_ended.ensures (ap not c.if-not-is_ended.false) c.opened_at.ensures c.in-At.is) c.form_from.ensures c.in-Form.is
+then_at-requires c = last_inside (of_when c.args.line.now c.is_ended.ensures (ap not c.if-not-is_ended.false) c.opened_at.ensures c.in_ok-from.was) c.in_ok-walk.ensures
 
-pub returns-in_default-then_at : goal.returns-in_default-then_at
-returns-in_default-then_at c = no_then_there (of_when c.args.line.now c.is_ended.ensures (ap not c.if-not-is_ended.false) c.opened_at.ensures c.in-At.is) c.form_from.ensures c.in-Form.is c.then_at.ensures c.in_default-then_at.is
+pub returns-in_err-then : goal.returns-in_err-then
+returns-in_err-then c = rw c.from_residual-in_err-then.ensures (no_then_there (of_when c.args.line.now c.is_ended.ensures (ap not c.if-not-is_ended.false) c.opened_at.ensures c.in_ok-from.was) c.in_ok-walk.ensures c.in_err-then.ensures)
 
 pub returns : goal.returns
-returns c = condition_there (of_when c.args.line.now c.is_ended.ensures (ap not c.if-not-is_ended.false) c.opened_at.ensures c.in-At.is) c.form_from.ensures c.in-Form.is c.then_at.ensures c.in-At-then_at.is
+returns c = condition_there (of_when c.args.line.now c.is_ended.ensures (ap not c.if-not-is_ended.false) c.opened_at.ensures c.in_ok-from.was) c.in_ok-walk.ensures c.in_ok-then.ensures

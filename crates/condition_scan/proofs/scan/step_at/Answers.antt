@@ -21,20 +21,20 @@ pub returns-in-Absent : goal.returns-in-Absent
 returns-in-Absent c = end_step (decode_names (length c.args.starts.now) c.args.bytes.now) c.args.s.now c.args.at c.hashed_item_at.ensures c.in_default.is c.bracket_at.ensures c.in-Absent.is
 
 pub overflow_add-start : goal.overflow_add-start
-overflow_add-start c = omega (arith, step_inside (decode_names (length c.args.starts.now) c.args.bytes.now) c.args.s.now c.args.at c.hashed_item_at.ensures c.in-At.is)
+overflow_add-start c = omega (arith, step_inside (decode_names (length c.args.starts.now) c.args.bytes.now) c.args.s.now c.args.at c.hashed_item_at.ensures c.in-Some.is)
 
 pub overflow_add-to : goal.overflow_add-to
-overflow_add-to c = omega (arith, step_inside (decode_names (length c.args.starts.now) c.args.bytes.now) c.args.s.now c.args.at c.hashed_item_at.ensures c.in-At.is)
+overflow_add-to c = omega (arith, step_inside (decode_names (length c.args.starts.now) c.args.bytes.now) c.args.s.now c.args.at c.hashed_item_at.ensures c.in-Some.is)
 
 pub slice_bounds-word_symbol-end : goal.slice_bounds-word_symbol-end
-slice_bounds-word_symbol-end c = omega (arith, step_inside (decode_names (length c.args.starts.now) c.args.bytes.now) c.args.s.now c.args.at c.hashed_item_at.ensures c.in-At.is)
+slice_bounds-word_symbol-end c = omega (arith, step_inside (decode_names (length c.args.starts.now) c.args.bytes.now) c.args.s.now c.args.at c.hashed_item_at.ensures c.in-Some.is)
 
 pub word_symbol-symbol-requires : goal.word_symbol-symbol-requires
 word_symbol-symbol-requires c =
     record {
       indexed = c.requires.indexed;
-      hash_value = hashed_name c.args.s.now c.args.at c.hashed_item_at.ensures c.in-At.is;
+      hash_value = hashed_name c.args.s.now c.args.at c.hashed_item_at.ensures c.in-Some.is;
     }
 
 pub returns : goal.returns
-returns c = word_step (decode_names (length c.args.starts.now) c.args.bytes.now) c.args.s.now c.args.at c.hashed_item_at.ensures c.in-At.is c.word_symbol-symbol.ensures
+returns c = word_step (decode_names (length c.args.starts.now) c.args.bytes.now) c.args.s.now c.args.at c.hashed_item_at.ensures c.in-Some.is c.word_symbol-symbol.ensures

@@ -9,9 +9,6 @@ use Rattle.made_names.proofs.declared.any_declared.Goals as goal
 pub last_named-last-requires : goal.last_named-last-requires
 last_named-last-requires c = c.requires.made_bound
 
-pub overflow_add-number : goal.overflow_add-number
-overflow_add-number c = omega (arith, c.requires.made_bound)
-
 pub loop-number-init : goal.loop-number-init
 loop-number-init c = (omega (arith, c.last_named-last.ensures), look_first c.last_named-last.ensures c.requires.made_bound.0 (past_limit (decode_names (length c.args.starts.now) c.args.bytes.now) c.requires.all c.requires.made_bound.0 c.requires.made_bound.1))
 
@@ -20,9 +17,6 @@ is_declared-requires c = c.requires.indexed
 
 pub returns-then-is_declared : goal.returns-then-is_declared
 returns-then-is_declared c = one_found c.loop-number.invariant.1 (omega arith) (sym c.is_declared.ensures ∙ c.if-is_declared.true)
-
-pub overflow_add-number-in-loop-number : goal.overflow_add-number-in-loop-number
-overflow_add-number-in-loop-number c = omega (arith, c.loop-number.invariant.0)
 
 pub loop-number-smaller : goal.loop-number-smaller
 loop-number-smaller c = omega arith

@@ -11,9 +11,6 @@ loop-number-init c = names_begin _ _ _ c.requires.1
 pub put_name-next-requires : goal.put_name-next-requires
 put_name-next-requires c = range_here c.loop-number.invariant (names_next _ _ (omega arith))
 
-pub overflow_add-number : goal.overflow_add-number
-overflow_add-number c = omega (arith, c.requires.0)
-
 pub loop-number-smaller : goal.loop-number-smaller
 loop-number-smaller c = omega arith
 
@@ -25,3 +22,6 @@ shape_of-out c = length_kept c.loop-number.invariant
 
 pub returns : goal.returns
 returns c = finish c.loop-number.invariant (numbered_none _ _ _ (omega arith))
+
+pub returns-2 : goal.returns-2
+returns-2 c = finish (turn c.loop-number.invariant (names_next _ _ (omega arith)) c.put_name-next.ensures) (numbered_none _ _ _ (omega arith))
