@@ -125,12 +125,8 @@ impl Counts {
     pub fn within(self, kind: Kind) -> bool
         ensures { result ≡ within kind self }
     {
-        if kind.atoms() < self.atoms {
-            return false;
-        }
-        if kind.rules() < self.rules {
-            return false;
-        }
-        self.occurrences <= kind.occurrences()
+        self.atoms <= kind.atoms()
+            && self.rules <= kind.rules()
+            && self.occurrences <= kind.occurrences()
     }
 }

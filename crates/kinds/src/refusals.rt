@@ -4,51 +4,31 @@ ghost use Rattle.kinds.specs.Refusals.{refusal_number};
 
 #[derive(Clone, Copy)]
 pub enum Refusal {
-    TextTooLong,
-    BrokenForm,
-    Name,
-    DeclaredTwice,
-    Undeclared,
-    TwiceInList,
-    Limit,
-    FilledNot,
-    Output,
-    RuleStore,
-    TooManyAtoms,
-    SetNumber,
-    Budget,
-    NameStore,
-    BrokenClauses,
-    LiteralBeyond,
-    BrokenCondition,
-    DeepBrackets,
-    RuleIndex,
+    TextTooLong = 1,
+    BrokenForm = 2,
+    Name = 3,
+    DeclaredTwice = 4,
+    Undeclared = 5,
+    TwiceInList = 6,
+    Limit = 7,
+    FilledNot = 8,
+    Output = 9,
+    RuleStore = 10,
+    TooManyAtoms = 11,
+    SetNumber = 12,
+    Budget = 13,
+    NameStore = 14,
+    BrokenClauses = 15,
+    LiteralBeyond = 16,
+    BrokenCondition = 17,
+    DeepBrackets = 18,
+    RuleIndex = 19,
 }
 
 impl Refusal {
     pub fn number(self) -> u64
         ensures { result ≡ refusal_number self }
     {
-        match self {
-            Refusal::TextTooLong => 1,
-            Refusal::BrokenForm => 2,
-            Refusal::Name => 3,
-            Refusal::DeclaredTwice => 4,
-            Refusal::Undeclared => 5,
-            Refusal::TwiceInList => 6,
-            Refusal::Limit => 7,
-            Refusal::FilledNot => 8,
-            Refusal::Output => 9,
-            Refusal::RuleStore => 10,
-            Refusal::TooManyAtoms => 11,
-            Refusal::SetNumber => 12,
-            Refusal::Budget => 13,
-            Refusal::NameStore => 14,
-            Refusal::BrokenClauses => 15,
-            Refusal::LiteralBeyond => 16,
-            Refusal::BrokenCondition => 17,
-            Refusal::DeepBrackets => 18,
-            Refusal::RuleIndex => 19,
-        }
+        self as u64
     }
 }

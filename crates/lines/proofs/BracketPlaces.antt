@@ -15,7 +15,7 @@ use Rattle.name_store.specs.NameStore.{same_bytes}
 use Rattle.name_store.proofs.ByteLoops.{other_length}
 use Rattle.name_store.proofs.NameStores.{same_law}
 use Rattle.rules.proofs.Booleans.{is_true_lem}
-use Rattle.std.specs.Prelude.{Option, Some, None}
+use Rattle.std.specs.Prelude.{Option, Some, None, MatchOption}
 use Rattle.lines.specs.declared.scan.Bracket.TheVariants as Bracket
 use Rattle.lines.specs.Tokens.{word, is_ending, is_delimiter, run, tokens, tokens_from}
 use Rattle.lines.specs.Forms.{unopened, opened_by, opened_of}
@@ -134,6 +134,11 @@ module _ (s : List ℕ) (at : ℕ) {g : ℕ} (e : g ≡ gap (drop at s)) where
         go (is_open f) = absurd (n f)
         go (is_close f) = ap opened_of (close_tokens b rest f)
         go (is_other_lem f) = ap opened_of (word_tokens b rest f)
+
+-- nothing counts there: no byte is left, or one behind which nothing counts
+pub nothing_is : (s : List ℕ) (at : ℕ) {g : ℕ} → g ≡ gap (drop at s) → {A : Type 0} (f : A → ℕ) (q : Option A) {r : Bool} → MatchOption q (length s ≤ at + g) (λ x. (at + g < length s) × (f x ≡ get_or s (at + g) 0)) → MatchOption q (r ≡ true) (λ x. r ≡ is_ending (f x)) → r ≡ is_empty (tokens (drop at s))
+nothing_is s at e f None m n = n ∙ sym (ap is_empty (nothing_out s at e m))
+nothing_is s at e f (Some x) m n = n ∙ ap is_ending m.1 ∙ sym (nothing_here s at e m.0)
 
 -- a word without delimiters, at the front of the bytes
 module _ (w u : List ℕ) (whole : run w ≡ length w) where

@@ -5,7 +5,6 @@ pub mod BracketPlaces
 pub mod TokenCuts
 pub mod LineBlocks
 pub mod LinePlaces
-pub mod Tags
 pub mod NameLists
 pub mod LineShapes
 pub mod ConditionLines

@@ -1,47 +1,19 @@
 -- The end of a line by blocks of bytes.
-use Prim.Native.Nat.{ℕ, zero, suc, ◌+◌, ◌-◌, ◌≤◌, ◌<◌, zero-le}
-use native.Mathlib.Numerals.{add-one}
+use Prim.Native.Nat.{ℕ, zero, suc, ◌+◌, ◌-◌, ◌≤◌, zero-le}
 use native.Mathlib.Nat.{add-sub_cancel_left}
 use native.Mathlib.Omega.{arith}
-use mathlib.Core.Path.{◌≡◌, refl, sym, ap, ◌∙◌}
+use mathlib.Core.Path.{◌≡◌, sym, ap, ◌∙◌}
 use mathlib.Core.List.{List, [], ◌∷◌}
-use mathlib.Core.Bool.{Bool, true, false, cond, ◌||◌, or-false}
+use mathlib.Core.Bool.{Bool, true, false, cond, ◌||◌}
 use lib.Dec.{eqb}
-use lib.ListN.{length, get_or, take, drop, length-drop, drop_of_length-le}
-use lib.Seq.{drop-cons, drop-drop}
-use borrow.Author.Tests.{eq-eqb, ne_eqb}
+use lib.ListN.{length, take, drop, length-drop}
+use lib.Seq.{drop-drop}
 use Rattle.rules.specs.Lists.{some}
 use Rattle.kinds.specs.Words.{line_end_lem}
 use Rattle.lines.specs.Lines.{line_length}
 
 abbrev pub is_end : ℕ → Bool
 is_end b = eqb b line_end_lem
-
--- a walk over all bytes, which has come to i
-pub record Ends (xs : List ℕ) (i : ℕ) (flag : Bool) : Type 0 where
-  pub inside : i ≤ length xs
-  pub left : (flag || some is_end (drop i xs)) ≡ some is_end xs
-
-pub ends : (xs : List ℕ) → Ends xs 0 false
-ends xs = record { inside = zero-le; left = refl }
-
-module _ {xs : List ℕ} {i : ℕ} {flag : Bool} (w : Ends xs i flag) where
-  pub ends_passed : length xs ≤ i → flag ≡ some is_end xs
-  ends_passed l = sym (or-false flag) ∙ ap (λ t. flag || some is_end t) (sym (drop_of_length-le xs l)) ∙ w.left
-
-  module _ (lt : i < length xs) where
-    split : some is_end (drop i xs) ≡ (is_end (get_or xs i 0) || some is_end (drop (i + 1) xs))
-    split = rw (add-one, drop-cons xs i 0)
-
-    pub ends_here : get_or xs i 0 ≡ line_end_lem → {flag' : Bool} → flag' ≡ true → Ends xs (i + 1) flag'
-    ends_here e d = record { inside = omega arith; left = ap (λ b. b || some is_end (drop (i + 1) xs)) d ∙ sym (there flag) ∙ w.left }
-      where
-        there : (a : Bool) → (a || some is_end (drop i xs)) ≡ true
-        there true = refl
-        there false = rw (split, eq-eqb _ _ e)
-
-    pub ends_later : (get_or xs i 0 ≡ line_end_lem → ⊥) → {flag' : Bool} → flag' ≡ flag → Ends xs (i + 1) flag'
-    ends_later e d = record { inside = omega arith; left = ap (λ b. b || some is_end (drop (i + 1) xs)) d ∙ ap (λ b. flag || b) (sym (rw (ne_eqb _ _ e) at split)) ∙ w.left }
 
 -- k bytes in which no line ends
 passed : (k : ℕ) (t : List ℕ) → k ≤ length t → some is_end (take k t) ≡ false → line_length t ≡ k + line_length (drop k t)

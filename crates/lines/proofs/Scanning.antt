@@ -1,32 +1,47 @@
 -- Lines, runs and gaps by their places.
-use Prim.Native.Nat.{ℕ, zero, suc, ◌+◌, ◌<◌, ◌≤◌, zero-le}
-use native.Mathlib.Numerals.{add-one}
+use Prim.Native.Nat.{ℕ, zero, suc, ◌+◌, ◌-◌, ◌<◌, ◌≤◌, zero-le}
+use native.Mathlib.Numerals.{add-one, one-add}
 use native.Mathlib.Omega.{arith}
-use mathlib.Core.Path.{◌≡◌, refl, sym, ap, subst}
+use mathlib.Core.Path.{◌≡◌, refl, sym, ap, ◌∙◌, subst}
 use mathlib.Core.List.{List, [], ◌∷◌}
-use mathlib.Core.Bool.{Bool, true, false, cond, ◌||◌}
+use mathlib.Core.Bool.{Bool, true, false, cond, not, ◌||◌}
 use lib.Dec.{eqb}
-use lib.ListN.{length, get_or, drop, drop_of_length-le}
-use lib.Seq.{drop-cons}
-use borrow.Author.Tests.{eq-eqb, ne_eqb}
+use lib.ListN.{length, get_or, take, drop, length-drop, drop_of_length-le}
+use lib.Seq.{drop-cons, take_all}
+use borrow.Author.Tests.{ne_eqb}
+use Rattle.std.specs.Prelude.{Option, Some, None, MatchOption, unwrap_or}
+use Rattle.std.specs.List.{position_or_len, AllWithin, HoldsAt}
+use Rattle.std.proofs.lemmas.List.Sums.{position_or_len_is}
+use Rattle.std.proofs.lemmas.List.Recursion.{is_position_or_len}
 use Rattle.kinds.specs.Words.{space, line_end_lem, comment_mark}
 use Rattle.lines.specs.Lines.{line_length, is_ended}
 use Rattle.lines.specs.Tokens.{is_ending, is_delimiter, run}
 use Rattle.lines.specs.Shapes.{gap}
 
--- a line
-module _ (s : List ℕ) (i : ℕ) where
-  pub line_ends : i < length s → get_or s i 0 ≡ 10 → line_length (drop i s) ≡ 1
-  unfolding line_length
-  line_ends h e = rw (drop-cons s i 0, eq-eqb _ _ e)
+-- the place of the first byte that passes, or the length
+pub first_place : (p : ℕ → Bool) (s : List ℕ) (r : Option ℕ) → MatchOption r (AllWithin (λ b. p b ≡ false) s 0 (length s)) (λ i. (i < length s) × HoldsAt (λ b. p b ≡ true) s i × AllWithin (λ b. p b ≡ false) s 0 i) → unwrap_or r (length s) ≡ position_or_len p s
+first_place p s None h = sym (position_or_len_is p s (length s) 0 (omega arith) (λ k l. h k 0 zero-le l) (λ l. absurd (omega arith)))
+first_place p s (Some i) h = sym (position_or_len_is p s i 0 (omega (arith, h.0)) (λ k l. h.2 k 0 zero-le l) (λ l. h.1 0))
 
-  pub line_goes_on : i < length s → (get_or s i 0 ≡ 10 → ⊥) → line_length (drop i s) ≡ suc (line_length (drop (i + 1) s))
-  unfolding line_length
-  line_goes_on h e = rw (add-one, drop-cons s i 0, ne_eqb _ _ e)
+-- what stands from a place on, as the code takes it
+pub rest_is : (s : List ℕ) (at : ℕ) → take (length s - at) (drop at s) ≡ drop at s
+rest_is s at = take_all (length s - at) (drop at s) (omega (arith, length-drop at s))
 
-  pub line_out : length s ≤ i → line_length (drop i s) ≡ 0
-  unfolding line_length
-  line_out h = rw (drop_of_length-le s h)
+-- the line whose end is the first byte 10, or all bytes
+line_none : (s : List ℕ) → ((k : ℕ) → k < length s → eqb (get_or s k 0) line_end_lem ≡ false) → line_length s ≡ length s
+unfolding line_length
+line_none [] h = refl
+line_none (b ∷ s) h = rw (h 0 (omega arith)) (ap suc (line_none s (λ k l. h (suc k) (omega arith))))
+
+line_some : (s : List ℕ) (i : ℕ) → i < length s → eqb (get_or s i 0) line_end_lem ≡ true → ((k : ℕ) → k < i → eqb (get_or s k 0) line_end_lem ≡ false) → line_length s ≡ suc i
+unfolding line_length
+line_some [] i l e h = absurd (omega arith)
+line_some (b ∷ s) zero l e h = rw e
+line_some (b ∷ s) (suc i) l e h = rw (h 0 (omega arith)) (ap suc (line_some s i (omega arith) e (λ k m. h (suc k) (omega arith))))
+
+pub line_place : (s : List ℕ) (r : Option ℕ) {n : ℕ} → MatchOption r (AllWithin (λ b. eqb b line_end_lem ≡ false) s 0 (length s)) (λ i. (i < length s) × HoldsAt (λ b. eqb b line_end_lem ≡ true) s i × AllWithin (λ b. eqb b line_end_lem ≡ false) s 0 i) → MatchOption r (n ≡ length s) (λ i. n ≡ i + 1) → n ≡ line_length s
+line_place s None h e = e ∙ sym (line_none s (λ k l. h k 0 zero-le l))
+line_place s (Some i) h e = e ∙ add-one i ∙ sym (line_some s i h.0 (h.1 0) (λ k l. h.2 k 0 zero-le l))
 
 -- a run
 module _ (s : List ℕ) (i : ℕ) where
@@ -42,6 +57,10 @@ module _ (s : List ℕ) (i : ℕ) where
   unfolding run
   run_out h = rw (drop_of_length-le s h)
 
+pub run_is : (s : List ℕ) → run s ≡ position_or_len is_delimiter s
+unfolding run
+run_is s = is_position_or_len run is_delimiter refl (λ b t. ap (cond (is_delimiter b) 0) (sym (one-add (run t)))) s
+
 pub run_le : (s : List ℕ) → run s ≤ length s
 unfolding run
 run_le [] = zero-le
@@ -52,18 +71,13 @@ run_le (b ∷ s) = go (is_delimiter b) (run_le s)
     go false h = omega arith
 
 -- a gap
-module _ (s : List ℕ) (i : ℕ) where
-  pub gap_goes_on : i < length s → get_or s i 0 ≡ space → gap (drop i s) ≡ suc (gap (drop (i + 1) s))
-  unfolding gap
-  gap_goes_on h e = rw (add-one, drop-cons s i 0, eq-eqb _ _ e)
-
-  pub gap_ends : i < length s → (get_or s i 0 ≡ space → ⊥) → gap (drop i s) ≡ 0
-  unfolding gap
-  gap_ends h e = rw (drop-cons s i 0, ne_eqb _ _ e)
-
-  pub gap_out : length s ≤ i → gap (drop i s) ≡ 0
-  unfolding gap
-  gap_out h = rw (drop_of_length-le s h)
+pub gap_is : (s : List ℕ) → gap s ≡ position_or_len (λ b. not (eqb b space)) s
+unfolding gap
+gap_is s = is_position_or_len gap (λ b. not (eqb b space)) refl (λ b t. go (eqb b space) (gap t)) s
+  where
+    go : (x : Bool) (n : ℕ) → cond x (suc n) 0 ≡ cond (not x) 0 (1 + n)
+    go true n = sym (one-add n)
+    go false n = refl
 
 pub gap_le : (s : List ℕ) → gap s ≤ length s
 unfolding gap
@@ -85,6 +99,10 @@ last_byte (b ∷ (c ∷ l)) (suc i) e = last_byte (c ∷ l) i (omega arith)
 pub empty_unended : (l : List ℕ) → length l ≡ 0 → false ≡ is_ended l
 empty_unended [] e = refl
 empty_unended (b ∷ l) e = absurd (omega arith)
+
+pub ended_is : (l : List ℕ) {A : Type 0} (f : A → ℕ) (q : Option A) {r : Bool} → MatchOption q (length l ≡ 0) (λ x. (0 < length l) × (f x ≡ get_or l (length l - 1) 0)) → MatchOption q (r ≡ false) (λ x. r ≡ eqb (f x) line_end_lem) → r ≡ is_ended l
+ended_is l f None m n = n ∙ empty_unended l m
+ended_is l f (Some x) m n = n ∙ ap (λ b. eqb b line_end_lem) m.1 ∙ sym (last_byte l (length l - 1) (omega (arith, m.0)))
 
 -- a byte behind which nothing counts
 

@@ -11,7 +11,7 @@ use lib.ListN.{take, drop}
 use lib.Seq.{drop-cons, drop-drop, take-take}
 use Rattle.kinds.specs.Words.{space, open_bracket, close_bracket}
 use Rattle.lines.specs.declared.scan.Item.{Item}
-use Rattle.std.specs.Prelude.{Option, Some, None}
+use Rattle.std.specs.Prelude.{Option, None}
 use Rattle.lines.specs.declared.scan.Bracket.{Bracket}
 use Rattle.lines.specs.Tokens.{Token, opening, closing, word, is_ending, is_delimiter, run, tokens_from, tokens, leading, items}
 use Rattle.lines.specs.Shapes.{gap, spaced, word_behind, item_of, ByteBehind, is_bracket, BracketSays, BracketIs}

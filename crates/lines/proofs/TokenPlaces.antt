@@ -11,7 +11,7 @@ use borrow.Author.Tests.{eq-eqb}
 use Rattle.kinds.specs.Words.{space, open_bracket, close_bracket}
 use Rattle.rules.proofs.Lists.{part_sized}
 use Rattle.lines.specs.declared.scan.Item.{Item}
-use Rattle.std.specs.Prelude.{Option, Some, None}
+use Rattle.std.specs.Prelude.{Option, None}
 use Rattle.lines.specs.Tokens.{Token, opening, closing, word, is_ending, is_delimiter, run, tokens_from, tokens, leading, behind, items}
 use Rattle.lines.specs.Shapes.{gap, spaced, word_behind, item_of}
 use Rattle.lines.proofs.Scanning.{run_le, gap_le}

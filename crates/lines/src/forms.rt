@@ -26,7 +26,7 @@ pub struct Names {
 }
 
 // The word of a line that declares atoms.
-#[derive(Clone, Copy)]
+#[derive(Clone, Copy, PartialEq, Eq)]
 pub enum Keyword {
     Atoms,
     Min,
@@ -75,27 +75,23 @@ fn names_at(s: &[u8], from: usize, kind: Kind) -> Option<Names>
     let mut end = from;
     let mut count: usize = 0;
     let mut refused = false;
-    loop {
-        let Some(Item { gap, size }) = scan::item_at(s, end) else {
-            let end = scan::closed_at(s, end)?;
-            return Some(Names {
-                end,
-                count,
-                refused,
-            });
-        };
+    while let Some(Item { gap, size }) = scan::item_at(s, end) {
         let start = end + gap;
         let to = start + size;
         match name_fit(&s[start..to], kind) {
             NameFit::Taken => {}
-            NameFit::Refused => {
-                refused = true;
-            }
+            NameFit::Refused => refused = true,
             NameFit::Wrong => return None,
         }
         count += 1;
         end = to;
     }
+    let end = scan::closed_at(s, end)?;
+    Some(Names {
+        end,
+        count,
+        refused,
+    })
 }
 
 // A bracket with its word, and the names after it.
@@ -140,10 +136,7 @@ pub fn closes_line(line: &[u8], at: usize) -> bool
     requires { at ≤ length line.now }
     ensures { result ≡ is_closing_last (tokens (drop at line.now)) }
 {
-    let Some(end) = scan::closed_at(line, at) else {
-        return false;
-    };
-    scan::nothing_at(line, end)
+    scan::closed_at(line, at).is_some_and(|end| scan::nothing_at(line, end))
 }
 
 // A rule, behind its word.

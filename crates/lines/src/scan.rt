@@ -39,27 +39,17 @@ pub fn is_delimiter(b: u8) -> bool
 fn has_line_end(bytes: &[u8]) -> bool
     ensures { result ≡ some (λ b. eqb b line_end_lem) bytes.now }
 {
-    let mut found = false;
-    for i in 0..bytes.len() {
-        if bytes[i] == b'\n' {
-            found = true;
-        }
-    }
-    found
+    bytes.contains(&b'\n')
 }
 
 fn line_by_bytes(s: &[u8], at: usize) -> usize
     requires { at ≤ length s.now }
     ensures { result ≡ line_length (drop at s.now) }
 {
-    let mut i = at;
-    while i < s.len() {
-        if s[i] == b'\n' {
-            return i + 1 - at;
-        }
-        i += 1;
-    }
-    i - at
+    let rest = &s[at..];
+    rest.iter()
+        .position(|b| *b == b'\n')
+        .map_or(rest.len(), |i| i + 1)
 }
 
 // The length of the line at `at`, its end included.
@@ -82,10 +72,7 @@ pub fn line_at(s: &[u8], at: usize) -> usize
 pub fn is_ended(line: &[u8]) -> bool
     ensures { result ≡ is_ended line.now }
 {
-    if line.len() == 0 {
-        return false;
-    }
-    line[line.len() - 1] == b'\n'
+    line.last() == Some(&b'\n')
 }
 
 // How many bytes stand from `at` on before a delimiter.
@@ -93,14 +80,10 @@ pub fn run_at(s: &[u8], at: usize) -> usize
     requires { at ≤ length s.now }
     ensures { result ≡ run (drop at s.now) }
 {
-    let mut i = at;
-    while i < s.len() {
-        if is_delimiter(s[i]) {
-            return i - at;
-        }
-        i += 1;
-    }
-    i - at
+    let rest = &s[at..];
+    rest.iter()
+        .position(|b| is_delimiter(*b))
+        .unwrap_or(rest.len())
 }
 
 // How many spaces stand from `at` on.
@@ -108,14 +91,8 @@ pub fn gap_at(s: &[u8], at: usize) -> usize
     requires { at ≤ length s.now }
     ensures { result ≡ gap (drop at s.now) }
 {
-    let mut i = at;
-    while i < s.len() {
-        if s[i] != b' ' {
-            return i - at;
-        }
-        i += 1;
-    }
-    i - at
+    let rest = &s[at..];
+    rest.iter().position(|b| *b != b' ').unwrap_or(rest.len())
 }
 
 // The item at `at`, unless anything else stands there.
@@ -143,10 +120,7 @@ pub fn nothing_at(s: &[u8], at: usize) -> bool
     ensures { result ≡ is_empty (tokens (drop at s.now)) }
 {
     let i = at + gap_at(s, at);
-    if s.len() <= i {
-        return true;
-    }
-    is_end(s[i])
+    s.get(i).is_none_or(|b| is_end(*b))
 }
 
 // The place behind the closing bracket at `at`.
@@ -155,13 +129,10 @@ pub fn closed_at(s: &[u8], at: usize) -> Option<usize>
     ensures { ClosedIs s.now at result }
 {
     let i = at + gap_at(s, at);
-    if s.len() <= i {
-        return None;
+    match s.get(i) {
+        Some(b')') => Some(i + 1),
+        _ => None,
     }
-    if s[i] == b')' {
-        return Some(i + 1);
-    }
-    None
 }
 
 // The bracket at `at`.
@@ -170,16 +141,11 @@ pub fn bracket_at(s: &[u8], at: usize) -> Bracket
     ensures { BracketIs s.now at result }
 {
     let i = at + gap_at(s, at);
-    if s.len() <= i {
-        return Bracket::Absent;
+    match s.get(i) {
+        Some(b'(') => Bracket::Opening(i),
+        Some(b')') => Bracket::Closing(i),
+        _ => Bracket::Absent,
     }
-    if s[i] == b'(' {
-        return Bracket::Opening(i);
-    }
-    if s[i] == b')' {
-        return Bracket::Closing(i);
-    }
-    Bracket::Absent
 }
 
 // Whether `tag` stands at `at`.
@@ -187,16 +153,7 @@ pub fn begins_at(s: &[u8], at: usize, tag: &[u8]) -> bool
     requires { at ≤ length s.now }
     ensures { result ≡ begins tag.now (drop at s.now) }
 {
-    if s.len() - at < tag.len() {
-        return false;
-    }
-    for i in 0..tag.len() {
-        let place = at + i;
-        if s[place] != tag[i] {
-            return false;
-        }
-    }
-    true
+    s[at..].starts_with(tag)
 }
 
 // Whether `word` stands at `at`, with no byte more.

@@ -1,5 +1,5 @@
 // Which lines may come next.
-#[derive(Clone, Copy)]
+#[derive(Clone, Copy, PartialEq, Eq)]
 pub enum Stage {
     // `min` or `vary` in a preference file, `atoms` in a plain program.
     Declaring,

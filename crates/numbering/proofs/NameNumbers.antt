@@ -15,7 +15,7 @@ use Rattle.rules.proofs.Lists.{all_app, some_last}
 use Rattle.name_store.specs.NameStore.{same_bytes, among}
 use Rattle.name_store.specs.NameIndex.{found_from, found}
 use Rattle.stores.specs.Checking.{Below}
-use Rattle.name_store.proofs.NameStores.{same_law}
+use Rattle.name_store.proofs.NameStores.{same_law, same_sym}
 use Rattle.output.specs.Emitted.{Emitted, InRange}
 use Rattle.output.proofs.Emitting.{none, then, renamed}
 use Rattle.stores.proofs.Marks.{set_below, set_marks}
@@ -26,9 +26,6 @@ use Rattle.lines.specs.Shapes.{spaced, item_of, ClosedIs}
 use Rattle.numbering.specs.Numbers.{Numbered, NumbersAre}
 use Rattle.lines.proofs.NameLists.{split_is, list_closed, list_unclosed}
 use Rattle.lines.proofs.TokenPlaces.{items_end, item_fits, item_long, item, later, item_is, behind_is}
-
-same_sym : (x y : List ℕ) → same_bytes x y ≡ same_bytes y x
-same_sym x y = bool_ext (same_bytes x y) (same_bytes y x) (λ h. (same_law y x).1 (sym ((same_law x y).0 h))) (λ h. (same_law x y).1 (sym ((same_law y x).0 h)))
 
 -- x is the name of atom j
 pub record Named (names : List (List ℕ)) (x : List ℕ) (j : ℕ) : Type 0 where

@@ -9,8 +9,8 @@ loop-gap-init c = begins_naming _ _ _ c.requires
 pub returns-in_err-end : goal.returns-in_err-end
 returns-in_err-end c = rw c.from_residual.ensures (names_unclosed c.loop-gap.invariant c.item_at.ensures c.in_default.is c.closed_at.ensures c.in_err-end.was)
 
-pub returns-in_default : goal.returns-in_default
-returns-in_default c = names_closed c.loop-gap.invariant c.item_at.ensures c.in_default.is c.closed_at.ensures c.in_ok-end.was
+pub returns : goal.returns
+returns c = names_closed c.loop-gap.invariant c.item_at.ensures c.in_default.is c.closed_at.ensures c.in_ok-end.was
 
 pub overflow_add-start : goal.overflow_add-start
 overflow_add-start c = omega (arith, name_inside c.loop-gap.invariant c.item_at.ensures c.in-Some.is)

@@ -1,12 +1,19 @@
-use native.Mathlib.Omega.{arith}
-use Rattle.lines.proofs.Scanning.{line_ends, line_goes_on, line_out}
+use Prim.Native.Nat.{◌+◌, ◌-◌}
+use mathlib.Core.Path.{◌≡◌, ap, ◌∙◌}
+use mathlib.Core.Bool.{true, false}
+use lib.Dec.{eqb}
+use lib.ListN.{length, take, drop}
+use Rattle.std.specs.Prelude.{MatchOption}
+use Rattle.std.proofs.Common.{rules, tests}
+use Rattle.std.proofs.lemmas.Iterator.{IsFirst-from_position, YieldsList-from_slice}
+use Rattle.kinds.specs.Words.{line_end_lem}
+use Rattle.lines.specs.Lines.{line_length}
+use Rattle.lines.proofs.Scanning.{line_place, rest_is}
 use Rattle.lines.proofs.scan.line_by_bytes.Goals as goal
 
-pub returns-then-s-i-eq10 : goal.returns-then-s-i-eq10
-returns-then-s-i-eq10 c = omega (arith, line_ends c.args.s.now c.loop-i.i c.loop-i-test.true c.if-s-i-eq10.true)
-
-pub loop-i-preserved : goal.loop-i-preserved
-loop-i-preserved c = omega (arith, line_goes_on c.args.s.now c.loop-i.i c.loop-i-test.true c.if-s-i-eq10.false)
-
 pub returns : goal.returns
-returns c = omega (arith, line_out c.args.s.now c.loop-i.i c.loop-i-test.false)
+returns c =
+    let rest = take (length c.args.s.now - c.args.at) (drop c.args.at c.args.s.now) in
+    let n : MatchOption c.position.result (c.map_or.result ≡ length rest) (λ i. c.map_or.result ≡ i + 1) = search rules in
+    line_place rest c.position.result (IsFirst-from_position _ _ _ (λ b. eqb b line_end_lem ≡ true) (λ b. eqb b line_end_lem ≡ false) c.position.ensures.ran (YieldsList-from_slice _ c.iter.ensures.rest) (λ x q k. search (rules, tests)) (λ x q k. search (rules, tests))) n
+    ∙ ap line_length (rest_is c.args.s.now c.args.at)
