@@ -15,21 +15,21 @@ use Rattle.canonical.specs.Order.{numbers, place, insert, ordered, Ascending}
 use Rattle.canonical.specs.Canonical.{compare_rules, tidy, canonical}
 use Rattle.canonical.specs.CanonicalProgram.{canonical_program}
 use Rattle.canonical.specs.TidyProgram.{tidy_program}
-use Rattle.canonical.specs.declared.comparison.Comparison.{Comparison}
-use Rattle.canonical.specs.declared.comparison.Comparison.TheVariants.{Less, Same, More}
+use Rattle.std.specs.declared.cmp.Ordering.{Ordering}
+use Rattle.std.specs.declared.cmp.Ordering.TheVariants.{Less, Equal, Greater}
 use Rattle.canonical.proofs.Orders.{less_number, number_order, rule_order}
 use Rattle.canonical.proofs.Ordered.{ordered_all, ordered_ascends}
 
 -- entries only fall out
-module _ {A : Type 0} (c : A → A → Comparison) (f : A → ℕ) where
+module _ {A : Type 0} (c : A → A → Ordering) (f : A → ℕ) where
   insert_sum : (x : A) (l : List A) → sum f (insert c x l) ≤ f x + sum f l
   insert_sum x [] = omega arith
   insert_sum x (y ∷ l) = step (c x y) (insert_sum x l)
     where
-      step : (q : Comparison) → sum f (insert c x l) ≤ f x + sum f l → sum f (place q x y l (insert c x l)) ≤ f x + (f y + sum f l)
+      step : (q : Ordering) → sum f (insert c x l) ≤ f x + sum f l → sum f (place q x y l (insert c x l)) ≤ f x + (f y + sum f l)
       step Less h = omega arith
-      step Same h = omega arith
-      step More h = omega arith
+      step Equal h = omega arith
+      step Greater h = omega arith
 
   ordered_sum : (l : List A) → sum f (ordered c l) ≤ sum f l
   ordered_sum [] = omega arith
@@ -39,7 +39,7 @@ count_sum : {A : Type 0} (l : List A) → length l ≡ sum (λ (a : A). 1) l
 count_sum [] = refl
 count_sum (x ∷ l) = let h = count_sum l in omega arith
 
-ordered_fewer : {A : Type 0} (c : A → A → Comparison) (l : List A) → length (ordered c l) ≤ length l
+ordered_fewer : {A : Type 0} (c : A → A → Ordering) (l : List A) → length (ordered c l) ≤ length l
 ordered_fewer c l = omega (arith, ordered_sum c (λ a. 1) l, count_sum (ordered c l), count_sum l)
 
 -- lists

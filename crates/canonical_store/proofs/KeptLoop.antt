@@ -1,7 +1,7 @@
 -- The loop that writes the rules of sorted entries, one of equal ones.
 use Prim.Native.Nat.{ℕ, suc, ◌+◌, ◌-◌, ◌<◌, ◌≤◌}
 use mathlib.Core.Path.{◌≡◌, refl, sym, ap, ap₂, ◌∙◌, subst}
-use mathlib.Core.Bool.{Bool, true, false}
+use mathlib.Core.Bool.{Bool, true, false, not}
 use mathlib.Core.List.{List, [], ◌∷◌, ◌++◌, map}
 use native.Mathlib.Omega.{arith}
 use native.Mathlib.Numerals.{add-one}
@@ -15,8 +15,10 @@ use Rattle.output.specs.Emitted.{Emitted, InRange}
 use Rattle.output.proofs.Emitting.{Ahead, Emitting, start, then, renamed, turn, finish, range_here}
 use Rattle.canonical.specs.Order.{unless, once}
 use Rattle.canonical.specs.Canonical.{compare_rules}
-use Rattle.canonical.specs.declared.comparison.Comparison.{Comparison}
-use Rattle.canonical.specs.declared.comparison.Comparison.TheVariants.{Less, Same, More}
+use Rattle.std.specs.Bool.{◌==◌}
+use Rattle.std.specs.Ordering.{ordering_index}
+use Rattle.std.specs.declared.cmp.Ordering.{Ordering}
+use Rattle.std.specs.declared.cmp.Ordering.TheVariants.{Less, Equal, Greater}
 use Rattle.rule_sort.specs.declared.comparing.Parts.{Parts}
 use Rattle.rule_sort.specs.RuleOrder.{entry_rule, parts_rule, PartsOf}
 use Rattle.digit_sort.specs.Digits.{key_of}
@@ -32,10 +34,10 @@ unfolding kept_rules is_kept
 kept_step ws x [] = refl
 kept_step ws x (y ∷ l) = step (compare_rules (entry_rule ws x) (entry_rule ws y))
   where
-    step : (q : Comparison) → unless q (entry_rule ws x) (once compare_rules (map (entry_rule ws) (y ∷ l))) ≡ keep (differs q) (entry_rule ws x) (once compare_rules (map (entry_rule ws) (y ∷ l)))
+    step : (q : Ordering) → unless q (entry_rule ws x) (once compare_rules (map (entry_rule ws) (y ∷ l))) ≡ keep (differs q) (entry_rule ws x) (once compare_rules (map (entry_rule ws) (y ∷ l)))
     step Less = refl
-    step Same = refl
-    step More = refl
+    step Equal = refl
+    step Greater = refl
 
 pub kept_fewer : (ws l : List ℕ) → length (kept_rules ws l) ≤ length l
 unfolding kept_rules
@@ -43,10 +45,16 @@ kept_fewer ws [] = omega arith
 kept_fewer ws (x ∷ []) = omega arith
 kept_fewer ws (x ∷ y ∷ l) = step (compare_rules (entry_rule ws x) (entry_rule ws y)) (kept_fewer ws (y ∷ l))
   where
-    step : (q : Comparison) → length (once compare_rules (map (entry_rule ws) (y ∷ l))) ≤ suc (length l) → length (unless q (entry_rule ws x) (once compare_rules (map (entry_rule ws) (y ∷ l)))) ≤ suc (suc (length l))
+    step : (q : Ordering) → length (once compare_rules (map (entry_rule ws) (y ∷ l))) ≤ suc (length l) → length (unless q (entry_rule ws x) (once compare_rules (map (entry_rule ws) (y ∷ l)))) ≤ suc (suc (length l))
     step Less h = omega arith
-    step Same h = omega arith
-    step More h = omega arith
+    step Equal h = omega arith
+    step Greater h = omega arith
+
+-- what the library's `!=` answers
+ne_differs : (c : Ordering) → not (ordering_index c == 1) ≡ differs c
+ne_differs Less = refl
+ne_differs Equal = refl
+ne_differs Greater = refl
 
 module _ (ws order : List ℕ) (i : ℕ) where
   pub last_kept : i < length order → length order ≤ i + 1 → true ≡ is_kept ws (drop i order)
@@ -64,9 +72,9 @@ module _ (ws order : List ℕ) (i : ℕ) where
         ∙ ap (λ (r : List ℕ). get_or order i 0 ∷ r) (drop-cons order (suc i) 0 k)
         ∙ ap (λ (n : ℕ). get_or order i 0 ∷ get_or order n 0 ∷ drop (suc (suc i)) order) (sym (add-one i))
 
-    pub told : {c : Comparison} → c ≡ compare_rules (entry_rule ws (get_or order i 0)) (entry_rule ws (get_or order (i + 1) 0)) → (d : Comparison) → c ≡ d → differs d ≡ is_kept ws (drop i order)
+    pub told : {c : Ordering} → c ≡ compare_rules (entry_rule ws (get_or order i 0)) (entry_rule ws (get_or order (i + 1) 0)) → not (ordering_index c == 1) ≡ is_kept ws (drop i order)
     unfolding is_kept
-    told e d f = ap differs (sym f ∙ e) ∙ sym (ap (is_kept ws) two_left)
+    told {c} e = ne_differs c ∙ ap differs e ∙ sym (ap (is_kept ws) two_left)
 
     pub keys_differ : KeyedEntries ws order → (key_of (get_or order i 0) ≡ key_of (get_or order (i + 1) 0) → ⊥) → true ≡ is_kept ws (drop i order)
     unfolding is_kept
@@ -75,10 +83,10 @@ module _ (ws order : List ℕ) (i : ℕ) where
         at : (j : ℕ) → j < length order → Keyed k.digits ws (get_or order j 0)
         at j l = all_at (Keyed k.digits ws) 0 order k.all j l
 
-        apart : (c : Comparison) → (c ≡ Same → ⊥) → differs c ≡ true
+        apart : (c : Ordering) → (c ≡ Equal → ⊥) → differs c ≡ true
         apart Less g = refl
-        apart Same g = absurd (g refl)
-        apart More g = refl
+        apart Equal g = absurd (g refl)
+        apart Greater g = refl
 
 -- the words of one rule: its counts and its lists
 pub rule_ahead : {ws : List ℕ} {r : Rule ℕ} {p : Parts} → PartsOf ws r p → Ahead (rule_words r) (p.heads ∷ p.bodies ∷ p.nots ∷ []) (take (p.at + p.heads + p.bodies + p.nots - p.at) (drop p.at ws))

@@ -8,8 +8,8 @@ use Rattle.output.specs.Emitted.{Emitted}
 use Rattle.canonical.specs.Order.{once}
 use Rattle.canonical.specs.Canonical.{compare_rules}
 use Rattle.canonical.specs.CanonicalProgram.{canonical_program}
-use Rattle.canonical.specs.declared.comparison.Comparison.{Comparison}
-use Rattle.canonical.specs.declared.comparison.Comparison.TheVariants.{Less, Same, More}
+use Rattle.std.specs.declared.cmp.Ordering.{Ordering}
+use Rattle.std.specs.declared.cmp.Ordering.TheVariants.{Less, Equal, Greater}
 use Rattle.rule_sort.specs.RuleOrder.{entry_rule}
 use Rattle.entry_sort.specs.EqualKeys.{KeyedEntries}
 use Rattle.canonical_store.specs.declared.written_rules.Written.{Written}
@@ -17,10 +17,10 @@ use Rattle.canonical_store.specs.declared.written_rules.Written.{Written}
 unfoldable pub kept_rules : List ℕ → List ℕ → List (Rule ℕ)
 kept_rules ws order = once compare_rules (map (entry_rule ws) order)
 
-abbrev pub differs : Comparison → Bool
+abbrev pub differs : Ordering → Bool
 differs Less = true
-differs Same = false
-differs More = true
+differs Equal = false
+differs Greater = true
 
 -- the first entry's rule is not that of the next
 unfoldable pub is_kept : List ℕ → List ℕ → Bool

@@ -7,10 +7,10 @@ ghost use Rattle.rule_sort.specs.RuleOrder.{entry_rule};
 ghost use Rattle.entry_sort.specs.EqualKeys.{KeyedEntries};
 ghost use Rattle.canonical_store.specs.KeptRules.{is_kept, kept_rules, WrittenRules};
 
-use canonical::comparison::Comparison;
 use entry_sort::equal_keys::key_of;
 use output::words::emit;
 use rule_sort::comparing::{compare_entries, parts_of};
+use std::cmp::Ordering;
 
 // Where the words of the rules end, and how many rules these are.
 #[derive(Clone, Copy)]
@@ -30,15 +30,7 @@ fn kept(words: &[u16], order: &[u64], i: usize) -> bool
     }
     let x = order[i];
     let y = order[next];
-    if key_of(x) != key_of(y) {
-        return true;
-    }
-    let found = compare_entries(words, x, y);
-    match found {
-        Comparison::Less => true,
-        Comparison::Same => false,
-        Comparison::More => true,
-    }
+    key_of(x) != key_of(y) || compare_entries(words, x, y) != Ordering::Equal
 }
 
 fn emit_rule(words: &[u16], entry: u64, out: &mut [u16], at: usize) -> usize
@@ -58,19 +50,12 @@ pub fn emit_rules(words: &[u16], order: &[u64], out: &mut [u16], at: usize) -> W
     ensures { WrittenRules out.old at (kept_rules words.now order.now) out.new result }
 {
     let mut next = at;
-    let mut rules: usize = 0;
-    let mut i: usize = 0;
-    while i < order.len() {
+    let mut rules = 0;
+    for i in 0..order.len() {
         if kept(words, order, i) {
             next = emit_rule(words, order[i], out, next);
             rules += 1;
-            i += 1;
-            continue;
         }
-        i += 1;
     }
-    Written {
-        next: next,
-        rules: rules,
-    }
+    Written { next, rules }
 }

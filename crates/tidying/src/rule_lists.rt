@@ -29,8 +29,9 @@ pub fn tidy_rules(words: &mut [u16], count: usize, scratch: &mut [u16])
 {
     let mut from: usize = 0;
     for i in 0..count {
-        let size = rule_size(&words[from..]);
-        tidy_rule(&mut words[from..], scratch);
+        let rest = &mut words[from..];
+        let size = rule_size(rest);
+        tidy_rule(rest, scratch);
         from += size;
     }
 }

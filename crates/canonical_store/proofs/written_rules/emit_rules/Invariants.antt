@@ -1,12 +1,8 @@
-use Prim.Native.Nat.{◌-◌, ◌≤◌}
+use Prim.Native.Nat.{◌≤◌}
 use lib.ListN.{length}
 use Rattle.entry_sort.specs.EqualKeys.{KeyedEntries}
 use Rattle.canonical_store.proofs.KeptLoop.{Keeping}
-use borrow.Author.Rules.{rules}
 use Rattle.canonical_store.proofs.written_rules.emit_rules.Given as goal
 
 abbrev pub invariant-loop-i : goal.invariant-loop-i
-invariant-loop-i l = Keeping l.words l.order l.initial.out l.at l.out l.next l.rules l.i × (length l.words ≤ 65535) × KeyedEntries l.words l.order
-
-abbrev pub decreases-loop-i : goal.decreases-loop-i
-decreases-loop-i l = length l.order - l.i
+invariant-loop-i l = Keeping l.words l.order l.initial.out l.at l.out l.next l.rules l.i

@@ -1,5 +1,6 @@
-use mathlib.Core.Path.{sym, ◌∙◌}
-use Rattle.canonical.specs.declared.comparison.Comparison.TheVariants.{Less, Same, More}
+use mathlib.Core.Path.{sym, ap, ◌∙◌}
+use mathlib.Core.Bool.{not}
+use borrow.Author.Tests.{ne_eqb}
 use Rattle.canonical_store.proofs.KeptLoop.{last_kept, keys_differ, told}
 use Rattle.canonical_store.proofs.written_rules.kept.Goals as goal
 
@@ -7,13 +8,7 @@ pub returns-then-order-next : goal.returns-then-order-next
 returns-then-order-next c = last_kept _ c.args.order.now c.args.i c.requires.1 c.if-order-next.true
 
 pub returns-then-key_of : goal.returns-then-key_of
-returns-then-key_of c = keys_differ _ c.args.order.now c.args.i c.if-order-next.false c.requires.0 (λ e. c.if-key_of.true (c.key_of.ensures ∙ e ∙ sym c.key_of-2.ensures))
+returns-then-key_of c = ap not (ne_eqb _ _ c.if-key_of.true) ∙ keys_differ _ c.args.order.now c.args.i c.if-order-next.false c.requires.0 (λ e. c.if-key_of.true (c.key_of.ensures ∙ e ∙ sym c.key_of-2.ensures))
 
-pub returns-in-Less : goal.returns-in-Less
-returns-in-Less c = told c.args.words.now c.args.order.now c.args.i c.if-order-next.false c.compare_entries-found.ensures Less c.in-Less.is
-
-pub returns-in-Same : goal.returns-in-Same
-returns-in-Same c = told c.args.words.now c.args.order.now c.args.i c.if-order-next.false c.compare_entries-found.ensures Same c.in-Same.is
-
-pub returns-in-More : goal.returns-in-More
-returns-in-More c = told c.args.words.now c.args.order.now c.args.i c.if-order-next.false c.compare_entries-found.ensures More c.in-More.is
+pub returns-else-key_of : goal.returns-else-key_of
+returns-else-key_of c = c.ne.ensures ∙ told c.args.words.now c.args.order.now c.args.i c.if-order-next.false c.compare_entries.ensures
