@@ -1,55 +1,27 @@
 -- The numbers of atoms, the made ones in their place.
 use Prim.Native.Nat.{ℕ, suc, ◌+◌, ◌-◌, ◌≤◌, ◌<◌}
-use native.Mathlib.Nat.{zero-add}
-use native.Mathlib.Numerals.{add-one}
 use native.Mathlib.Decide.{ℕ_discrete}
 use native.Mathlib.Omega.{arith}
 use mathlib.Core.Path.{◌≡◌, refl, sym, ap, ◌∙◌}
-use mathlib.Core.Bool.{Bool, true, false, not, cond}
-use mathlib.Core.List.{List, ◌∷◌}
-use lib.Dec.{eqb, ltb}
-use lib.ListN.{length, get_or, set, drop, length-set, drop_of_length-le}
-use lib.Seq.{drop-cons, get_or-set_same, get_or-set_other}
-use borrow.Author.Tests.{eq-eqb, ne_eqb, lt-ltb, le-ltb}
-use Rattle.kinds.specs.Limits.{fixed}
+use mathlib.Core.Bool.{Bool, true, false, cond}
+use mathlib.Core.List.{List, [], ◌∷◌}
+use lib.Dec.{ltb}
+use lib.ListN.{length, get_or, set, length-set}
+use lib.Seq.{get_or-set_same, get_or-set_other}
+use borrow.Author.Tests.{lt-ltb, le-ltb}
+use Rattle.std.specs.List.{filter as kept}
 use Rattle.rules.specs.Lists.{keep, filter}
-use Rattle.conditions.specs.Numbers.{unfixed, placing}
+use Rattle.conditions.specs.Numbers.{placing}
 
 -- class words that are not fixed
 
-unfixed_first : (w : ℕ) (ws : List ℕ) → unfixed (w ∷ ws) ≡ cond (eqb w fixed) 0 1 + unfixed ws
-unfolding unfixed
-unfixed_first w ws = go (eqb w fixed)
+pub count_kept : (t : ℕ → Bool) (ws : List ℕ) → length (kept t ws) ≡ length (filter t ws)
+count_kept t [] = refl
+count_kept t (w ∷ ws) = one (t w) (count_kept t ws)
   where
-    go : (b : Bool) → length (keep (not b) w (filter (λ v. not (eqb v fixed)) ws)) ≡ cond b 0 1 + length (filter (λ v. not (eqb v fixed)) ws)
-    go true = omega arith
-    go false = omega arith
-
-pub record Counting (ws : List ℕ) (count i : ℕ) : Type 0 where
-  pub low : i ≤ length ws
-  pub few : count ≤ i
-  pub left : count + unfixed (drop i ws) ≡ unfixed ws
-
-pub count_begins : (ws : List ℕ) → Counting ws 0 0
-count_begins ws = record { low = omega arith; few = omega arith; left = zero-add (unfixed ws) }
-
-module _ {ws : List ℕ} {count i : ℕ} (h : Counting ws count i) where
-  pub count_ends : length ws ≤ i → count ≡ unfixed ws
-  unfolding unfixed
-  count_ends l = let none : unfixed (drop i ws) ≡ 0 = ap unfixed (drop_of_length-le ws l) in omega (arith, h.left)
-
-  module _ (l : i < length ws) where
-    further : (b : Bool) → eqb (get_or ws i 0) fixed ≡ b → {count' : ℕ} → count' ≡ count + cond b 0 1 → count' ≤ i + 1 → Counting ws count' (i + 1)
-    further b e f m =
-        let first : unfixed (drop i ws) ≡ cond b 0 1 + unfixed (drop (i + 1) ws) =
-        ap unfixed (drop-cons ws i 0 l) ∙ unfixed_first (get_or ws i 0) (drop (suc i) ws) ∙ ap (λ c. cond c 0 1 + unfixed (drop (suc i) ws)) e ∙ ap (λ k. cond b 0 1 + unfixed (drop k ws)) (sym (add-one i)) in
-        record { low = omega arith; few = m; left = omega (arith, h.left) }
-
-    pub count_more : (get_or ws i 0 ≡ fixed → ⊥) → {count' : ℕ} → count' ≡ count + 1 → Counting ws count' (i + 1)
-    count_more n e = further false (ne_eqb (get_or ws i 0) fixed n) e (omega (arith, h.few))
-
-    pub count_same : get_or ws i 0 ≡ fixed → {count' : ℕ} → count' ≡ count → Counting ws count' (i + 1)
-    count_same n e = further true (eq-eqb (get_or ws i 0) fixed n) (omega arith) (omega (arith, h.few))
+    one : (b : Bool) → length (kept t ws) ≡ length (filter t ws) → length (cond b (w ∷ kept t ws) (kept t ws)) ≡ length (keep b w (filter t ws))
+    one true e = ap suc e
+    one false e = e
 
 -- an atom's number
 

@@ -23,30 +23,29 @@ pub fn place_made(
     requires rules_len { (length rules.old ≡ store_words) × (length names.old ≡ store_bytes) }
     ensures { Held Kind.Preference (placed (state_of Kind.Preference gathered words.now bytes.now)) result rules.new names.new }
 {
-    let before = gathered.counts;
+    let Gathered {
+        counts: before,
+        made,
+        bytes: used,
+        ..
+    } = gathered;
     let atoms = before.atoms;
-    let count = before.rules;
-    let made = gathered.made;
-    let used = gathered.bytes;
     let end = 4 + atoms;
     let first = count_unfixed(&words[4..end]);
     let mut numbers = [0u16; Preference::ATOMS];
     number_places(first, atoms, made, &mut numbers);
     let classed = put_classes(&words[4..end], first, made, rules, 4);
-    let filled = put_rules(&words[end..], count, &numbers, rules, classed);
+    let filled = put_rules(&words[end..], before.rules, &numbers, rules, classed);
     let named = place_names(&bytes[..used], first, made, names);
     let counts = Counts {
         atoms: atoms + made,
-        rules: count,
-        occurrences: before.occurrences,
+        ..before
     };
-    let stage = gathered.stage;
     Gathered {
-        stage,
-        classes: gathered.classes,
         counts,
         made: 0,
         words: filled,
         bytes: named,
+        ..gathered
     }
 }

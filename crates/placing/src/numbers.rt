@@ -9,13 +9,10 @@ use kinds::limits::{ClassWord, Kind};
 pub fn count_unfixed(words: &[u16]) -> usize
     ensures { result ≡ unfixed words.now }
 {
-    let mut count: usize = 0;
-    for i in 0..words.len() {
-        if words[i] != ClassWord::FIXED {
-            count += 1;
-        }
-    }
-    count
+    words
+        .iter()
+        .filter(|word| **word != ClassWord::FIXED)
+        .count()
 }
 
 fn place(first: usize, declared: usize, made: usize, atom: usize) -> usize
@@ -37,7 +34,7 @@ pub fn number_places(first: usize, declared: usize, made: usize, numbers: &mut [
     ensures { (a : ℕ) → a < declared + made → get_or numbers.new a 0 ≡ placing first declared made a }
 {
     let all = declared + made;
-    for atom in 0..all {
-        numbers[atom] = place(first, declared, made, atom) as u16;
+    for (atom, number) in numbers[..all].iter_mut().enumerate() {
+        *number = place(first, declared, made, atom) as u16;
     }
 }

@@ -26,7 +26,7 @@ fn names_end(bytes: &[u8], count: usize) -> usize
     ensures { result ≡ length (encode_names (decode_names count bytes.now)) }
 {
     let mut at: usize = 0;
-    for i in 0..count {
+    for _ in 0..count {
         at += 1 + bytes[at] as usize;
     }
     at

@@ -5,6 +5,8 @@ use mathlib.Core.Path.{◌≡◌, refl, sym, ◌∙◌, subst}
 use mathlib.Core.Bool.{true}
 use mathlib.Core.List.{List}
 use lib.ListN.{length}
+use Rattle.std.specs.Prelude.{Result}
+use Rattle.kinds.specs.declared.refusals.Refusal.{Refusal}
 use Rattle.kinds.specs.Limits.{atom_limit}
 use Rattle.kinds.specs.declared.limits.Kind.{Kind}
 use Rattle.kinds.specs.declared.limits.Kind.TheVariants.{Plain, Preference}
@@ -15,9 +17,9 @@ use Rattle.restriction.specs.Remaining.{remaining, remaining_names}
 use Rattle.lines.specs.Forms.{LineForm}
 use Rattle.lines.specs.Faults.{SoFar}
 use Rattle.lines.specs.Said.{program_of, placed}
-use Rattle.answers.specs.declared.Read.{Read}
+use Rattle.answers.specs.declared.ReadSizes.{ReadSizes}
+use Rattle.answers.specs.declared.ReadRefusal.{ReadRefusal}
 use Rattle.gathering.specs.declared.gathered.Gathered.{Gathered}
-use Rattle.gathering.specs.declared.gathered.Line.{Line}
 use Rattle.gathering.specs.Gathered.{state_of, Held, LineIs, opens_condition}
 use Rattle.gathering.proofs.HeldState.{held_is}
 use Rattle.delivery.specs.Delivered.{Delivered}
@@ -26,7 +28,7 @@ use Rattle.reader.specs.FormedState.{Formed}
 use Rattle.reader.proofs.PlacedLines.{none_placed, placed_form}
 
 -- what a state declares is delivered
-abbrev pub StateDelivered : SoFar → List ℕ → List ℕ → List ℕ → List ℕ → Read → Type 0
+abbrev pub StateDelivered : SoFar → List ℕ → List ℕ → List ℕ → List ℕ → Result ReadSizes ReadRefusal → Type 0
 StateDelivered st rules names rules' names' r = Delivered (remaining (program_of st)) (remaining_names (program_of st) st.names) rules names rules' names' r
 
 -- only a preference file has made atoms
@@ -46,10 +48,10 @@ module _ {kind : Kind} {g : Gathered} {words bytes : List ℕ} (h : Held kind (s
   pub formed_preference : Formed (state_of kind g words bytes) → Formed (state_of Preference g words bytes)
   formed_preference = subst (λ k. Formed (state_of k g words bytes)) e
 
-  pub line_preference : {f : LineForm} {words' bytes' starts firsts links : List ℕ} {r : Line} → LineIs Preference (state_of Preference g words bytes) f words' bytes' starts firsts links r → LineIs kind (state_of kind g words bytes) f words' bytes' starts firsts links r
+  pub line_preference : {f : LineForm} {words' bytes' starts firsts links : List ℕ} {r : Result Gathered Refusal} → LineIs Preference (state_of Preference g words bytes) f words' bytes' starts firsts links r → LineIs kind (state_of kind g words bytes) f words' bytes' starts firsts links r
   line_preference {f} {words'} {bytes'} {starts} {firsts} {links} {r} = subst (λ k. LineIs k (state_of k g words bytes) f words' bytes' starts firsts links r) (sym e)
 
-  pub delivered_preference : {rules names rules' names' : List ℕ} {r : Read} → StateDelivered (placed (state_of Preference g words bytes)) rules names rules' names' r → StateDelivered (placed (state_of kind g words bytes)) rules names rules' names' r
+  pub delivered_preference : {rules names rules' names' : List ℕ} {r : Result ReadSizes ReadRefusal} → StateDelivered (placed (state_of Preference g words bytes)) rules names rules' names' r → StateDelivered (placed (state_of kind g words bytes)) rules names rules' names' r
   delivered_preference {rules} {names} {rules'} {names'} {r} = subst (λ k. StateDelivered (placed (state_of k g words bytes)) rules names rules' names' r) (sym e)
 
 module _ {kind : Kind} {g : Gathered} {words bytes : List ℕ} (h : Held kind (state_of kind g words bytes) g words bytes) (f : Formed (state_of kind g words bytes)) where
@@ -65,7 +67,7 @@ module _ {kind : Kind} {g : Gathered} {words bytes : List ℕ} (h : Held kind (s
     pub form_here : ProgramForm (program_of st)
     form_here = subst (λ z. ProgramForm (program_of z)) (none_placed st (made_here ∙ e)) (placed_form st f).0
 
-    pub delivered_here : {rules names rules' names' : List ℕ} {r : Read} → StateDelivered st rules names rules' names' r → StateDelivered (placed st) rules names rules' names' r
+    pub delivered_here : {rules names rules' names' : List ℕ} {r : Result ReadSizes ReadRefusal} → StateDelivered st rules names rules' names' r → StateDelivered (placed st) rules names rules' names' r
     delivered_here {rules} {names} {rules'} {names'} {r} = subst (λ z. StateDelivered z rules names rules' names' r) (sym (none_placed st (made_here ∙ e)))
 
   -- some are
@@ -81,5 +83,5 @@ module _ {kind : Kind} {g : Gathered} {words bytes : List ℕ} (h : Held kind (s
     pub placed_held : Held Preference (state_of Preference g' words' bytes') g' words' bytes' × ProgramForm (program_of (state_of Preference g' words' bytes'))
     placed_held = let is = held_is h' in (subst (λ z. Held Preference z g' words' bytes') is h', subst (λ z. ProgramForm (program_of z)) is (placed_form st f).0)
 
-    pub placed_delivered : {rules names rules' names' : List ℕ} {r : Read} → StateDelivered (state_of Preference g' words' bytes') rules names rules' names' r → StateDelivered (placed st) rules names rules' names' r
+    pub placed_delivered : {rules names rules' names' : List ℕ} {r : Result ReadSizes ReadRefusal} → StateDelivered (state_of Preference g' words' bytes') rules names rules' names' r → StateDelivered (placed st) rules names rules' names' r
     placed_delivered {rules} {names} {rules'} {names'} {r} = subst (λ z. StateDelivered z rules names rules' names' r) (sym (held_is h'))

@@ -7,6 +7,7 @@ use mathlib.Core.Bool.{Bool, true, false, not, cond}
 use mathlib.Core.List.{List, [], ◌∷◌}
 use lib.ListN.{length, length-append, drop, drop_of_length-le}
 use borrow.Author.Tests.{not-true, not-false}
+use Rattle.std.specs.Prelude.{Option, Some, None, Result, Ok, Err}
 use Rattle.kinds.specs.Words.{atoms_word}
 use Rattle.kinds.specs.declared.limits.Kind.{Kind}
 use Rattle.kinds.specs.declared.limits.Kind.TheVariants.{Plain, Preference}
@@ -15,13 +16,9 @@ use Rattle.name_store.specs.NameStore.{same_bytes}
 use Rattle.kinds.specs.declared.refusals.Refusal.{Refusal}
 use Rattle.kinds.specs.declared.refusals.Refusal.TheVariants.{BrokenForm}
 use Rattle.gathering.specs.declared.gathered.Gathered.{Gathered}
-use Rattle.gathering.specs.declared.gathered.Line.{Line}
-use Rattle.gathering.specs.declared.gathered.Line.TheVariants.{Next, Fault}
-use Rattle.reader.specs.declared.reading.Gather.{Gather}
-use Rattle.reader.specs.declared.reading.Gather.TheVariants.{Whole, Refused}
+use Rattle.answers.specs.declared.ReadRefusal.{ReadRefusal}
+use Rattle.answers.specs.Reading.{read_refusal}
 use Rattle.lines.specs.Lines.{line_length, lines_from, lines}
-use Rattle.lines.specs.declared.scan.Place.{Place}
-use Rattle.lines.specs.declared.scan.Place.TheVariants as Place
 use Rattle.lines.specs.Tokens.{Token, tokens}
 use Rattle.lines.specs.Shapes.{opens_with, OpenedSays, OpenedIs}
 use Rattle.lines.specs.Forms.{Opened, opened, unopened, opened_of, LineForm, declares, rules, condition, blank, broken, form_of}
@@ -48,14 +45,24 @@ more_rules st after blank e = let same : st ≡ after = cc in omega (arith, ap (
 more_rules st after broken e = absurd (let z : ◌≡◌ {A = ℕ} 0 1 = cc in omega arith)
 
 module _ {kind : Kind} {g : Gathered} {words bytes : List ℕ} (h : Held kind (state_of kind g words bytes) g words bytes) {f : LineForm} where
-  pub later_marks : {words' bytes' starts' firsts' links' : List ℕ} {a : Line} → LineIs kind (state_of kind g words bytes) f words' bytes' starts' firsts' links' a → {marks : List ℕ} → HeldMarks g marks → MarksAre marks a
+  pub later_marks : {words' bytes' starts' firsts' links' : List ℕ} {a : Result Gathered Refusal} → LineIs kind (state_of kind g words bytes) f words' bytes' starts' firsts' links' a → {marks : List ℕ} → HeldMarks g marks → MarksAre marks a
   later_marks {words'} {bytes'} {starts'} {firsts'} {links'} {a} w {marks} m = record { says = go a w.says }
     where
-      go : (b : Line) → LineSays kind (state_of kind g words bytes) f words' bytes' starts' firsts' links' b → MarksSay marks b
-      go (Fault r) k = tt
-      go (Next g') k =
+      go : (b : Result Gathered Refusal) → LineSays kind (state_of kind g words bytes) f words' bytes' starts' firsts' links' b → MarksSay marks b
+      go (Err r) k = tt
+      go (Ok g') k =
           let more = more_rules (state_of kind g words bytes) (state_of kind g' words' bytes') f k.0 in
           record { below = record { mark = λ x. omega (arith, m.below.mark x, more, rules_is k.1, rules_is h) }; room = m.room }
+
+-- what a line gives, by what is passed on
+
+ok_passed : (a : Result Gathered Refusal) (k : ℕ) {g : Gathered} → passed_on a k ≡ Ok g → a ≡ Ok g
+ok_passed (Ok h) k {g} e = let z : h ≡ g = cc in ap Ok z
+ok_passed (Err r) k e = absurd (let z : ◌≡◌ {A = ℕ} 0 1 = cc in omega arith)
+
+fault_passed : (a : Result Gathered Refusal) (k : ℕ) {f : ReadRefusal} → passed_on a k ≡ Err f → (a ≡ Err f.refusal) × (f.line ≡ k)
+fault_passed (Ok h) k e = absurd (let z : ◌≡◌ {A = ℕ} 0 1 = cc in omega arith)
+fault_passed (Err r) k {f} e = let z : read_refusal r k ≡ f = cc in (ap (λ (x : ReadRefusal). Err x.refusal) z, ap (λ (x : ReadRefusal). x.line) (sym z))
 
 -- the lines before `at` are read
 pub record Reading (kind : Kind) (s : List ℕ) (g : Gathered) (words bytes starts firsts links marks : List ℕ) (at number : ℕ) : Type 0 where
@@ -94,10 +101,10 @@ module _ {kind : Kind} {s : List ℕ} {g : Gathered} {words bytes starts firsts 
     unfolding read_lines lines lines_from
     lines_end = ap (λ l. read_lines number st (lines_from 0 l)) (sym (drop_of_length-le s o)) ∙ h.left
 
-    pub no_line_left : {q : Gather} → q ≡ at_end g number → GatherIs kind whole words bytes q
+    pub no_line_left : {q : Result Gathered ReadRefusal} → q ≡ at_end g number → GatherIs kind whole words bytes q
     no_line_left k = record { says = subst (GatherSays kind whole words bytes) (sym k) (go (is_ruling g.stage) (sym (ap is_ruling h.held.stage_is))) }
       where
-        go : (r : Bool) → is_ruling st.stage ≡ r → GatherSays kind whole words bytes (cond r (Whole g) (Refused BrokenForm number))
+        go : (r : Bool) → is_ruling st.stage ≡ r → GatherSays kind whole words bytes (cond r (Ok g) (Err (read_refusal BrokenForm number)))
         go true d = (sym (rw d at lines_end), h.held, h.formed)
         go false d = sym (rw d at lines_end)
 
@@ -106,28 +113,32 @@ module _ {kind : Kind} {s : List ℕ} {g : Gathered} {words bytes starts firsts 
     unfolding read_lines
     step = ap (read_lines number st) (sym (lines_at s at l e)) ∙ h.left
 
-    module _ {words' bytes' starts' firsts' links' marks' : List ℕ} {a : Line} (w : LineIs kind st (form_of (line s at l e)) words' bytes' starts' firsts' links' a) (m : MarksAre marks' a) where
-      said : {b : Line} → a ≡ b → LineSays kind st (form_of (line s at l e)) words' bytes' starts' firsts' links' b
+    module _ {words' bytes' starts' firsts' links' marks' : List ℕ} {a : Result Gathered Refusal} (w : LineIs kind st (form_of (line s at l e)) words' bytes' starts' firsts' links' a) (m : MarksAre marks' a) where
+      said : {b : Result Gathered Refusal} → a ≡ b → LineSays kind st (form_of (line s at l e)) words' bytes' starts' firsts' links' b
       said d = subst (LineSays kind st (form_of (line s at l e)) words' bytes' starts' firsts' links') d w.says
 
-      pub line_refused : {f : Refusal} → a ≡ Fault f → whole ≡ refused f number
+      pub line_refused : {f : Refusal} → a ≡ Err f → whole ≡ refused f number
       line_refused d = sym (rw (said d) at step)
 
-      pub line_read : {g' : Gathered} → a ≡ Next g' → Reading kind s g' words' bytes' starts' firsts' links' marks' (at + n) (number + 1)
-      line_read {g'} d =
-          let k = said d in
-          record {
-            inside = (line_inside s at l e).0;
-            few = omega (arith, h.few, (line_inside s at l e).1);
-            held = k.1;
-            index = k.2;
-            marked = subst (MarksSay marks') d m.says;
-            formed = line_formed st (state_of kind g' words' bytes') (form_of (line s at l e)) h.formed k.0;
-            left = ap (λ m. read_lines m (state_of kind g' words' bytes') (lines (drop (at + n) s))) (add-one number) ∙ (rw k.0 at step);
-          }
+      module _ {p : Result Gathered ReadRefusal} (k : p ≡ passed_on a number) where
+        pub line_read : {g' : Gathered} → p ≡ Ok g' → Reading kind s g' words' bytes' starts' firsts' links' marks' (at + n) (number + 1)
+        line_read {g'} d =
+            let b = ok_passed a number (sym k ∙ d) in
+            let t = said b in
+            record {
+              inside = (line_inside s at l e).0;
+              few = omega (arith, h.few, (line_inside s at l e).1);
+              held = t.1;
+              index = t.2;
+              marked = subst (MarksSay marks') b m.says;
+              formed = line_formed st (state_of kind g' words' bytes') (form_of (line s at l e)) h.formed t.0;
+              left = ap (λ m. read_lines m (state_of kind g' words' bytes') (lines (drop (at + n) s))) (add-one number) ∙ (rw t.0 at step);
+            }
 
-      pub line_passed : {f : Refusal} → a ≡ Fault f → {q : Gather} → q ≡ passed_on a number → GatherIs kind whole words' bytes' q
-      line_passed d k = record { says = subst (GatherSays kind whole words' bytes') (sym (k ∙ ap (λ x. passed_on x number) d)) (line_refused d) }
+        pub line_passed : {f : ReadRefusal} → p ≡ Err f → {q : Result Gathered ReadRefusal} → q ≡ Err f → GatherIs kind whole words' bytes' q
+        line_passed {f} d r =
+            let b = fault_passed a number (sym k ∙ d) in
+            record { says = subst (GatherSays kind whole words' bytes') (sym r) (line_refused b.0 ∙ ap (refused f.refusal) (sym b.1)) }
 
 -- the kind, by the first line that is not blank
 
@@ -163,12 +174,12 @@ module _ {s : List ℕ} {at : ℕ} (h : Telling s at) where
         go (t ∷ ts) m = refl
 
 -- the kind of one line
-module _ (l : List ℕ) {q : Place} (o : OpenedIs l 0 atoms_word q) where
-  pub tells_plain : {p : ℕ} → q ≡ Place.At p → Plain ≡ kind_opened (opened_of (tokens l))
+module _ (l : List ℕ) {q : Option ℕ} (o : OpenedIs l 0 atoms_word q) where
+  pub tells_plain : {p : ℕ} → q ≡ Some p → Plain ≡ kind_opened (opened_of (tokens l))
   unfolding same_bytes
-  tells_plain {p} e = let k : OpenedSays l 0 atoms_word (Place.At p) = subst (OpenedSays l 0 atoms_word) e o.says in sym (ap kind_opened k.1)
+  tells_plain {p} e = let k : OpenedSays l 0 atoms_word (Some p) = subst (OpenedSays l 0 atoms_word) e o.says in sym (ap kind_opened k.1)
 
-  pub tells_preference : q ≡ Place.Absent → Preference ≡ kind_opened (opened_of (tokens l))
+  pub tells_preference : q ≡ None → Preference ≡ kind_opened (opened_of (tokens l))
   tells_preference e = go (opened_of (tokens l)) (subst (OpenedSays l 0 atoms_word) e o.says)
     where
       go : (t : Opened) → opens_with atoms_word t ≡ false → Preference ≡ kind_opened t

@@ -6,25 +6,23 @@ use mathlib.Core.List.{List, [], ◌++◌, append-nil}
 use lib.ListN.{length, take, drop, replicate, take-append-drop}
 use lib.Seq.{length-take-le}
 use borrow.Author.Tests.{lt-leb, le-leb}
+use Rattle.std.specs.Prelude.{Result, Ok, Err}
 use Rattle.kinds.specs.Sizes.{store_words, store_bytes}
 use Rattle.kinds.specs.Limits.{atom_limit, text_limit, empty_counts}
 use Rattle.kinds.specs.declared.limits.Kind.{Kind}
 use Rattle.kinds.specs.declared.limits.Kind.TheVariants.{Plain, Preference}
-use Rattle.kinds.specs.declared.refusals.Refusal.{Refusal}
 use Rattle.kinds.specs.declared.refusals.Refusal.TheVariants.{TextTooLong}
 use Rattle.name_store.specs.NameStore.{encode_names, decode_names}
 use Rattle.name_store.specs.NameIndex.{buckets}
 use Rattle.stores.specs.Checking.{Below}
 use Rattle.stores.specs.RuleStore.{word_count}
-use Rattle.answers.specs.declared.Read.{Read}
-use Rattle.answers.specs.declared.Read.TheVariants.{Refused}
-use Rattle.reader.specs.declared.reading.Gather.{Gather}
-use Rattle.reader.specs.declared.reading.Gather.TheVariants as Gather
+use Rattle.answers.specs.declared.ReadSizes.{ReadSizes}
+use Rattle.answers.specs.declared.ReadRefusal.{ReadRefusal}
 use Rattle.gathering.specs.declared.gathered.Gathered.{Gathered}
 use Rattle.lines.specs.Lines.{lines}
 use Rattle.restriction.specs.Remaining.{remaining, remaining_names}
 use Rattle.lines.specs.Said.{kind_of, start, read_lines, typed, what_remains, said, program_of, placed}
-use Rattle.answers.specs.Reading.{read_answer, read_rules, read_names}
+use Rattle.answers.specs.Reading.{read_refusal, read_answer, read_rules, read_names}
 use Rattle.gathering.specs.Gathered.{state_of, Held, HeldIndex, HeldMarks}
 use Rattle.delivery.specs.Delivered.{Delivered}
 use Rattle.delivery.proofs.Outcomes.{refused_as, delivered_as}
@@ -76,7 +74,7 @@ pub start_marks : {marks : List ℕ} → Below 1 marks → length marks ≡ atom
 start_marks m i = record { below = record { mark = λ x. omega (arith, m.mark x) }; room = i }
 
 module _ (text rules names : List ℕ) where
-  pub too_long : text_limit < length text → (Refused TextTooLong 0 ≡ read_answer text (length rules) (length names)) × ((rules ≡ read_rules text rules names) × (names ≡ read_names text rules names))
+  pub too_long : text_limit < length text → (Err (read_refusal TextTooLong 0) ≡ read_answer text (length rules) (length names)) × ((rules ≡ read_rules text rules names) × (names ≡ read_names text rules names))
   unfolding said typed read_answer read_rules read_names
   too_long l = refused_as (said text) rules names (rw (lt-leb (length text) text_limit l))
 
@@ -89,15 +87,15 @@ module _ (text rules names : List ℕ) where
     unfolding said
     said_lines = ap what_remains typed_lines
 
-    module _ {kind : Kind} {words bytes : List ℕ} {q : Gather} (w : GatherIs kind (read_lines 1 (start text) (lines text)) words bytes q) where
-      gather : {p : Gather} → q ≡ p → GatherSays kind (read_lines 1 (start text) (lines text)) words bytes p
+    module _ {kind : Kind} {words bytes : List ℕ} {q : Result Gathered ReadRefusal} (w : GatherIs kind (read_lines 1 (start text) (lines text)) words bytes q) where
+      gather : {p : Result Gathered ReadRefusal} → q ≡ p → GatherSays kind (read_lines 1 (start text) (lines text)) words bytes p
       gather e = subst (GatherSays kind (read_lines 1 (start text) (lines text)) words bytes) e w.says
 
-      pub lines_refused : {f : Refusal} {k : ℕ} → q ≡ Gather.Refused f k → (Refused f k ≡ read_answer text (length rules) (length names)) × ((rules ≡ read_rules text rules names) × (names ≡ read_names text rules names))
+      pub lines_refused : {e : ReadRefusal} → q ≡ Err e → (Err e ≡ read_answer text (length rules) (length names)) × ((rules ≡ read_rules text rules names) × (names ≡ read_names text rules names))
       unfolding read_answer read_rules read_names
       lines_refused e = refused_as (said text) rules names (said_lines ∙ ap what_remains (gather e))
 
-      module _ {g : Gathered} (e : q ≡ Gather.Whole g) where
+      module _ {g : Gathered} (e : q ≡ Ok g) where
         abbrev st : SoFar
         st = state_of kind g words bytes
 
@@ -105,7 +103,7 @@ module _ (text rules names : List ℕ) where
         pub lines_held : Held kind st g words bytes × Formed st
         lines_held = ((gather e).1, (gather e).2)
 
-        pub delivered : {rules' names' : List ℕ} {r : Read} → Delivered (remaining (program_of (placed st))) (remaining_names (program_of (placed st)) (placed st).names) rules names rules' names' r
+        pub delivered : {rules' names' : List ℕ} {r : Result ReadSizes ReadRefusal} → Delivered (remaining (program_of (placed st))) (remaining_names (program_of (placed st)) (placed st).names) rules names rules' names' r
             → (r ≡ read_answer text (length rules) (length names)) × ((rules' ≡ read_rules text rules names) × (names' ≡ read_names text rules names))
         unfolding read_answer read_rules read_names
         delivered d = delivered_as (said text) rules names (said_lines ∙ ap what_remains (gather e).0) d

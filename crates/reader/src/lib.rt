@@ -10,13 +10,12 @@ ghost use Rattle.delivery.specs.Delivered.{Delivered};
 ghost use Rattle.reader.specs.FormedState.{Formed};
 ghost use Rattle.answers.specs.Reading.{read_answer, read_rules, read_names};
 
-use answers::Read;
+use answers::{Read, ReadRefusal};
 use gathering::gathered::Gathered;
 use kinds::limits::{Kind, Plain};
 use kinds::refusals::Refusal;
 use name_store::index::BUCKETS;
 use placing::made::place_made;
-use reading::Gather;
 
 // The atoms that conditions made are put in their place in stores of their own.
 fn deliver_placed(
@@ -67,10 +66,10 @@ pub fn read(text: &[u8], rules: &mut [u16], names: &mut [u8]) -> Read
     ensures names { names.new ≡ read_names text.now rules.old names.old }
 {
     if Kind::TEXT < text.len() {
-        return Read::Refused {
+        return Err(ReadRefusal {
             refusal: Refusal::TextTooLong,
             line: 0,
-        };
+        });
     }
     let kind = reading::kind_of(text);
     let mut words = [0u16; Plain::WORDS];
@@ -79,7 +78,7 @@ pub fn read(text: &[u8], rules: &mut [u16], names: &mut [u8]) -> Read
     let mut firsts = [0u16; BUCKETS];
     let mut links = [0u16; Plain::ATOMS];
     let mut marks = [0u16; Plain::ATOMS];
-    match reading::read_lines(
+    let gathered = reading::read_lines(
         text,
         kind,
         &mut words,
@@ -88,8 +87,6 @@ pub fn read(text: &[u8], rules: &mut [u16], names: &mut [u8]) -> Read
         &mut firsts,
         &mut links,
         &mut marks,
-    ) {
-        Gather::Whole(gathered) => deliver(kind, gathered, &mut words, &bytes, rules, names),
-        Gather::Refused { refusal, line } => Read::Refused { refusal, line },
-    }
+    )?;
+    deliver(kind, gathered, &mut words, &bytes, rules, names)
 }

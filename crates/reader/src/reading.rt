@@ -9,31 +9,24 @@ ghost use Rattle.lines.specs.Said.{kind_opened, kind_of, start, read_lines};
 ghost use Rattle.gathering.specs.Gathered.{state_of, Held, HeldIndex, HeldMarks, LineIs, MarksAre};
 ghost use Rattle.reader.specs.Gathering.{start_counts, passed_on, at_end, GatherIs};
 
+use answers::ReadRefusal;
 use condition_line::condition_line::{opens_condition, read_condition};
 use declaring::declared_line;
-use gathering::gathered::{Gathered, Line};
+use gathering::gathered::Gathered;
 use gathering::rule_line;
 use kinds::limits::{Counts, Kind};
 use kinds::refusals::Refusal;
 use lines::scan;
-use lines::scan::Place;
 use lines::stage::Stage;
-
-// What the lines of a text give: the counts beside the filled scratch stores, or the earliest faulty line with its refusal.
-#[derive(Clone, Copy)]
-pub enum Gather {
-    Whole(Gathered),
-    Refused { refusal: Refusal, line: usize },
-}
 
 // The kind that a line tells by its first word.
 fn line_kind(line: &[u8]) -> Kind
     ensures { result ≡ kind_opened (opened_of (tokens line.now)) }
 {
-    if let Place::At(_) = scan::opened_at(line, 0, b"atoms") {
-        return Kind::Plain;
+    match scan::opened_at(line, 0, b"atoms") {
+        Some(_) => Kind::Plain,
+        None => Kind::Preference,
     }
-    Kind::Preference
 }
 
 // The kind that the first line tells that is not blank.
@@ -43,9 +36,10 @@ pub fn kind_of(text: &[u8]) -> Kind
     let mut at: usize = 0;
     while at < text.len() {
         let to = at + scan::line_at(text, at);
-        let blank = scan::nothing_at(&text[at..to], 0);
+        let line = &text[at..to];
+        let blank = scan::nothing_at(line, 0);
         if !blank {
-            return line_kind(&text[at..to]);
+            return line_kind(line);
         }
         at = to;
     }
@@ -56,11 +50,10 @@ pub fn kind_of(text: &[u8]) -> Kind
 pub fn start_counts() -> Gathered
     ensures { result ≡ start_counts }
 {
-    let counts = Counts::empty();
     Gathered {
         stage: Stage::Declaring,
         classes: 0,
-        counts,
+        counts: Counts::empty(),
         made: 0,
         words: 4,
         bytes: 0,
@@ -78,7 +71,7 @@ fn read_statement(
     firsts: &[u16],
     links: &[u16],
     marks: &mut [u16],
-) -> Line
+) -> Result<Gathered, Refusal>
     requires line_len_bound { (length line.now ≤ text_limit) × (is_ruling gathered.stage ≡ true) }
     requires held { Held kind (state_of kind gathered words.old bytes.now) gathered words.old bytes.now }
     requires held_index { HeldIndex gathered bytes.now starts.now firsts.now links.now }
@@ -105,7 +98,7 @@ fn read_line(
     firsts: &mut [u16],
     links: &mut [u16],
     marks: &mut [u16],
-) -> Line
+) -> Result<Gathered, Refusal>
     requires line_len_bound { length line.now ≤ text_limit }
     requires held { Held kind (state_of kind gathered words.old bytes.old) gathered words.old bytes.old }
     requires held_index { HeldIndex gathered bytes.old starts.old firsts.old links.old }
@@ -113,8 +106,7 @@ fn read_line(
     ensures line_is { LineIs kind (state_of kind gathered words.old bytes.old) (form_of line.now) words.new bytes.new starts.new firsts.new links.new result }
     ensures marks_are { MarksAre marks.new result }
 {
-    let stage = gathered.stage;
-    if rule_line::is_ruling(stage) {
+    if rule_line::is_ruling(gathered.stage) {
         return read_statement(
             line, kind, gathered, words, bytes, starts, firsts, links, marks,
         );
@@ -123,29 +115,26 @@ fn read_line(
 }
 
 // A line's refusal, passed on with the line.
-fn passed_on(answer: Line, line: usize) -> Gather
+fn passed_on(answer: Result<Gathered, Refusal>, line: usize) -> Result<Gathered, ReadRefusal>
     ensures { result ≡ passed_on answer line }
 {
-    match answer {
-        Line::Next(gathered) => Gather::Whole(gathered),
-        Line::Fault(refusal) => Gather::Refused { refusal, line },
-    }
+    answer.map_err(|refusal| ReadRefusal { refusal, line })
 }
 
 // Behind the last line: the rules have begun, or the next line is missing.
-fn at_end(gathered: Gathered, number: usize) -> Gather
+fn at_end(gathered: Gathered, number: usize) -> Result<Gathered, ReadRefusal>
     ensures { result ≡ at_end gathered number }
 {
-    let stage = gathered.stage;
-    if rule_line::is_ruling(stage) {
-        return Gather::Whole(gathered);
+    if rule_line::is_ruling(gathered.stage) {
+        return Ok(gathered);
     }
-    Gather::Refused {
+    Err(ReadRefusal {
         refusal: Refusal::BrokenForm,
         line: number,
-    }
+    })
 }
 
+// What the lines of a text give: the counts beside the filled scratch stores, or the earliest faulty line with its refusal.
 pub fn read_lines(
     text: &[u8],
     kind: Kind,
@@ -155,7 +144,7 @@ pub fn read_lines(
     firsts: &mut [u16],
     links: &mut [u16],
     marks: &mut [u16],
-) -> Gather
+) -> Result<Gathered, ReadRefusal>
     requires text_len_bound { length text.now ≤ text_limit }
     requires held { Held kind (start text.now) start_counts words.old bytes.old }
     requires held_index { HeldIndex start_counts bytes.old starts.old firsts.old links.old }
@@ -178,10 +167,7 @@ pub fn read_lines(
             links,
             marks,
         );
-        let Line::Next(after) = answer else {
-            return passed_on(answer, number);
-        };
-        gathered = after;
+        gathered = passed_on(answer, number)?;
         number += 1;
         at = to;
     }

@@ -1,5 +1,7 @@
 use Prim.Native.Nat.{ℕ, ◌≤◌}
-use mathlib.Core.Path.{refl, sym}
+use mathlib.Core.Path.{refl, sym, ap, ◌∙◌}
+use Rattle.std.specs.Prelude.{Err}
+use Rattle.std.proofs.lemmas.Result.{err_from_is_err_and}
 use lib.ListN.{replicate, length-replicate}
 use Rattle.kinds.specs.Sizes.{store_words, store_bytes}
 use Rattle.kinds.specs.Limits.{atom_limit}
@@ -20,24 +22,6 @@ returns-then-text-gt-TEXT c =
       names = r.1.1;
     }
 
-pub slice_bounds-read_lines-end : goal.slice_bounds-read_lines-end
-slice_bounds-read_lines-end c = refl
-
-pub slice_bounds-read_lines-end-2 : goal.slice_bounds-read_lines-end-2
-slice_bounds-read_lines-end-2 c = refl
-
-pub slice_bounds-read_lines-end-3 : goal.slice_bounds-read_lines-end-3
-slice_bounds-read_lines-end-3 c = refl
-
-pub slice_bounds-read_lines-end-4 : goal.slice_bounds-read_lines-end-4
-slice_bounds-read_lines-end-4 c = refl
-
-pub slice_bounds-read_lines-end-5 : goal.slice_bounds-read_lines-end-5
-slice_bounds-read_lines-end-5 c = refl
-
-pub slice_bounds-read_lines-end-6 : goal.slice_bounds-read_lines-end-6
-slice_bounds-read_lines-end-6 c = refl
-
 pub read_lines-requires : goal.read_lines-requires
 read_lines-requires c =
     let room : buckets ≤ 4096 = omega arith in
@@ -48,35 +32,24 @@ read_lines-requires c =
       held_marks = start_marks (unmarked (atom_limit Plain)) (length-replicate {A = ℕ} (atom_limit Plain) 0);
     }
 
-pub slice_bounds-deliver-end : goal.slice_bounds-deliver-end
-slice_bounds-deliver-end c = sym c.read_lines.auto.words
-
-pub slice_bounds-deliver-end-in-Whole : goal.slice_bounds-deliver-end-in-Whole
-slice_bounds-deliver-end-in-Whole c = sym c.read_lines.auto.bytes
-
 pub deliver-requires : goal.deliver-requires
-deliver-requires c = lines_held c.args.text.now c.args.rules.now c.args.names.now c.if-text-gt-TEXT.false c.read_lines.ensures c.in-Whole.is
+deliver-requires c = lines_held c.args.text.now c.args.rules.now c.args.names.now c.if-text-gt-TEXT.false c.read_lines.ensures c.in_ok-gathered.was
 
-pub shape_of-rules : goal.shape_of-rules
-shape_of-rules c = c.deliver.auto.rules
-
-pub shape_of-names : goal.shape_of-names
-shape_of-names c = c.deliver.auto.names
-
-pub returns-in-Whole : goal.returns-in-Whole
-returns-in-Whole c =
-    let r = delivered c.args.text.now c.args.rules.now c.args.names.now c.if-text-gt-TEXT.false c.read_lines.ensures c.in-Whole.is c.deliver.ensures in
+pub returns : goal.returns
+returns c =
+    let r = delivered c.args.text.now c.args.rules.now c.args.names.now c.if-text-gt-TEXT.false c.read_lines.ensures c.in_ok-gathered.was c.deliver.ensures in
     record {
       answer = r.0;
       rules = r.1.0;
       names = r.1.1;
     }
 
-pub returns-in-Refused : goal.returns-in-Refused
-returns-in-Refused c =
-    let r = lines_refused c.args.text.now c.args.rules.now c.args.names.now c.if-text-gt-TEXT.false c.read_lines.ensures c.in-Refused.is in
+pub returns-in_err-gathered : goal.returns-in_err-gathered
+returns-in_err-gathered c =
+    let p = err_from_is_err_and c.from_residual.result c.from_residual.ensures.1 in
+    let r = lines_refused c.args.text.now c.args.rules.now c.args.names.now c.if-text-gt-TEXT.false c.read_lines.ensures c.in_err-gathered.was in
     record {
-      answer = r.0;
+      answer = p.1 ∙ ap Err p.2 ∙ r.0;
       rules = r.1.0;
       names = r.1.1;
     }

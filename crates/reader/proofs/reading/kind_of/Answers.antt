@@ -15,11 +15,8 @@ line_at-requires c = c.loop-at.invariant.inside
 pub overflow_add-to : goal.overflow_add-to
 overflow_add-to c = omega (arith, (line_inside c.args.text.now c.loop-at.at c.loop-at-test.true c.line_at.ensures).0)
 
-pub slice_bounds-nothing_at-end : goal.slice_bounds-nothing_at-end
-slice_bounds-nothing_at-end c = (line_inside c.args.text.now c.loop-at.at c.loop-at-test.true c.line_at.ensures).0
-
-pub slice_bounds-line_kind-end : goal.slice_bounds-line_kind-end
-slice_bounds-line_kind-end c = (line_inside c.args.text.now c.loop-at.at c.loop-at-test.true c.line_at.ensures).0
+pub slice_bounds-line-end : goal.slice_bounds-line-end
+slice_bounds-line-end c = (line_inside c.args.text.now c.loop-at.at c.loop-at-test.true c.line_at.ensures).0
 
 pub returns-then-not-blank : goal.returns-then-not-blank
 returns-then-not-blank c = line_tells c.loop-at.invariant c.loop-at-test.true c.line_at.ensures c.nothing_at-blank.ensures (ap not c.if-not-blank.true) c.line_kind.ensures

@@ -1,5 +1,7 @@
 use Prim.Native.Nat.{◌-◌}
-use mathlib.Core.Path.{refl, ◌∙◌}
+use mathlib.Core.Path.{refl, ap, ◌∙◌}
+use Rattle.std.specs.Prelude.{Err}
+use Rattle.std.proofs.lemmas.Result.{err_from_is_err_and}
 use Rattle.lines.proofs.LinePlaces.{line_inside, line_short}
 use Rattle.reader.proofs.LineByLine.{reading, no_line_left, line_read, line_passed}
 use native.Mathlib.Omega.{arith}
@@ -26,26 +28,10 @@ read_line-answer-requires c =
       held_marks = c.loop-at.invariant.6.marked;
     }
 
-pub shape_of-words-in_default : goal.shape_of-words-in_default
-shape_of-words-in_default c = c.read_line-answer.auto.words ∙ c.loop-at.invariant.0
-
-pub shape_of-bytes-in_default : goal.shape_of-bytes-in_default
-shape_of-bytes-in_default c = c.read_line-answer.auto.bytes ∙ c.loop-at.invariant.1
-
-pub shape_of-starts-in_default : goal.shape_of-starts-in_default
-shape_of-starts-in_default c = c.read_line-answer.auto.starts ∙ c.loop-at.invariant.2
-
-pub shape_of-firsts-in_default : goal.shape_of-firsts-in_default
-shape_of-firsts-in_default c = c.read_line-answer.auto.firsts ∙ c.loop-at.invariant.3
-
-pub shape_of-links-in_default : goal.shape_of-links-in_default
-shape_of-links-in_default c = c.read_line-answer.auto.links ∙ c.loop-at.invariant.4
-
-pub shape_of-marks-in_default : goal.shape_of-marks-in_default
-shape_of-marks-in_default c = c.read_line-answer.auto.marks ∙ c.loop-at.invariant.5
-
-pub returns-in_default : goal.returns-in_default
-returns-in_default c = line_passed c.loop-at.invariant.6 c.loop-at-test.true c.line_at.ensures c.read_line-answer.ensures.line_is c.read_line-answer.ensures.marks_are c.in_default.is c.passed_on.ensures
+pub returns-in_err-gathered : goal.returns-in_err-gathered
+returns-in_err-gathered c =
+    let p = err_from_is_err_and c.from_residual.result c.from_residual.ensures.1 in
+    line_passed c.loop-at.invariant.6 c.loop-at-test.true c.line_at.ensures c.read_line-answer.ensures.line_is c.read_line-answer.ensures.marks_are c.passed_on.ensures c.in_err-gathered.was (p.1 ∙ ap Err p.2)
 
 pub overflow_add-number : goal.overflow_add-number
 overflow_add-number c = omega (arith, c.loop-at.invariant.6.few, c.loop-at.invariant.6.inside, c.requires.text_len_bound)
@@ -54,25 +40,7 @@ pub loop-at-smaller : goal.loop-at-smaller
 loop-at-smaller c = let i = line_inside c.args.text.now c.loop-at.at c.loop-at-test.true c.line_at.ensures in omega (arith, i.0, i.1)
 
 pub loop-at-preserved : goal.loop-at-preserved
-loop-at-preserved c = (c.read_line-answer.auto.words ∙ c.loop-at.invariant.0, c.read_line-answer.auto.bytes ∙ c.loop-at.invariant.1, c.read_line-answer.auto.starts ∙ c.loop-at.invariant.2, c.read_line-answer.auto.firsts ∙ c.loop-at.invariant.3, c.read_line-answer.auto.links ∙ c.loop-at.invariant.4, c.read_line-answer.auto.marks ∙ c.loop-at.invariant.5, line_read c.loop-at.invariant.6 c.loop-at-test.true c.line_at.ensures c.read_line-answer.ensures.line_is c.read_line-answer.ensures.marks_are c.in-Next.is)
-
-pub shape_of-words : goal.shape_of-words
-shape_of-words c = c.loop-at.invariant.0
-
-pub shape_of-bytes : goal.shape_of-bytes
-shape_of-bytes c = c.loop-at.invariant.1
-
-pub shape_of-starts : goal.shape_of-starts
-shape_of-starts c = c.loop-at.invariant.2
-
-pub shape_of-firsts : goal.shape_of-firsts
-shape_of-firsts c = c.loop-at.invariant.3
-
-pub shape_of-links : goal.shape_of-links
-shape_of-links c = c.loop-at.invariant.4
-
-pub shape_of-marks : goal.shape_of-marks
-shape_of-marks c = c.loop-at.invariant.5
+loop-at-preserved c = (c.read_line-answer.auto.words ∙ c.loop-at.invariant.0, c.read_line-answer.auto.bytes ∙ c.loop-at.invariant.1, c.read_line-answer.auto.starts ∙ c.loop-at.invariant.2, c.read_line-answer.auto.firsts ∙ c.loop-at.invariant.3, c.read_line-answer.auto.links ∙ c.loop-at.invariant.4, c.read_line-answer.auto.marks ∙ c.loop-at.invariant.5, line_read c.loop-at.invariant.6 c.loop-at-test.true c.line_at.ensures c.read_line-answer.ensures.line_is c.read_line-answer.ensures.marks_are c.passed_on.ensures c.in_ok-gathered.was)
 
 pub returns : goal.returns
 returns c = no_line_left c.loop-at.invariant.6 c.loop-at-test.false c.at_end.ensures

@@ -9,4 +9,4 @@ with-counts k = record { stage = Declaring; classes = 0; counts = k; made = 0; w
 
 pub returns : goal.returns
 unfolding with-counts
-returns c = ap with-counts c.empty-counts.ensures
+returns c = ap with-counts c.empty.ensures
