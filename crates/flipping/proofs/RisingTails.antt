@@ -18,20 +18,8 @@ use Rattle.flipping.specs.Joined.{is_leading, behind}
 
 -- the tests of a place
 
-pub number_here : (l : List ℕ) (i r : ℕ) → i < length l → get_or l i 0 ≡ get_or l i r
-number_here l i r h = ap (λ (xs : List ℕ). get_or xs 0 r) (sym (byte_next l i h).is) ∙ get_or-drop i l 0 r ∙ ap (λ (k : ℕ). get_or l k r) (add-zero i)
-
-pub number_behind : (l : List ℕ) (i r : ℕ) → length l ≤ i → r ≡ get_or l i r
-number_behind l i r h = sym (get_or-eq_default l r h)
-
 pub first_left : (l : List ℕ) (i r : ℕ) → get_or l i r ≡ get_or (drop i l) 0 r
 first_left l i r = sym (get_or-drop i l 0 r ∙ ap (λ (k : ℕ). get_or l k r) (add-zero i))
-
-pub leads_here : (l : List ℕ) (i m : ℕ) → i < length l → eqb m (get_or l i 0) ≡ is_leading m (drop i l)
-leads_here l i m h = ap (is_leading m) (sym (byte_next l i h).is)
-
-pub none_leads : (l : List ℕ) (i m : ℕ) → length l ≤ i → false ≡ is_leading m (drop i l)
-none_leads l i m h = ap (is_leading m) (sym (drop_of_length-le l h))
 
 module _ (l : List ℕ) (i m : ℕ) {b : Bool} (e : b ≡ is_leading m (drop i l)) where
   pub led_inside : b ≡ true → i < length l

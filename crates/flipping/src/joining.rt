@@ -17,10 +17,10 @@ use output::words::push;
 fn number_at(list: &[u16], i: usize, end: usize) -> usize
     ensures { result ≡ get_or list.now i end }
 {
-    if i < list.len() {
-        return list[i] as usize;
+    match list.get(i) {
+        Some(number) => *number as usize,
+        None => end,
     }
-    end
 }
 
 // The smaller of two lists' numbers, or `end` behind both.
@@ -36,10 +36,10 @@ fn first_of(list: &[u16], i: usize, own: &[u16], j: usize, end: usize) -> usize
 fn is_at(list: &[u16], i: usize, rule: usize) -> bool
     ensures { result ≡ is_leading rule (drop i list.now) }
 {
-    if i < list.len() {
-        return rule == list[i] as usize;
+    match list.get(i) {
+        Some(number) => rule == *number as usize,
+        None => false,
     }
-    false
 }
 
 // Past the rule's number, if it is the one at the place.

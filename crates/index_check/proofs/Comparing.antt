@@ -1,31 +1,26 @@
--- Where each list is read up to, compared with where it ends.
-use Prim.Native.Nat.{ℕ, ◌+◌, ◌≤◌, ◌<◌}
-use mathlib.Core.Path.{◌≡◌}
-use mathlib.Core.Bool.{true, false}
-use mathlib.Core.List.{List}
+-- Where each list is read up to, compared with where it ends: pair by pair as by atom.
+use Prim.Native.Nat.{ℕ, suc, ◌+◌, ◌≤◌, ◌<◌}
+use native.Mathlib.Omega.{arith}
+use mathlib.Core.Path.{◌≡◌, refl, sym, ap, ap₂, ◌∙◌}
+use mathlib.Core.Bool.{Bool, ◌&&◌}
+use mathlib.Core.List.{List, [], ◌∷◌}
 use lib.Dec.{eqb}
 use lib.ListN.{length, get_or}
-use borrow.Author.Tests.{eq-eqb, ne_eqb}
-use Rattle.rules.specs.Lists.{from}
+use Rattle.std.specs.List.{list_all, zip}
+use Rattle.rules.specs.Lists.{every, from}
 use Rattle.index_check.specs.Lists.{is_all_read}
-use Rattle.index_check.proofs.Each.{EachLeft, each_begin, numbers_end, numbers_fails, numbers_again}
 
--- the first a lists are read to their ends
-pub record Comparing (next ends : List ℕ) (a : ℕ) : Type 0 where
-  pub left : EachLeft (λ b. eqb (get_or next b 0) (get_or ends b 0)) (from 0 (length next)) a
+pairs_same : (s : ℕ) (f : ℕ → Bool) (xs ys : List ℕ) → ((a : ℕ) → a < length xs → f (s + a) ≡ eqb (get_or xs a 0) (get_or ys a 0)) → length xs ≤ length ys
+    → list_all (λ (p : ℕ × ℕ). eqb p.0 p.1) (zip xs ys) ≡ every f (from s (length xs))
+pairs_same s f [] ys h l = refl
+pairs_same s f (x ∷ xs) [] h l = absurd (omega arith)
+pairs_same s f (x ∷ xs) (y ∷ ys) h l =
+    let z : s + 0 ≡ s = omega arith in
+    let here : eqb x y ≡ f s = sym (h 0 (omega arith)) ∙ ap f z in
+    ap₂ (λ (a b : Bool). a && b) here (pairs_same (suc s) f xs ys (λ a m. let e : suc s + a ≡ s + suc a = omega arith in ap f e ∙ h (suc a) (omega arith)) (omega arith))
 
-pub compare_begin : (next ends : List ℕ) → Comparing next ends 0
-compare_begin next ends = record { left = each_begin (λ b. eqb (get_or next b 0) (get_or ends b 0)) (from 0 (length next)) }
-
-module _ {next ends : List ℕ} {a : ℕ} (h : Comparing next ends a) where
-  pub compare_end : length next ≤ a → true ≡ is_all_read next ends
-  unfolding is_all_read
-  compare_end l = numbers_end h.left l
-
-  module _ (l : a < length next) where
-    pub not_read : (get_or next a 0 ≡ get_or ends a 0 → ⊥) → false ≡ is_all_read next ends
-    unfolding is_all_read
-    not_read e = numbers_fails h.left l (ne_eqb (get_or next a 0) (get_or ends a 0) e)
-
-    pub compare_again : get_or next a 0 ≡ get_or ends a 0 → Comparing next ends (a + 1)
-    compare_again e = record { left = numbers_again h.left l (eq-eqb (get_or next a 0) (get_or ends a 0) e) }
+pub all_pairs : (next ends : List ℕ) → length next ≤ length ends → list_all (λ (p : ℕ × ℕ). eqb p.0 p.1) (zip next ends) ≡ is_all_read next ends
+unfolding is_all_read
+all_pairs next ends l =
+    let f : ℕ → Bool = λ a. eqb (get_or next a 0) (get_or ends a 0) in
+    pairs_same 0 f next ends (λ a m. let z : 0 + a ≡ a = omega arith in ap f z) l

@@ -106,12 +106,7 @@ fn all_read(next: &[usize], ends: &[usize]) -> bool
     requires { length next.now ≤ length ends.now }
     ensures { result ≡ is_all_read next.now ends.now }
 {
-    for a in 0..next.len() {
-        if next[a] != ends[a] {
-            return false;
-        }
-    }
-    true
+    next.iter().zip(ends).all(|(at, end)| at == end)
 }
 
 // Whether `index` is the index of the rules; `places` then has where they start. `next` is as long as there are atoms.

@@ -1,16 +1,14 @@
-use Rattle.index_check.proofs.Comparing.{compare_begin, compare_end, not_read, compare_again}
-use native.Mathlib.Omega.{arith}
-use Prim.Native.Nat.{◌-◌}
+use Prim.Native.Nat.{ℕ}
+use mathlib.Core.Path.{◌≡◌, ◌∙◌}
+use lib.Dec.{eqb}
+use borrow.Author.Rules.{rules}
+use borrow.Author.Tests.{tests}
+use Rattle.std.proofs.lemmas.Iterator.{YieldsList-from_slice, YieldsList-from_zip}
+use Rattle.std.proofs.lemmas.Iterator.Search.{all_from_yields_List}
+use Rattle.index_check.proofs.Comparing.{all_pairs}
 use Rattle.index_check.proofs.lists.all_read.Goals as goal
 
-pub loop-a-init : goal.loop-a-init
-loop-a-init c = compare_begin _ _
-
-pub returns-then-next-a : goal.returns-then-next-a
-returns-then-next-a c = not_read c.loop-a.invariant c.loop-a-test.true (λ e. omega (arith, c.if-next-a.true))
-
-pub loop-a-preserved : goal.loop-a-preserved
-loop-a-preserved c = compare_again c.loop-a.invariant c.loop-a-test.true (omega (arith, c.if-next-a.false))
-
 pub returns : goal.returns
-returns c = compare_end c.loop-a.invariant c.loop-a-test.false
+returns c =
+    all_from_yields_List (λ (p : ℕ × ℕ). eqb p.0 p.1) c.all.new.self _ c.all.result c.all.ensures.ran (YieldsList-from_zip (YieldsList-from_slice c.args.next.now (search rules)) (YieldsList-from_slice c.args.ends.now (search rules))) (λ x b q k. search (rules, tests))
+    ∙ all_pairs c.args.next.now c.args.ends.now c.requires
