@@ -86,7 +86,3 @@ module _ (line : List ℕ) (at : ℕ) {from : ℕ} (q : from ≡ at + gap (drop 
     pub item_signed : (b : Bool) → eqb (get_or line from 0) 45 ≡ b → {k : ℕ} → k ≡ cond (not b) from (from + 1) → {r : Item} → r ≡ signed_item (not b) (drop k line) k → r ≡ item_at at (drop at line)
     item_signed true e f p = item_minus (eqb-true (get_or line from 0) 45 e) (p ∙ ap (λ (x : ℕ). signed_item false (drop x line) x) f)
     item_signed false e f p = item_plain (eqb-false (get_or line from 0) 45 e) (p ∙ ap (λ (x : ℕ). signed_item true (drop x line) x) f)
-
-    pub past_sign_inside : (b : Bool) {k : ℕ} → k ≡ cond b from (from + 1) → k ≤ length line
-    past_sign_inside true e = omega arith
-    past_sign_inside false e = omega arith

@@ -17,19 +17,17 @@ use Rattle.clauses.specs.Literals.{Literal, signed, atom_of}
 use Rattle.clauses.specs.Tokens.{literal, ends, is_wrong, line_tokens}
 use Rattle.clauses.specs.Gathered.{Gathered, with_literal, with_end, is_closed, begun, occurrences_in}
 use Rattle.clauses.specs.Faults.{fault, clause_line}
+use Rattle.std.specs.Prelude.{Option, Some, None, Result, Ok, Err}
 use Rattle.clause_items.specs.Found.{capped, item_at, TokenAt, ItemSays}
 use Rattle.clause_items.specs.declared.items.Item.{Item}
 use Rattle.clause_items.specs.declared.items.Item.TheVariants as Item
 use Rattle.clause_items.proofs.ItemLaws.{item_says}
 use Rattle.clause_items.proofs.CappedLaws.{capped_same, capped_over}
 use Rattle.clause_rules.specs.declared.clause.ClauseCounts.{ClauseCounts}
-use Rattle.clause_rules.specs.declared.clause.Taken.{Taken}
-use Rattle.clause_rules.specs.declared.clause.Taken.TheVariants as Taken
 use Rattle.clause_rules.specs.HeldClauses.{held, HeldClauses, SameHeader, TakenSays, TakenIs, EndedAs}
 use Rattle.clause_rules.proofs.HeldGathered.{held_clauses_is}
 use Rattle.clause_rules.proofs.LiteralMarks.{marked_end}
 use Rattle.clause_reader.specs.declared.clause_line.Progress.{Progress}
-use Rattle.clause_reader.specs.declared.clause_line.Progress.TheVariants.{Next, Fault}
 use Rattle.clause_reader.specs.Later.{later_refusal}
 use Rattle.clause_reader.specs.Reading.{Gathers, InClauses, is_full, ProgressSays, ProgressIs, LiteralSays, LiteralIs}
 use Rattle.clause_reader.proofs.TokenSteps.{begun_literal, begun_end, literal_unended, token_passed, token_surplus, token_beyond, token_full, line_wrong}
@@ -55,6 +53,10 @@ module _ {g : Gathered} {c : ClauseCounts} {words bodies marks : List ℕ} (k : 
       go true q false r f = omega (arith, eqb-false (length g.rules) c.clauses r, k.holds.rules_are, k.holds.rules_fit_lem)
       go true q true r f = absurd (subst T (sym (ap₂ ◌&&◌ q r) ∙ f) tt)
 
+-- what an item gives
+abbrev progress : ClauseCounts → ℕ → Result Progress Refusal
+progress d to = Ok (record { counts = d; at = to })
+
 literal_right : (l : Literal) → is_wrong (literal l) ≡ false
 literal_right l = refl
 
@@ -69,11 +71,11 @@ module _ (line : List ℕ) (at : ℕ) (inside : at < length line) {c : ClauseCou
   same_header : SameHeader c c
   same_header = record { atoms = refl; clauses = refl }
 
-  pub progress_stop : item ≡ Item.Stop → {to : ℕ} → to ≡ length line → ProgressIs line at c g words bodies marks (Next c to)
+  pub progress_stop : item ≡ Item.Stop → {to : ℕ} → to ≡ length line → ProgressIs line at c g words bodies marks (progress c to)
   progress_stop e {to} d =
       record { says = (same_header, k, omega arith, omega arith, ap (clause_line c.atoms c.clauses g) (said e ∙ sym (none_left line to (omega arith)))) }
 
-  pub progress_ended : {to : ℕ} → item ≡ Item.Ends to → is_full c ≡ false → {words' : List ℕ} {d : ClauseCounts} → EndedAs g c words' bodies d → ProgressIs line at c g words' bodies marks (Next d to)
+  pub progress_ended : {to : ℕ} → item ≡ Item.Ends to → is_full c ≡ false → {words' : List ℕ} {d : ClauseCounts} → EndedAs g c words' bodies d → ProgressIs line at c g words' bodies marks (progress d to)
   progress_ended {to} e f {words'} {d} h =
       let is = held_clauses_is h.holds in
       let few : begun (with_end g) ≤ d.clauses = omega (arith, begun_end g, no_surplus k f, h.header.clauses) in
@@ -91,32 +93,33 @@ module _ (line : List ℕ) (at : ℕ) (inside : at < length line) {c : ClauseCou
   literal_found e = let t = said e in (t.2.inside, omega (arith, t.1, (capped_over (suc t.0) 0 (omega arith)).1 (omega arith)))
 
   module _ {words' bodies' marks' : List ℕ} where
-    pub progress_broken : item ≡ Item.Broken → ProgressIs line at c g words' bodies' marks' (Fault BrokenClauses)
+    pub progress_broken : item ≡ Item.Broken → ProgressIs line at c g words' bodies' marks' (Err BrokenClauses)
     progress_broken e = record { says = line_wrong c.atoms c.clauses g (line_tokens (drop at line)) (said e) }
 
     module _ {to : ℕ} (e : item ≡ Item.Ends to) where
-      pub progress_surplus : is_full c ≡ true → ProgressIs line at c g words' bodies' marks' (Fault BrokenClauses)
+      pub progress_surplus : is_full c ≡ true → ProgressIs line at c g words' bodies' marks' (Err BrokenClauses)
       progress_surplus f =
           record { says = ap (clause_line c.atoms c.clauses g) (said e).tokens ∙ token_surplus c.atoms c.clauses g ends (line_tokens (drop to line)) (omega (arith, surplus k f, begun_end g)) }
 
-    pub progress_literal : {p : Bool} {number to : ℕ} → item ≡ Item.Literal p number to → {r : Progress} → LiteralIs line to c g p number words' bodies' marks' r → ProgressIs line at c g words' bodies' marks' r
-    progress_literal {p} {number} {to} e {r} l = record { says = go r l.says }
-      where
-        t : (a : ℕ) × (number ≡ capped (suc a)) × TokenAt line at (literal (signed p a)) to
-        t = said e
+    module _ {p : Bool} {number to : ℕ} (e : item ≡ Item.Literal p number to) {r : Result ClauseCounts Refusal} (l : LiteralIs line to c g p number words' bodies' marks' r) where
+      pub progress_literal : {d : ClauseCounts} → r ≡ Ok d → ProgressIs line at c g words' bodies' marks' (progress d to)
+      progress_literal {d} q =
+          let t = said e in
+          let h : LiteralSays line to c g p number words' bodies' marks' (Ok d) = subst (LiteralSays line to c g p number words' bodies' marks') q l.says in
+          record { says = (h.0, h.1, t.2.further, t.2.inside, ap (clause_line c.atoms c.clauses g) t.2.tokens ∙ h.2 t.0 t.1) }
 
-        go : (q : Progress) → LiteralSays line to c g p number words' bodies' marks' q → ProgressSays line at c g words' bodies' marks' q
-        go (Next d m) h =
-            let f = t.2.further in let i = t.2.inside in
-            (h.1, h.2, omega (arith, h.0), omega (arith, h.0), ap (clause_line c.atoms c.clauses g) t.2.tokens ∙ h.3 t.0 t.1 ∙ ap (λ x. clause_line c.atoms c.clauses (held d words' bodies') (line_tokens (drop x line))) (sym h.0))
-        go (Fault q) h = ap (clause_line c.atoms c.clauses g) t.2.tokens ∙ h t.0 t.1
+      pub progress_refused : {f : Refusal} → r ≡ Err f → ProgressIs line at c g words' bodies' marks' (Err f)
+      progress_refused {f} q =
+          let t = said e in
+          let h : LiteralSays line to c g p number words' bodies' marks' (Err f) = subst (LiteralSays line to c g p number words' bodies' marks') q l.says in
+          record { says = ap (clause_line c.atoms c.clauses g) t.2.tokens ∙ h t.0 t.1 }
 
 -- a literal that ends at `to`
 module _ (line : List ℕ) (to : ℕ) {c : ClauseCounts} {words bodies marks : List ℕ} (k : InClauses c words bodies marks) (p : Bool) (number : ℕ) where
   abbrev before : Gathered
   before = held c words bodies
 
-  pub literal_surplus : is_full c ≡ true → {words' bodies' marks' : List ℕ} → LiteralIs line to c before p number words' bodies' marks' (Fault BrokenClauses)
+  pub literal_surplus : is_full c ≡ true → {words' bodies' marks' : List ℕ} → LiteralIs line to c before p number words' bodies' marks' (Err BrokenClauses)
   literal_surplus f = record { says = λ a e. token_surplus c.atoms c.clauses before (literal (signed p a)) (line_tokens (drop to line)) (omega (arith, surplus k f, begun_literal before (signed p a))) }
 
   begun_is : (l : Literal) → begun (with_literal before l) ≡ c.rules + 1
@@ -125,7 +128,7 @@ module _ (line : List ℕ) (to : ℕ) {c : ClauseCounts} {words bodies marks : L
   is_beyond_lem : (a : ℕ) → number ≡ capped (suc a) → leb c.atoms (atom_of (signed p a)) ≡ ltb c.atoms number
   is_beyond_lem a e = ap (leb c.atoms) (atom_signed p a) ∙ sym (ap (ltb c.atoms) e ∙ over_beyond k.holds.atoms_fit a)
 
-  pub literal_beyond : c.atoms < number → {words' bodies' marks' : List ℕ} {r : Refusal} → r ≡ later_refusal c.atoms c.clauses (c.rules + 1) true true (line_tokens (drop to line)) → LiteralIs line to c before p number words' bodies' marks' (Fault r)
+  pub literal_beyond : c.atoms < number → {words' bodies' marks' : List ℕ} {r : Refusal} → r ≡ later_refusal c.atoms c.clauses (c.rules + 1) true true (line_tokens (drop to line)) → LiteralIs line to c before p number words' bodies' marks' (Err r)
   literal_beyond l q = record {
     says = λ a e. (
         token_beyond c.atoms c.clauses before (literal (signed p a)) (line_tokens (drop to line)) refl (literal_unended before (signed p a)) (is_beyond_lem a e ∙ lt-ltb c.atoms number l)
@@ -142,15 +145,14 @@ module _ (line : List ℕ) (to : ℕ) {c : ClauseCounts} {words bodies marks : L
     not_beyond : (a : ℕ) → number ≡ capped (suc a) → leb c.atoms (atom_of (signed p a)) ≡ false
     not_beyond a e = is_beyond_lem a e ∙ le-ltb c.atoms number l
 
-    module _ {words' bodies' marks' : List ℕ} {r : Taken} (w : TakenIs before c (signed p atom) words' bodies' marks' r) where
-      pub literal_taken : is_full c ≡ false → {d : ClauseCounts} → r ≡ Taken.Next d → LiteralIs line to c before p number words' bodies' marks' (Next d to)
+    module _ {words' bodies' marks' : List ℕ} {r : Option ClauseCounts} (w : TakenIs before c (signed p atom) words' bodies' marks' r) where
+      pub literal_taken : is_full c ≡ false → {d : ClauseCounts} → r ≡ Some d → LiteralIs line to c before p number words' bodies' marks' (Ok d)
       literal_taken f {d} q =
-          let t : TakenSays before c (signed p atom) words' bodies' marks' (Taken.Next d) = subst (TakenSays before c (signed p atom) words' bodies' marks') q w.says in
+          let t : TakenSays before c (signed p atom) words' bodies' marks' (Some d) = subst (TakenSays before c (signed p atom) words' bodies' marks') q w.says in
           let is = held_clauses_is t.1 in
           let few : begun (with_literal before (signed p atom)) ≤ d.clauses = omega (arith, begun_literal before (signed p atom), no_surplus k f, t.0.clauses) in
           record {
             says = (
-              refl,
               t.0,
               subst (λ x. Gathers x d words' bodies' marks') is (record { holds = t.1; marked = t.2; few = few }),
               λ a e. (
@@ -161,7 +163,7 @@ module _ (line : List ℕ) (to : ℕ) {c : ClauseCounts} {words bodies marks : L
             );
           }
 
-      pub literal_full : r ≡ Taken.Full → {q : Refusal} → q ≡ later_refusal c.atoms c.clauses (c.rules + 1) true false (line_tokens (drop to line)) → LiteralIs line to c before p number words' bodies' marks' (Fault q)
+      pub literal_full : r ≡ None → {q : Refusal} → q ≡ later_refusal c.atoms c.clauses (c.rules + 1) true false (line_tokens (drop to line)) → LiteralIs line to c before p number words' bodies' marks' (Err q)
       literal_full x {q} y =
           let full : occurrence_limit Preference < occurrences_in (with_literal before (signed p atom)) = subst (TakenSays before c (signed p atom) words' bodies' marks') x w.says in
           record {

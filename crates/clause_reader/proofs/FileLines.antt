@@ -11,7 +11,8 @@ use borrow.Author.Tests.{eq-eqb, ne_eqb}
 use Rattle.kinds.specs.Limits.{atom_limit, rule_limit}
 use Rattle.kinds.specs.Words.{byte}
 use Rattle.kinds.specs.declared.limits.Kind.TheVariants.{Preference}
-use Rattle.kinds.specs.declared.refusals.Refusal.TheVariants.{BrokenClauses, Limit}
+use Rattle.kinds.specs.declared.refusals.Refusal.{Refusal}
+use Rattle.kinds.specs.declared.refusals.Refusal.TheVariants.{BrokenClauses}
 use Rattle.clauses.specs.Items.{items, items_from, is_comment}
 use Rattle.lines.specs.Lines.{is_ended}
 use Rattle.clauses.specs.Tokens.{token_of, line_tokens}
@@ -20,14 +21,11 @@ use Rattle.clauses.specs.Faults.{State, unheaded, headed, Step, next, fault, hea
 use Rattle.clauses.proofs.HeadedLines.{header_begun}
 use Rattle.clause_items.specs.Found.{gap, header_step}
 use Rattle.clause_items.specs.declared.header.Header.{Header}
-use Rattle.clause_items.specs.declared.header.Header.TheVariants as Header
+use Rattle.std.specs.Prelude.{Option, Some, Result, Ok, Err}
 use Rattle.clause_items.proofs.Gaps.{from_inside, item_byte, behind_gap, items_gap, items_first}
 use Rattle.clause_rules.specs.declared.clause.ClauseCounts.{ClauseCounts}
 use Rattle.clause_rules.specs.HeldClauses.{Started}
 use Rattle.clause_rules.proofs.HeldGathered.{held_clauses_is}
-use Rattle.clause_reader.specs.declared.clause_line.Reading.TheVariants.{Headed}
-use Rattle.clause_reader.specs.declared.clause_line.Line.{Line}
-use Rattle.clause_reader.specs.declared.clause_line.Line.TheVariants.{Next, Fault}
 use Rattle.clause_reader.specs.Reading.{Gathers, Empty, LineIs}
 
 pub ended_filled : (l : List ℕ) → is_ended l ≡ true → 0 < length l
@@ -74,16 +72,16 @@ module _ (st : State) (l : List ℕ) where
           pub line_unheaded : st ≡ unheaded → step_line st l ≡ header_line (items l)
           line_unheaded k = let t = items_filled f in by_items ∙ ap₂ step_items k t.2 ∙ ap header_line (sym t.2)
 
-pub step_is : {s t : Step} → s ≡ t → {words bodies marks : List ℕ} {r : Line} → LineIs t words bodies marks r → LineIs s words bodies marks r
+pub step_is : {s t : Step} → s ≡ t → {words bodies marks : List ℕ} {r : Result (Option ClauseCounts) Refusal} → LineIs t words bodies marks r → LineIs s words bodies marks r
 step_is e {words} {bodies} {marks} {r} h = subst (λ x. LineIs x words bodies marks r) (sym e) h
 
 -- the header
 
-pub header_fits : (l : List ℕ) {r : Header} → header_line (items l) ≡ header_step r → {n m : ℕ} → r ≡ Header.Taken n m → (n ≤ atom_limit Preference) × (m ≤ rule_limit Preference)
-header_fits l e {n} {m} k =
-    let b = header_begun (items l) (headed n m nothing) (e ∙ ap header_step k) in
-    let x : n ≡ b.atoms = ap atoms_of b.after_is in
-    let y : m ≡ b.clauses = ap clauses_of b.after_is in
+pub header_fits : (l : List ℕ) {r : Result Header Refusal} → header_line (items l) ≡ header_step r → {h : Header} → r ≡ Ok h → (h.atoms ≤ atom_limit Preference) × (h.clauses ≤ rule_limit Preference)
+header_fits l e {h} k =
+    let b = header_begun (items l) (headed h.atoms h.clauses nothing) (e ∙ ap header_step k) in
+    let x : h.atoms ≡ b.atoms = ap atoms_of b.after_is in
+    let y : h.clauses ≡ b.clauses = ap clauses_of b.after_is in
     (omega (arith, b.atoms_fit), omega (arith, b.clauses_fit))
   where
     atoms_of : State → ℕ
@@ -94,9 +92,9 @@ header_fits l e {n} {m} k =
     clauses_of unheaded = 0
     clauses_of (headed a c g) = c
 
-module _ (l : List ℕ) {words bodies marks : List ℕ} (empty : Empty words bodies marks) {r : Header} (e : header_line (items l) ≡ header_step r) where
-  pub header_taken : {n m : ℕ} → r ≡ Header.Taken n m → {words' : List ℕ} {c : ClauseCounts} → Started n m words' c → LineIs (header_line (items l)) words' bodies marks (Next (Headed c))
-  header_taken {n} {m} k {words'} {c} s =
+module _ (l : List ℕ) {words bodies marks : List ℕ} (empty : Empty words bodies marks) {r : Result Header Refusal} (e : header_line (items l) ≡ header_step r) where
+  pub header_taken : {h : Header} → r ≡ Ok h → {words' : List ℕ} {c : ClauseCounts} → Started h.atoms h.clauses words' c → LineIs (header_line (items l)) words' bodies marks (Ok (Some c))
+  header_taken k {words'} {c} s =
       let h = s.holds bodies empty.bodies_room in
       let is = held_clauses_is h in
       record {
@@ -106,8 +104,5 @@ module _ (l : List ℕ) {words bodies marks : List ℕ} (empty : Empty words bod
         );
       }
 
-  pub header_past : r ≡ Header.PastLimit → {words' : List ℕ} → LineIs (header_line (items l)) words' bodies marks (Fault Limit)
-  header_past k = record { says = e ∙ ap header_step k }
-
-  pub header_broken : r ≡ Header.Broken → {words' : List ℕ} → LineIs (header_line (items l)) words' bodies marks (Fault BrokenClauses)
-  header_broken k = record { says = e ∙ ap header_step k }
+  pub header_refused : {f : Refusal} → r ≡ Err f → {words' : List ℕ} → LineIs (header_line (items l)) words' bodies marks (Err f)
+  header_refused k = record { says = e ∙ ap header_step k }

@@ -7,6 +7,7 @@ use mathlib.Core.List.{List, [], ◌∷◌}
 use lib.Dec.{ltb, leb}
 use lib.ListN.{length, drop, drop_of_length-le}
 use borrow.Author.Tests.{lt-ltb, le-ltb, le-leb, ltb-true, ltb-false, leb-true}
+use Rattle.std.specs.Prelude.{Option, Some, None}
 use Rattle.kinds.specs.Limits.{atom_limit}
 use Rattle.kinds.specs.declared.limits.Kind.TheVariants.{Preference}
 use Rattle.kinds.specs.declared.refusals.Refusal.TheVariants.{BrokenClauses, LiteralBeyond, Limit}
@@ -22,8 +23,7 @@ use Rattle.clause_items.proofs.CappedLaws.{capped_over}
 use Rattle.clause_items.proofs.ItemLaws.{item_says}
 use Rattle.clause_reader.specs.declared.later.Pending.{Pending}
 use Rattle.clause_reader.specs.declared.later.Later.{Later}
-use Rattle.clause_reader.specs.declared.later.Later.TheVariants.{Next, Broken}
-use Rattle.clause_reader.specs.Later.{begun_after, later_refusal, refusal_from, LaterSays, LaterIs}
+use Rattle.clause_reader.specs.Later.{begun_after, later_refusal, refusal_from, BegunSays, BegunIs, LaterSays, LaterIs}
 use Rattle.clause_reader.proofs.TokenSteps.{after_more}
 
 -- no token behind the last byte
@@ -58,6 +58,17 @@ module _ (n m k : ℕ) (u b : Bool) where
       go true = rw (le-ltb m k l)
       go false = rw (le-ltb m k l)
 
+-- what an item leaves
+abbrev later : Pending → ℕ → Option Later
+later p to = Some (record { pending = p; at = to })
+
+module _ {m k : ℕ} {r : Option ℕ} (b : BegunIs m k r) where
+  begun_is : {j : ℕ} → r ≡ Some j → BegunSays m k (Some j)
+  begun_is e = subst (BegunSays m k) e b.says
+
+  begun_none : r ≡ None → m < k
+  begun_none e = subst (BegunSays m k) e b.says
+
 pub atom_signed : (p : Bool) (a : ℕ) → atom_of (signed p a) ≡ a
 atom_signed true a = refl
 atom_signed false a = refl
@@ -78,38 +89,44 @@ module _ (line : List ℕ) (at n m : ℕ) (p : Pending) (inside : at < length li
   said : {i : Item} → item ≡ i → ItemSays line at i
   said e = subst (ItemSays line at) (sym found ∙ e) (item_says line at (omega arith))
 
-  pub later_stop : item ≡ Item.Stop → p.begun ≤ m → {to : ℕ} → to ≡ length line → LaterIs line at n m p (Next p to)
+  pub later_stop : item ≡ Item.Stop → p.begun ≤ m → {to : ℕ} → to ≡ length line → LaterIs line at n m p (later p to)
   later_stop e l {to} d = record { says = (ap (refusal_from n m p) (said e ∙ sym (none_left line to (omega arith))), omega arith, omega arith, l) }
 
-  pub later_broken : item ≡ Item.Broken → LaterIs line at n m p Broken
+  pub later_broken : item ≡ Item.Broken → LaterIs line at n m p None
   later_broken e = record { says = later_wrong n m p.begun p.unended p.beyond (line_tokens (drop at line)) (said e) }
 
-  module _ {k : ℕ} (b : k ≡ cond p.unended p.begun (suc p.begun)) where
+  abbrev k : ℕ
+  k = cond p.unended p.begun (suc p.begun)
+
+  module _ {begun : Option ℕ} (b : BegunIs m k begun) where
     module _ {to : ℕ} (e : item ≡ Item.Ends to) where
       rest_ended : refusal_from n m p (line_tokens (drop at line)) ≡ later_refusal n m k false p.beyond (line_tokens (drop to line))
-      rest_ended = ap (refusal_from n m p) (said e).tokens ∙ later_ends n m p.begun p.unended p.beyond (line_tokens (drop to line)) ∙ ap (λ j. later_refusal n m j false p.beyond (line_tokens (drop to line))) (sym b)
+      rest_ended = ap (refusal_from n m p) (said e).tokens ∙ later_ends n m p.begun p.unended p.beyond (line_tokens (drop to line))
 
-      pub later_ended : k ≤ m → LaterIs line at n m p (Next (record { begun = k; unended = false; beyond = p.beyond }) to)
-      later_ended l = record { says = (rest_ended, (said e).further, (said e).inside, l) }
+      pub later_ended : {j : ℕ} → begun ≡ Some j → LaterIs line at n m p (later (record { begun = j; unended = false; beyond = p.beyond }) to)
+      later_ended d =
+          let q = begun_is b d in
+          record { says = (rest_ended ∙ ap (λ i. later_refusal n m i false p.beyond (line_tokens (drop to line))) (sym q.0), (said e).further, (said e).inside, q.1) }
 
-      pub later_ended_surplus : m < k → LaterIs line at n m p Broken
-      later_ended_surplus l = record { says = rest_ended ∙ later_surplus n m k false p.beyond (line_tokens (drop to line)) l }
+      pub later_ended_surplus : begun ≡ None → LaterIs line at n m p None
+      later_ended_surplus d = record { says = rest_ended ∙ later_surplus n m k false p.beyond (line_tokens (drop to line)) (begun_none b d) }
 
     module _ {positive : Bool} {number to : ℕ} (e : item ≡ Item.Literal positive number to) where
       rest_taken : (a : ℕ) → TokenAt line at (literal (signed positive a)) to → refusal_from n m p (line_tokens (drop at line)) ≡ later_refusal n m k true (p.beyond || leb n a) (line_tokens (drop to line))
       rest_taken a t =
           ap (refusal_from n m p) t.tokens
           ∙ later_literal n m p.begun p.unended p.beyond (signed positive a) (line_tokens (drop to line))
-          ∙ ap₂ (λ j c. later_refusal n m j true (p.beyond || leb n c) (line_tokens (drop to line))) (sym b) (atom_signed positive a)
+          ∙ ap (λ c. later_refusal n m k true (p.beyond || leb n c) (line_tokens (drop to line))) (atom_signed positive a)
 
-      pub later_taken : n ≤ atom_limit Preference → k ≤ m → {c : Bool} → c ≡ (p.beyond || ltb n number) → LaterIs line at n m p (Next (record { begun = k; unended = true; beyond = c }) to)
-      later_taken f l {c} d =
+      pub later_taken : n ≤ atom_limit Preference → {j : ℕ} → begun ≡ Some j → {c : Bool} → c ≡ (p.beyond || ltb n number) → LaterIs line at n m p (later (record { begun = j; unended = true; beyond = c }) to)
+      later_taken f g {c} d =
           let t = said e in
+          let q = begun_is b g in
           let same : (p.beyond || leb n t.0) ≡ c = ap (λ x. p.beyond || x) (sym (ap (ltb n) t.1 ∙ over_beyond f t.0)) ∙ sym d in
-          record { says = (rest_taken t.0 t.2 ∙ ap (λ x. later_refusal n m k true x (line_tokens (drop to line))) same, t.2.further, t.2.inside, l) }
+          record { says = (rest_taken t.0 t.2 ∙ ap₂ (λ i x. later_refusal n m i true x (line_tokens (drop to line))) (sym q.0) same, t.2.further, t.2.inside, q.1) }
 
-      pub later_taken_surplus : m < k → LaterIs line at n m p Broken
-      later_taken_surplus l = let t = said e in record { says = rest_taken t.0 t.2 ∙ later_surplus n m k true (p.beyond || leb n t.0) (line_tokens (drop to line)) l }
+      pub later_taken_surplus : begun ≡ None → LaterIs line at n m p None
+      later_taken_surplus d = let t = said e in record { says = rest_taken t.0 t.2 ∙ later_surplus n m k true (p.beyond || leb n t.0) (line_tokens (drop to line)) (begun_none b d) }
 
 -- the walk over the rest of the line
 pub record Walked (line : List ℕ) (at n m : ℕ) (p : Pending) (place : ℕ) (q : Pending) : Type 0 where
@@ -118,12 +135,12 @@ pub record Walked (line : List ℕ) (at n m : ℕ) (p : Pending) (place : ℕ) (
   pub left : refusal_from n m p (line_tokens (drop at line)) ≡ refusal_from n m q (line_tokens (drop place line))
 
 module _ {line : List ℕ} {at n m : ℕ} {p : Pending} {place : ℕ} {q : Pending} (w : Walked line at n m p place q) where
-  module _ {r : Later} (i : LaterIs line place n m q r) where
-    pub walked_on : {s : Pending} {to : ℕ} → r ≡ Next s to → Walked line at n m p to s × (place < to)
-    walked_on {s} {to} e = let t : LaterSays line place n m q (Next s to) = subst (LaterSays line place n m q) e i.says in (record { inside = t.2; few = t.3; left = w.left ∙ t.0 }, t.1)
+  module _ {r : Option Later} (i : LaterIs line place n m q r) where
+    pub walked_on : {s : Later} → r ≡ Some s → Walked line at n m p s.at s.pending × (place < s.at)
+    walked_on {s} e = let t : LaterSays line place n m q (Some s) = subst (LaterSays line place n m q) e i.says in (record { inside = t.2; few = t.3; left = w.left ∙ t.0 }, t.1)
 
-    pub walk_broken : r ≡ Broken → BrokenClauses ≡ refusal_from n m p (line_tokens (drop at line))
-    walk_broken e = let t : LaterSays line place n m q Broken = subst (LaterSays line place n m q) e i.says in sym (w.left ∙ t)
+    pub walk_broken : r ≡ None → BrokenClauses ≡ refusal_from n m p (line_tokens (drop at line))
+    walk_broken e = let t : LaterSays line place n m q None = subst (LaterSays line place n m q) e i.says in sym (w.left ∙ t)
 
   pub walk_ended : length line ≤ place → {b : Bool} → q.beyond ≡ b → cond b LiteralBeyond Limit ≡ refusal_from n m p (line_tokens (drop at line))
   walk_ended l e = sym (w.left ∙ later_end n m q.begun q.unended q.beyond (none_left line place l) w.few ∙ ap (λ b. cond b LiteralBeyond Limit) e)

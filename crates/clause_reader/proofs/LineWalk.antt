@@ -9,12 +9,9 @@ use Rattle.clauses.specs.Tokens.{line_tokens}
 use Rattle.clauses.specs.Faults.{Step, clause_line}
 use Rattle.clause_rules.specs.declared.clause.ClauseCounts.{ClauseCounts}
 use Rattle.clause_rules.specs.HeldClauses.{held}
-use Rattle.clause_reader.specs.declared.clause_line.Reading.TheVariants.{Headed}
-use Rattle.clause_reader.specs.declared.clause_line.Line.{Line}
-use Rattle.clause_reader.specs.declared.clause_line.Line.TheVariants as Line
+use Rattle.std.specs.Prelude.{Some, Result, Ok, Err}
 use Rattle.clause_reader.specs.declared.clause_line.Progress.{Progress}
-use Rattle.clause_reader.specs.declared.clause_line.Progress.TheVariants.{Next, Fault}
-use Rattle.clause_reader.specs.Reading.{InClauses, ProgressSays, ProgressIs, line_of, LineSays, LineIs}
+use Rattle.clause_reader.specs.Reading.{InClauses, ProgressSays, ProgressIs, LineIs}
 use Rattle.clause_reader.proofs.TokenSteps.{line_passed}
 use Rattle.clause_reader.proofs.LaterSteps.{none_left}
 
@@ -34,12 +31,12 @@ module _ {line : List ℕ} {n m : ℕ} {step : Step} {d : ClauseCounts} {words b
   abbrev from : ℕ → ℕ → Step
   from x y = clause_line x y (held d words bodies) (line_tokens (drop at line))
 
-  module _ {words' bodies' marks' : List ℕ} {r : Progress} (p : ProgressIs line at d (held d words bodies) words' bodies' marks' r) where
-    said : {q : Progress} → r ≡ q → ProgressSays line at d (held d words bodies) words' bodies' marks' q
+  module _ {words' bodies' marks' : List ℕ} {r : Result Progress Refusal} (p : ProgressIs line at d (held d words bodies) words' bodies' marks' r) where
+    said : {q : Result Progress Refusal} → r ≡ q → ProgressSays line at d (held d words bodies) words' bodies' marks' q
     said e = subst (ProgressSays line at d (held d words bodies) words' bodies' marks') e p.says
 
-    pub item_read : {e : ClauseCounts} {to : ℕ} → r ≡ Next e to → InLine line n m step e words' bodies' marks' to × (at < to)
-    item_read {e} {to} q =
+    pub item_read : {e : Progress} → r ≡ Ok e → InLine line n m step e.counts words' bodies' marks' e.at × (at < e.at)
+    item_read {e} q =
         let t = said q in (
           record {
             inside = t.3;
@@ -47,7 +44,7 @@ module _ {line : List ℕ} {n m : ℕ} {step : Step} {d : ClauseCounts} {words b
             same_clauses = t.0.clauses ∙ w.same_clauses;
             holds = t.1;
             left =
-                ap₂ (λ x y. clause_line x y (held e words' bodies') (line_tokens (drop to line))) (sym w.same_atoms) (sym w.same_clauses)
+                ap₂ (λ x y. clause_line x y (held e.counts words' bodies') (line_tokens (drop e.at line))) (sym w.same_atoms) (sym w.same_clauses)
                 ∙ sym t.4
                 ∙ ap₂ from w.same_atoms w.same_clauses
                 ∙ w.left;
@@ -55,11 +52,10 @@ module _ {line : List ℕ} {n m : ℕ} {step : Step} {d : ClauseCounts} {words b
           t.2,
         )
 
-    pub item_refused : {f : Refusal} → r ≡ Fault f → {l : Line} → l ≡ line_of r → LineIs step words' bodies' marks' l
-    item_refused {f} q k =
-        record { says = subst (LineSays step words' bodies' marks') (sym (k ∙ ap line_of q)) (sym w.left ∙ ap₂ from (sym w.same_atoms) (sym w.same_clauses) ∙ said q) }
+    pub item_refused : {f : Refusal} → r ≡ Err f → LineIs step words' bodies' marks' (Err f)
+    item_refused q = record { says = sym w.left ∙ ap₂ from (sym w.same_atoms) (sym w.same_clauses) ∙ said q }
 
-  pub items_read : length line ≤ at → LineIs step words bodies marks (Line.Next (Headed d))
+  pub items_read : length line ≤ at → LineIs step words bodies marks (Ok (Some d))
   items_read l =
       let h = w.holds in
       record {

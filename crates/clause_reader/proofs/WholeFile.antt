@@ -20,8 +20,10 @@ use Rattle.lines.specs.Said.{accepted, what_remains, program_of}
 use Rattle.gathering.specs.Gathered.{state_of, Held}
 use Rattle.gathering.specs.declared.gathered.Gathered.{Gathered}
 use Rattle.gathering.proofs.HeldState.{held_is}
-use Rattle.answers.specs.declared.Read.{Read}
-use Rattle.answers.specs.declared.Read.TheVariants.{Refused}
+use Rattle.std.specs.Prelude.{Result, Ok, Err}
+use Rattle.answers.specs.declared.ReadSizes.{ReadSizes}
+use Rattle.answers.specs.declared.ReadRefusal.{ReadRefusal}
+use Rattle.answers.specs.Reading.{read_refusal}
 use Rattle.answers.specs.ReadingClauses.{clauses_answer, clauses_rules, clauses_names}
 use Rattle.delivery.specs.Delivered.{Delivered}
 use Rattle.delivery.proofs.Outcomes.{refused_as, delivered_as}
@@ -35,8 +37,6 @@ use Rattle.clause_rules.specs.HeldClauses.{held}
 use Rattle.clause_rules.specs.AsPreference.{clause_state, clause_lines}
 use Rattle.clause_rules.proofs.ClauseNames.{names_count}
 use Rattle.clause_rules.proofs.HeldPreference.{held_preference}
-use Rattle.clause_reader.specs.declared.reading.Gather.{Gather}
-use Rattle.clause_reader.specs.declared.reading.Gather.TheVariants as Gather
 use Rattle.clause_reader.specs.Reading.{Empty, GatherSays, GatherIs}
 
 -- scratch without a mark holds nothing
@@ -54,10 +54,10 @@ empty_scratch {marks = marks} w b m r =
     }
 
 module _ (text rules names : List ℕ) where
-  abbrev Answered : Read → List ℕ → List ℕ → Type 0
+  abbrev Answered : Result ReadSizes ReadRefusal → List ℕ → List ℕ → Type 0
   Answered r rules' names' = (r ≡ clauses_answer text (length rules) (length names)) × ((rules' ≡ clauses_rules text rules names) × (names' ≡ clauses_names text rules names))
 
-  pub too_long : text_limit < length text → Answered (Refused TextTooLong 0) rules names
+  pub too_long : text_limit < length text → Answered (Err (read_refusal TextTooLong 0)) rules names
   unfolding clauses_said clauses_typed clauses_answer clauses_rules clauses_names
   too_long l = refused_as (clauses_said text) rules names (rw (lt-leb (length text) text_limit l))
 
@@ -70,15 +70,15 @@ module _ (text rules names : List ℕ) where
     unfolding clauses_said
     said_lines = ap what_remains typed_lines
 
-    module _ {words bodies : List ℕ} {q : Gather} (w : GatherIs (read_lines 1 unheaded (lines text)) words bodies q) where
-      gather : {p : Gather} → q ≡ p → GatherSays (read_lines 1 unheaded (lines text)) words bodies p
+    module _ {words bodies : List ℕ} {q : Result ClauseCounts ReadRefusal} (w : GatherIs (read_lines 1 unheaded (lines text)) words bodies q) where
+      gather : {p : Result ClauseCounts ReadRefusal} → q ≡ p → GatherSays (read_lines 1 unheaded (lines text)) words bodies p
       gather e = subst (GatherSays (read_lines 1 unheaded (lines text)) words bodies) e w.says
 
-      pub lines_refused : {f : Refusal} {k : ℕ} → q ≡ Gather.Refused f k → Answered (Refused f k) rules names
+      pub lines_refused : {f : ReadRefusal} → q ≡ Err f → Answered (Err f) rules names
       unfolding clauses_answer clauses_rules clauses_names
       lines_refused e = refused_as (clauses_said text) rules names (said_lines ∙ ap what_remains (gather e))
 
-      module _ {c : ClauseCounts} (e : q ≡ Gather.Whole c) where
+      module _ {c : ClauseCounts} (e : q ≡ Ok c) where
         abbrev program : Program
         program = clause_program c.atoms (held c words bodies).rules
 
@@ -105,7 +105,7 @@ module _ (text rules names : List ℕ) where
             subst ProgramForm program_is (typed_form_lem text program (clause_names c.atoms) (typed_lines ∙ (gather e).0)).0,
           )
 
-          pub delivered : {rules' names' : List ℕ} {r : Read}
+          pub delivered : {rules' names' : List ℕ} {r : Result ReadSizes ReadRefusal}
               → Delivered (remaining (program_of (state_of Preference g words bytes))) (remaining_names (program_of (state_of Preference g words bytes)) (state_of Preference g words bytes).names) rules names rules' names' r
               → Answered r rules' names'
           unfolding clauses_answer clauses_rules clauses_names

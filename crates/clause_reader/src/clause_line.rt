@@ -5,33 +5,22 @@ ghost use Rattle.clauses.specs.Tokens.{line_tokens};
 ghost use Rattle.clauses.specs.Faults.{clause_line};
 ghost use Rattle.clause_rules.specs.HeldClauses.{held};
 ghost use Rattle.clause_reader.specs.Later.{later_refusal};
-ghost use Rattle.clause_reader.specs.Reading.{InClauses, is_full, LiteralIs, ProgressIs, line_of, LineIs};
+ghost use Rattle.clause_reader.specs.Reading.{InClauses, is_full, LiteralIs, ProgressIs, LineIs};
 
 use crate::later::{Pending, later_refusal};
 use clause_items::items::{Item, item_at};
-use clause_rules::clause::{ClauseCounts, Taken, end_clause, take_literal};
+use clause_rules::clause::{ClauseCounts, end_clause, take_literal};
 use kinds::limits::Kind;
 use kinds::refusals::Refusal;
 
-// What the lines so far have given.
-#[derive(Clone, Copy)]
-pub enum Reading {
-    Unheaded,
-    Headed(ClauseCounts),
-}
-
-// What a line gives.
-#[derive(Clone, Copy)]
-pub enum Line {
-    Next(Reading),
-    Fault(Refusal),
-}
+// What the lines so far have given: the counts, once the header has come.
+pub type Reading = Option<ClauseCounts>;
 
 // What an item gives, and where the next one is looked for.
 #[derive(Clone, Copy)]
-pub enum Progress {
-    Next { counts: ClauseCounts, at: usize },
-    Fault(Refusal),
+pub struct Progress {
+    pub counts: ClauseCounts,
+    pub at: usize,
 }
 
 // Every clause of the header has come, and none is unended: an item would begin a surplus one.
@@ -71,25 +60,22 @@ fn read_literal(
     words: &mut [u16],
     bodies: &mut [u16],
     marks: &mut [u16],
-) -> Progress
+) -> Result<ClauseCounts, Refusal>
     requires { InClauses counts words.old bodies.old marks.old × (to ≤ length line.now) × (1 ≤ number) }
     ensures { LiteralIs line.now to counts (held counts words.old bodies.old) positive number words.new bodies.new marks.new result }
 {
     if is_full(counts) {
-        return Progress::Fault(Refusal::BrokenClauses);
+        return Err(Refusal::BrokenClauses);
     }
     let atoms = counts.atoms;
     let clauses = counts.clauses;
     let rules = counts.rules;
     if atoms < number {
-        return Progress::Fault(past_limit(line, to, atoms, clauses, rules, true));
+        return Err(past_limit(line, to, atoms, clauses, rules, true));
     }
     match take_literal(counts, positive, number - 1, words, bodies, marks) {
-        Taken::Next(after) => Progress::Next {
-            counts: after,
-            at: to,
-        },
-        Taken::Full => Progress::Fault(past_limit(line, to, atoms, clauses, rules, false)),
+        Some(after) => Ok(after),
+        None => Err(past_limit(line, to, atoms, clauses, rules, false)),
     }
 }
 
@@ -101,40 +87,37 @@ fn read_item(
     words: &mut [u16],
     bodies: &mut [u16],
     marks: &mut [u16],
-) -> Progress
+) -> Result<Progress, Refusal>
     requires { InClauses counts words.old bodies.old marks.old × (at < length line.now) }
     ensures { ProgressIs line.now at counts (held counts words.old bodies.old) words.new bodies.new marks.new result }
 {
     match item_at(line, at) {
-        Item::Stop => Progress::Next {
+        Item::Stop => Ok(Progress {
             counts,
             at: line.len(),
-        },
-        Item::Broken => Progress::Fault(Refusal::BrokenClauses),
+        }),
+        Item::Broken => Err(Refusal::BrokenClauses),
         Item::Ends { to } => {
             if is_full(counts) {
-                return Progress::Fault(Refusal::BrokenClauses);
+                return Err(Refusal::BrokenClauses);
             }
-            Progress::Next {
-                counts: end_clause(counts, words, bodies),
+            let after = end_clause(counts, words, bodies);
+            Ok(Progress {
+                counts: after,
                 at: to,
-            }
+            })
         }
         Item::Literal {
             positive,
             number,
             to,
-        } => read_literal(line, counts, positive, number, to, words, bodies, marks),
-    }
-}
-
-// An item's refusal is its line's.
-fn passed_on(answer: Progress) -> Line
-    ensures { result ≡ line_of answer }
-{
-    match answer {
-        Progress::Next { counts, at: _ } => Line::Next(Reading::Headed(counts)),
-        Progress::Fault(refusal) => Line::Fault(refusal),
+        } => {
+            let after = read_literal(line, counts, positive, number, to, words, bodies, marks)?;
+            Ok(Progress {
+                counts: after,
+                at: to,
+            })
+        }
     }
 }
 
@@ -144,23 +127,16 @@ pub fn read_items(
     words: &mut [u16],
     bodies: &mut [u16],
     marks: &mut [u16],
-) -> Line
+) -> Result<Reading, Refusal>
     requires { InClauses counts words.old bodies.old marks.old }
     ensures { LineIs (clause_line counts.atoms counts.clauses (held counts words.old bodies.old) (line_tokens line.now)) words.new bodies.new marks.new result }
 {
     let mut gathered = counts;
     let mut at: usize = 0;
     while at < line.len() {
-        let answer = read_item(line, at, gathered, words, bodies, marks);
-        let Progress::Next {
-            counts: after,
-            at: to,
-        } = answer
-        else {
-            return passed_on(answer);
-        };
-        gathered = after;
-        at = to;
+        let after = read_item(line, at, gathered, words, bodies, marks)?;
+        gathered = after.counts;
+        at = after.at;
     }
-    Line::Next(Reading::Headed(gathered))
+    Ok(Some(gathered))
 }

@@ -1,8 +1,8 @@
 // The rest of a line behind a literal that is past a limit: a broken clause on it counts first, then a literal beyond the header's atoms.
-ghost use Rattle.std.specs.Prelude.{◌≡◌, suc, ◌^◌, ◌≤◌, ◌<◌, cond, length, drop};
+ghost use Rattle.std.specs.Prelude.{◌≡◌, suc, ◌≤◌, ◌<◌, cond, length, drop};
 ghost use Rattle.kinds.specs.Limits.{atom_limit, rule_limit};
 ghost use Rattle.clauses.specs.Tokens.{line_tokens};
-ghost use Rattle.clause_reader.specs.Later.{refusal_from, LaterIs};
+ghost use Rattle.clause_reader.specs.Later.{refusal_from, BegunIs, LaterIs};
 
 use clause_items::items::{Item, item_at};
 use kinds::limits::Kind;
@@ -18,65 +18,67 @@ pub struct Pending {
 
 // What an item leaves, and where the next one is looked for.
 #[derive(Clone, Copy)]
-pub enum Later {
-    Next { pending: Pending, at: usize },
-    Broken,
+pub struct Later {
+    pub pending: Pending,
+    pub at: usize,
 }
 
-// One clause more, unless one is unended.
-fn begin(pending: Pending) -> usize
-    requires { pending.begun < 2 ^ 62 }
-    ensures { result ≡ cond pending.unended pending.begun (suc pending.begun) }
+// One clause more, unless one is unended; the header has no more than `clauses`.
+fn begin(pending: Pending, clauses: usize) -> Option<usize>
+    requires { (pending.begun ≤ clauses) × (clauses ≤ rule_limit Kind.Preference) }
+    ensures { BegunIs clauses (cond pending.unended pending.begun (suc pending.begun)) result }
 {
     if pending.unended {
-        return pending.begun;
+        return Some(pending.begun);
     }
-    pending.begun + 1
+    if pending.begun == clauses {
+        return None;
+    }
+    Some(pending.begun + 1)
 }
 
-fn next_item(line: &[u8], at: usize, atoms: usize, clauses: usize, pending: Pending) -> Later
+// The item at `at`; none where it breaks the line.
+fn next_item(
+    line: &[u8],
+    at: usize,
+    atoms: usize,
+    clauses: usize,
+    pending: Pending,
+) -> Option<Later>
     requires { (at < length line.now) × (atoms ≤ atom_limit Kind.Preference) × (pending.begun ≤ clauses) × (clauses ≤ rule_limit Kind.Preference) }
     ensures { LaterIs line.now at atoms clauses pending result }
 {
     match item_at(line, at) {
-        Item::Stop => Later::Next {
+        Item::Stop => Some(Later {
             pending,
             at: line.len(),
-        },
-        Item::Broken => Later::Broken,
+        }),
+        Item::Broken => None,
         Item::Ends { to } => {
-            let begun = begin(pending);
-            if clauses < begun {
-                return Later::Broken;
-            }
-            let beyond = pending.beyond;
-            Later::Next {
+            let begun = begin(pending, clauses)?;
+            Some(Later {
                 pending: Pending {
                     begun,
                     unended: false,
-                    beyond,
+                    beyond: pending.beyond,
                 },
                 at: to,
-            }
+            })
         }
         Item::Literal {
             positive,
             number,
             to,
         } => {
-            let begun = begin(pending);
-            if clauses < begun {
-                return Later::Broken;
-            }
-            let beyond = pending.beyond || atoms < number;
-            Later::Next {
+            let begun = begin(pending, clauses)?;
+            Some(Later {
                 pending: Pending {
                     begun,
                     unended: true,
-                    beyond,
+                    beyond: pending.beyond || atoms < number,
                 },
                 at: to,
-            }
+            })
         }
     }
 }
@@ -95,15 +97,11 @@ pub fn later_refusal(
     let mut state = pending;
     let mut place = at;
     while place < line.len() {
-        let Later::Next {
-            pending: after,
-            at: to,
-        } = next_item(line, place, atoms, clauses, state)
-        else {
+        let Some(after) = next_item(line, place, atoms, clauses, state) else {
             return Refusal::BrokenClauses;
         };
-        state = after;
-        place = to;
+        state = after.pending;
+        place = after.at;
     }
     if state.beyond {
         return Refusal::LiteralBeyond;

@@ -8,14 +8,13 @@ ghost use Rattle.std.specs.Prelude.{◌≡◌, length};
 ghost use Rattle.clause_rules.specs.AsPreference.{clause_lines};
 ghost use Rattle.answers.specs.ReadingClauses.{clauses_answer, clauses_rules, clauses_names};
 
-use answers::Read;
+use answers::{Read, ReadRefusal};
 use clause_rules::atom_names::put_names;
 use clause_rules::clause::ClauseCounts;
 use gathering::gathered::Gathered;
 use kinds::limits::{Counts, Kind, Plain, Preference};
 use kinds::refusals::Refusal;
 use lines::stage::Stage;
-use reading::Gather;
 use remaining_stores::remaining::deliver;
 
 // The counts as those of a preference file with one class, whose names fill `used` bytes.
@@ -47,21 +46,17 @@ pub fn read_clauses(text: &[u8], rules: &mut [u16], names: &mut [u8]) -> Read
     ensures names { names.new ≡ clauses_names text.now rules.old names.old }
 {
     if Kind::TEXT < text.len() {
-        return Read::Refused {
+        return Err(ReadRefusal {
             refusal: Refusal::TextTooLong,
             line: 0,
-        };
+        });
     }
     let mut words = [0u16; Plain::WORDS];
     let mut bytes = [0u8; Plain::BYTES];
     let mut bodies = [0u16; Preference::OCCURRENCES];
     let mut marks = [0u16; 2 * Preference::ATOMS];
-    match reading::read_lines(text, &mut words, &mut bodies, &mut marks) {
-        Gather::Whole(counts) => {
-            let used = put_names(counts.atoms, &mut bytes);
-            let gathered = preference_counts(counts, used);
-            deliver(Kind::Preference, gathered, &mut words, &bytes, rules, names)
-        }
-        Gather::Refused { refusal, line } => Read::Refused { refusal, line },
-    }
+    let counts = reading::read_lines(text, &mut words, &mut bodies, &mut marks)?;
+    let used = put_names(counts.atoms, &mut bytes);
+    let gathered = preference_counts(counts, used);
+    deliver(Kind::Preference, gathered, &mut words, &bytes, rules, names)
 }

@@ -4,6 +4,7 @@ use lib.ListN.{length-replicate}
 use Rattle.kinds.specs.Limits.{atom_limit, occurrence_limit}
 use Rattle.kinds.specs.Sizes.{store_words, store_bytes}
 use Rattle.kinds.specs.declared.limits.Kind.TheVariants.{Preference}
+use Rattle.std.proofs.lemmas.Result.{err_from_is_err_and}
 use Rattle.stores.proofs.StoreHeader.{unmarked}
 use Rattle.clause_reader.proofs.WholeFile.{empty_scratch, too_long, lines_refused, atoms_fit, lines_held, delivered}
 use borrow.Author.Rules.{rules}
@@ -18,15 +19,6 @@ returns-then-text-gt-TEXT c =
       names = r.1.1;
     }
 
-pub slice_bounds-read_lines-end : goal.slice_bounds-read_lines-end
-slice_bounds-read_lines-end c = refl
-
-pub slice_bounds-read_lines-end-2 : goal.slice_bounds-read_lines-end-2
-slice_bounds-read_lines-end-2 c = refl
-
-pub slice_bounds-read_lines-end-3 : goal.slice_bounds-read_lines-end-3
-slice_bounds-read_lines-end-3 c = refl
-
 pub read_lines-requires : goal.read_lines-requires
 read_lines-requires c =
     record {
@@ -34,41 +26,24 @@ read_lines-requires c =
       empty = empty_scratch (length-replicate {A = ℕ} store_words 0) (length-replicate {A = ℕ} (occurrence_limit Preference) 0) (unmarked (2 * atom_limit Preference)) (length-replicate {A = ℕ} (2 * atom_limit Preference) 0);
     }
 
-pub slice_bounds-put_names-end : goal.slice_bounds-put_names-end
-slice_bounds-put_names-end c = refl
-
-pub put_names-used-requires : goal.put_names-used-requires
-put_names-used-requires c = atoms_fit c.args.text.now c.args.rules.now c.args.names.now c.if-text-gt-TEXT.false c.read_lines.ensures c.in-Whole.is
-
-pub slice_bounds-deliver-end : goal.slice_bounds-deliver-end
-slice_bounds-deliver-end c = sym c.read_lines.auto.words
-
-pub slice_bounds-deliver-end-in-Whole : goal.slice_bounds-deliver-end-in-Whole
-slice_bounds-deliver-end-in-Whole c = sym c.put_names-used.auto.bytes
-
 pub deliver-requires : goal.deliver-requires
-deliver-requires c = lines_held c.args.text.now c.args.rules.now c.args.names.now c.if-text-gt-TEXT.false c.read_lines.ensures c.in-Whole.is c.put_names-used.ensures (length-replicate {A = ℕ} store_bytes 0) c.preference_counts-gathered.ensures
+deliver-requires c = lines_held c.args.text.now c.args.rules.now c.args.names.now c.if-text-gt-TEXT.false c.read_lines.ensures c.in_ok-counts.was c.put_names-used.ensures (length-replicate {A = ℕ} store_bytes 0) c.preference_counts-gathered.ensures
 
-pub shape_of-rules : goal.shape_of-rules
-shape_of-rules c = c.deliver.auto.rules
-
-pub shape_of-names : goal.shape_of-names
-shape_of-names c = c.deliver.auto.names
-
-pub returns-in-Whole : goal.returns-in-Whole
-returns-in-Whole c =
-    let r = delivered c.args.text.now c.args.rules.now c.args.names.now c.if-text-gt-TEXT.false c.read_lines.ensures c.in-Whole.is c.put_names-used.ensures (length-replicate {A = ℕ} store_bytes 0) c.preference_counts-gathered.ensures c.deliver.ensures in
+pub returns : goal.returns
+returns c =
+    let r = delivered c.args.text.now c.args.rules.now c.args.names.now c.if-text-gt-TEXT.false c.read_lines.ensures c.in_ok-counts.was c.put_names-used.ensures (length-replicate {A = ℕ} store_bytes 0) c.preference_counts-gathered.ensures c.deliver.ensures in
     record {
       answer = r.0;
       rules = r.1.0;
       names = r.1.1;
     }
 
-pub returns-in-Refused : goal.returns-in-Refused
-returns-in-Refused c =
-    let r = lines_refused c.args.text.now c.args.rules.now c.args.names.now c.if-text-gt-TEXT.false c.read_lines.ensures c.in-Refused.is in
+pub returns-in_err-counts : goal.returns-in_err-counts
+returns-in_err-counts c =
+    let p = err_from_is_err_and c.from_residual.result c.from_residual.ensures.1 in
+    let r = lines_refused c.args.text.now c.args.rules.now c.args.names.now c.if-text-gt-TEXT.false c.read_lines.ensures c.in_err-counts.was in
     record {
-      answer = r.0;
+      answer = rw (p.1, p.2) r.0;
       rules = r.1.0;
       names = r.1.1;
     }

@@ -7,25 +7,11 @@ use Rattle.clause_reader.proofs.clause_line.read_literal.Goals as goal
 pub returns-then-is_full : goal.returns-then-is_full
 returns-then-is_full c = literal_surplus c.args.line.now c.args.to c.requires.0 c.args.positive c.args.number (sym c.is_full.ensures ∙ c.if-is_full.true)
 
-pub past_limit-requires : goal.past_limit-requires
-past_limit-requires c = (c.requires.1, c.requires.0.holds.atoms_fit, omega (arith, no_surplus c.requires.0 (sym c.is_full.ensures ∙ c.if-is_full.false), c.requires.0.holds.rules_are), c.requires.0.holds.clauses_fit)
-
 pub returns-then-atoms-number : goal.returns-then-atoms-number
 returns-then-atoms-number c = literal_beyond c.args.line.now c.args.to c.requires.0 c.args.positive c.args.number c.if-atoms-number.true c.past_limit.ensures
 
-pub take_literal-requires : goal.take_literal-requires
-take_literal-requires c =
-    record {
-      held_clauses = c.requires.0.holds;
-      marked = c.requires.0.marked;
-      atom_lt_atoms = omega (arith, c.if-atoms-number.false, c.requires.2);
-    }
+pub returns-in-Some : goal.returns-in-Some
+returns-in-Some c = literal_taken c.args.line.now c.args.to c.requires.0 c.args.positive c.args.number c.if-atoms-number.false (c.args.number - 1) (omega (arith, c.requires.2)) c.take_literal.ensures (sym c.is_full.ensures ∙ c.if-is_full.false) c.in-Some.is
 
-pub past_limit-requires-in-Full : goal.past_limit-requires-in-Full
-past_limit-requires-in-Full c = (c.requires.1, c.requires.0.holds.atoms_fit, omega (arith, no_surplus c.requires.0 (sym c.is_full.ensures ∙ c.if-is_full.false), c.requires.0.holds.rules_are), c.requires.0.holds.clauses_fit)
-
-pub returns-in-Next : goal.returns-in-Next
-returns-in-Next c = literal_taken c.args.line.now c.args.to c.requires.0 c.args.positive c.args.number c.if-atoms-number.false (c.args.number - 1) (omega (arith, c.requires.2)) c.take_literal.ensures (sym c.is_full.ensures ∙ c.if-is_full.false) c.in-Next.is
-
-pub returns-in-Full : goal.returns-in-Full
-returns-in-Full c = literal_full c.args.line.now c.args.to c.requires.0 c.args.positive c.args.number c.if-atoms-number.false (c.args.number - 1) (omega (arith, c.requires.2)) c.take_literal.ensures c.in-Full.is c.past_limit-in-Full.ensures
+pub returns-in-None : goal.returns-in-None
+returns-in-None c = literal_full c.args.line.now c.args.to c.requires.0 c.args.positive c.args.number c.if-atoms-number.false (c.args.number - 1) (omega (arith, c.requires.2)) c.take_literal.ensures c.in-None.is c.past_limit-in-None.ensures

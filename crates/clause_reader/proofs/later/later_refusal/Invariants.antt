@@ -1,9 +1,6 @@
 use Prim.Native.Nat.{◌-◌}
 use lib.ListN.{length}
 use Rattle.clause_reader.proofs.LaterSteps.{Walked}
-use Rattle.clause_reader.proofs.later.later_refusal.Reads as reads
-use Rattle.clause_reader.proofs.later.later_refusal.Lts as lts
-use Rattle.clause_reader.proofs.later.next_item.Reads as next-item-reads
 use Rattle.clause_reader.proofs.later.later_refusal.Given as goal
 
 abbrev pub invariant-loop-place : goal.invariant-loop-place

@@ -1,15 +1,10 @@
 use Prim.Native.Nat.{◌-◌}
 use native.Mathlib.Omega.{arith}
-use mathlib.Core.Path.{refl, ◌∙◌}
+use mathlib.Core.Path.{refl, sym, ◌∙◌}
+use Rattle.std.proofs.lemmas.Result.{err_from_is_err_and}
 use Rattle.lines.proofs.LinePlaces.{line_inside}
 use Rattle.clause_reader.proofs.TextWalk.{text_begun, line_read, line_refused, text_read}
 use Rattle.clause_reader.proofs.reading.read_lines.Goals as goal
-
-pub loop-at-init : goal.loop-at-init
-loop-at-init c = (refl, refl, refl, text_begun c.requires.empty)
-
-pub line_at-requires : goal.line_at-requires
-line_at-requires c = c.loop-at.invariant.3.inside
 
 pub overflow_add-to : goal.overflow_add-to
 overflow_add-to c = omega (arith, (line_inside c.args.text.now c.loop-at.at c.loop-at-test.true c.line_at.ensures).0)
@@ -17,38 +12,16 @@ overflow_add-to c = omega (arith, (line_inside c.args.text.now c.loop-at.at c.lo
 pub slice_bounds-read_line-end : goal.slice_bounds-read_line-end
 slice_bounds-read_line-end c = (line_inside c.args.text.now c.loop-at.at c.loop-at-test.true c.line_at.ensures).0
 
-pub read_line-answer-requires : goal.read_line-answer-requires
-read_line-answer-requires c = c.loop-at.invariant.3.holds
-
-pub shape_of-words-in_default : goal.shape_of-words-in_default
-shape_of-words-in_default c = c.read_line-answer.auto.words ∙ c.loop-at.invariant.0
-
-pub shape_of-bodies-in_default : goal.shape_of-bodies-in_default
-shape_of-bodies-in_default c = c.read_line-answer.auto.bodies ∙ c.loop-at.invariant.1
-
-pub shape_of-marks-in_default : goal.shape_of-marks-in_default
-shape_of-marks-in_default c = c.read_line-answer.auto.marks ∙ c.loop-at.invariant.2
-
-pub returns-in_default : goal.returns-in_default
-returns-in_default c = line_refused c.loop-at.invariant.3 c.loop-at-test.true c.line_at.ensures c.read_line-answer.ensures c.in_default.is c.passed_on.ensures
-
-pub overflow_add-number : goal.overflow_add-number
-overflow_add-number c = omega (arith, c.loop-at.invariant.3.few, c.loop-at.invariant.3.inside, c.requires.text_len_bound)
+pub returns-in_err-reading : goal.returns-in_err-reading
+returns-in_err-reading c =
+    let p = err_from_is_err_and c.from_residual.result c.from_residual.ensures.1 in
+    rw (p.1, p.2) (line_refused c.loop-at.invariant.3 c.loop-at-test.true c.line_at.ensures c.read_line-answer.ensures (sym c.numbered.ensures ∙ c.in_err-reading.was))
 
 pub loop-at-smaller : goal.loop-at-smaller
 loop-at-smaller c = let i = line_inside c.args.text.now c.loop-at.at c.loop-at-test.true c.line_at.ensures in omega (arith, i.0, i.1)
 
 pub loop-at-preserved : goal.loop-at-preserved
-loop-at-preserved c = (c.read_line-answer.auto.words ∙ c.loop-at.invariant.0, c.read_line-answer.auto.bodies ∙ c.loop-at.invariant.1, c.read_line-answer.auto.marks ∙ c.loop-at.invariant.2, line_read c.loop-at.invariant.3 c.loop-at-test.true c.line_at.ensures c.read_line-answer.ensures c.in-Next.is)
-
-pub shape_of-words : goal.shape_of-words
-shape_of-words c = c.loop-at.invariant.0
-
-pub shape_of-bodies : goal.shape_of-bodies
-shape_of-bodies c = c.loop-at.invariant.1
-
-pub shape_of-marks : goal.shape_of-marks
-shape_of-marks c = c.loop-at.invariant.2
+loop-at-preserved c = (c.read_line-answer.auto.words ∙ c.loop-at.invariant.0, c.read_line-answer.auto.bodies ∙ c.loop-at.invariant.1, c.read_line-answer.auto.marks ∙ c.loop-at.invariant.2, line_read c.loop-at.invariant.3 c.loop-at-test.true c.line_at.ensures c.read_line-answer.ensures (sym c.numbered.ensures ∙ c.in_ok-reading.was))
 
 pub returns : goal.returns
 returns c = text_read c.loop-at.invariant.3 c.loop-at-test.false c.at_end.ensures

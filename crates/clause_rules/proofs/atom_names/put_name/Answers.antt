@@ -2,9 +2,6 @@ use native.Mathlib.Omega.{arith}
 use Rattle.clause_rules.proofs.ClauseNames.{digits_range, size_small, named}
 use Rattle.clause_rules.proofs.atom_names.put_name.Goals as goal
 
-pub emit_decimal-end-requires : goal.emit_decimal-end-requires
-emit_decimal-end-requires c = digits_range _ _ c.requires.1 c.push-start.ensures
-
 pub overflow_cast-end : goal.overflow_cast-end
 overflow_cast-end c = omega (arith, size_small _ _ c.requires.1 c.push-start.ensures c.emit_decimal-end.ensures)
 

@@ -14,8 +14,5 @@ put_name-at-requires c = (omega (arith, c.loop-atom-test.true, c.requires), rang
 pub loop-atom-preserved : goal.loop-atom-preserved
 loop-atom-preserved c = turn c.loop-atom.invariant (names_next _ _ c.loop-atom-test.true) c.put_name-at.ensures
 
-pub shape_of-bytes : goal.shape_of-bytes
-shape_of-bytes c = length_kept c.loop-atom.invariant
-
 pub returns : goal.returns
 returns c = finish c.loop-atom.invariant (numbered_none _ _ _ c.loop-atom-test.false)
