@@ -1,10 +1,10 @@
 -- A condition that passed its tests: what is read of it, and the rules that are written.
-use Prim.Native.Nat.{ℕ, suc, ◌+◌, ◌-◌, ◌*◌, ◌^◌, ◌≤◌, ◌<◌, zero-le}
+use Prim.Native.Nat.{ℕ, suc, ◌+◌, ◌*◌, ◌^◌, ◌≤◌, ◌<◌, zero-le}
 use native.Mathlib.Omega.{arith}
 use mathlib.Core.Path.{◌≡◌, sym, ap, ◌∙◌, subst}
 use mathlib.Core.List.{List, [], ◌∷◌, ◌++◌}
 use mathlib.Core.Bool.{Bool, true, false, cond}
-use lib.ListN.{length, take, length-map}
+use lib.ListN.{length, take, length-take, length-map}
 use Rattle.kinds.specs.Limits.{atom_limit}
 use Rattle.kinds.specs.declared.limits.Kind.TheVariants.{Preference}
 use Rattle.kinds.specs.declared.refusals.Refusal.{Refusal}
@@ -17,6 +17,7 @@ use Rattle.name_store.specs.NameStore.{decode_names, among}
 use Rattle.name_store.specs.NameIndex.{found}
 use Rattle.conditions.specs.Conditions.{Cond, name, NOT, AND, OR, connectives, names_of}
 use Rattle.conditions.specs.Written.{part, is_same}
+use Rattle.conditions.specs.declared.table.TableRow.{TableRow}
 use Rattle.conditions.specs.Rows.{Row, not_row, and-row, or-row, rows, row_occurrences, row_atom}
 use Rattle.conditions.specs.Numbers.{in_file, condition_rules}
 use Rattle.conditions.proofs.InFile.{condition_few, condition_occurrences}
@@ -32,7 +33,6 @@ use Rattle.gathering.specs.Gathered.{state_of, Held, HeldIndex, LineIs}
 use Rattle.gathering.proofs.HeldState.{atoms_is, held_small, known_names}
 use Rattle.condition_parts.specs.declared.parts.Parse.{Parse}
 use Rattle.condition_parts.specs.Parts.{Readable, Whole, ParseSays, ParseIs}
-use Rattle.condition_parts.proofs.TableRows.{table_length}
 use Rattle.condition_rules.specs.declared.RulesPut.{RulesPut}
 use Rattle.condition_rules.specs.TableRules.{table_rules, RulesPutIs}
 use Rattle.condition_rules.proofs.ConditionTables.{condition_written}
@@ -92,7 +92,7 @@ module _ {g : Gathered} {words bytes starts firsts links : List ℕ} (h : Held P
       full_line l = no_room h (tokens s) a t known l
 
       module _ (room : g.counts.atoms + g.made + count ≤ atom_limit Preference) where
-        pub readable : {table : List ℕ} → length table ≡ 768 → Readable names s 0 g.made 0 table
+        pub readable : {table : List TableRow} → length table ≡ 256 → Readable names s 0 g.made 0 table
         readable l = record {
           inside = zero-le;
           declared = subst (λ ns. undeclared ns (names_in (tokens s)) ≡ false) (sym same) t.all_declared;
@@ -100,7 +100,7 @@ module _ {g : Gathered} {words bytes starts firsts links : List ℕ} (h : Held P
           numbers = omega (arith, count_is, size);
         }
 
-        module _ {before after : List ℕ} (long : length before ≡ 768) {q : Option Parse} (w : ParseIs names s g.made before after q) where
+        module _ {before after : List TableRow} (long : length before ≡ 256) {q : Option Parse} (w : ParseIs names s g.made before after q) where
           pub faulty_line : q ≡ None → step_form st (condition (tokens s) a) ≡ fault BrokenCondition
           faulty_line i =
               let z : parse (name_number names) (suc g.made) (tokens s) ≡ unparsed = subst (ParseSays names s g.made before after) i w.says in
@@ -119,19 +119,19 @@ module _ {g : Gathered} {words bytes starts firsts links : List ℕ} (h : Held P
             made_few : All (λ u. u ≤ g.made + count) (connectives c)
             made_few = subst (All (λ u. u ≤ g.made + count)) (sym whole.numbered) (all_from (λ u. u ≤ g.made + count) (suc g.made) (length (rows c)) (λ u l m. omega (arith, rows_are)))
 
-            pub put_fits : length after ≡ 768 → (3 * count ≤ length after) × (g.counts.atoms + g.made + count ≤ 65536) × (g.words + 16 * count < 2 ^ 61) × (v.atom < 65536) × (then < 65536)
+            pub put_fits : length after ≡ 256 → (g.counts.atoms + g.made + length (take count after) ≤ 65536) × (g.words + 16 * length (take count after) < 2 ^ 61) × (v.atom < 65536) × (then < 65536)
             put_fits l =
-                let small = held_small h in (
-                  omega arith,
+                let small = held_small h in
+                let front = length-take count after in (
                   omega arith,
                   omega (arith, small.words),
                   omega (arith, whole.is_atom, size, part_below (length names) (g.made + count) c whole.known made_few),
                   omega (arith, size, (named a names f e).below),
                 )
 
-            module _ {z : RulesPut} {words₂ : List ℕ} (p : RulesPutIs (table_rules count (g.counts.atoms + g.made) after ++ (rule (then ∷ []) (v.atom ∷ []) [] ∷ [])) words g.words words₂ z) where
+            module _ {z : RulesPut} {words₂ : List ℕ} (p : RulesPutIs (table_rules (g.counts.atoms + g.made) (take count after) ++ (rule (then ∷ []) (v.atom ∷ []) [] ∷ [])) words g.words words₂ z) where
               put : RulesPutIs (condition_rules (length names) c then) words g.words words₂ z
-              put = condition_written (length names) g.made c whole.known whole.numbered before rows_are (ap (λ (n : ℕ). n + g.made) (sym size)) whole.is_atom whole.written (omega (arith, table_length (length names) (rows c), rows_are)) then p
+              put = condition_written (length names) g.made c whole.known whole.numbered before rows_are (ap (λ (n : ℕ). n + g.made) (sym size)) whole.is_atom whole.written (omega (arith, rows_are)) then p
 
               put_here : RulesPutIs (condition_rules (length st.names) c (name_number st.names a)) words g.words words₂ z
               put_here = subst (λ (b : ℕ). RulesPutIs (condition_rules (length st.names) c b) words g.words words₂ z) (sym number) (subst (λ ns. RulesPutIs (condition_rules (length ns) c then) words g.words words₂ z) same put)

@@ -11,7 +11,6 @@ use borrow.Author.Tests.{lt-leb}
 use Rattle.kinds.specs.Words.{when_word}
 use Rattle.kinds.specs.Limits.{atom_limit, bracket_limit, text_limit, within}
 use Rattle.kinds.specs.declared.limits.Counts.{Counts}
-use Rattle.kinds.specs.declared.limits.Kind.{Kind}
 use Rattle.kinds.specs.declared.limits.Kind.TheVariants.{Preference}
 use Rattle.kinds.specs.declared.refusals.Refusal.{Refusal}
 use Rattle.kinds.specs.declared.refusals.Refusal.TheVariants.{BrokenForm, Name, DeclaredTwice, Undeclared, Limit, BrokenCondition, DeepBrackets}
@@ -29,13 +28,13 @@ use Rattle.conditions.specs.Numbers.{condition_rules}
 use Rattle.lines.specs.Tokens.{Token, tokens}
 use Rattle.lines.specs.Conditions.{names_in, connectives_in, pairs, deeper, parsed, unparsed, parse}
 use Rattle.lines.specs.Forms.{LineForm, condition, opened_of, form_of}
-use Rattle.lines.specs.Shapes.{opens_with, OpenedSays, OpenedIs}
+use Rattle.lines.specs.Shapes.{opens_with, OpenedIs}
 use Rattle.lines.specs.Faults.{SoFar, next, fault, is_ruling, refused_name, first, name_number, with_condition_lem, all_counts, taken, counts_of, add_condition, step_form}
 use Rattle.numbering.specs.Numbers.{undeclared}
 use Rattle.gathering.specs.declared.gathered.Gathered.{Gathered}
 use Rattle.std.specs.Prelude.{Option, Some, None, is_some, Result, Ok, Err}
 use Rattle.std.specs.Option.{ok_or}
-use Rattle.gathering.specs.Gathered.{state_of, stored_words, Filled, Held, HeldIndex, LineSays, LineIs, first_line, opens_condition}
+use Rattle.gathering.specs.Gathered.{state_of, stored_words, Filled, Held, HeldIndex, LineSays, LineIs, first_line}
 use Rattle.gathering.proofs.HeldState.{atoms_is, rules_is, occurrences_is, held_is, fill_more, within_limits, limits_within, known_names}
 use Rattle.gathering.proofs.RuleSteps.{store_fits}
 use Rattle.condition_form.specs.declared.condition.ConditionPlaces.{ConditionPlaces}

@@ -13,6 +13,7 @@ use condition_form::condition::condition_at;
 use condition_parts::parts::parse_condition;
 use condition_rules::{RulesPut, put_condition};
 use condition_scan::scan::scan_condition;
+use conditions::table::{Connective, TableRow};
 use gathering::gathered::Gathered;
 use kinds::limits::{Counts, Kind, Preference};
 use kinds::refusals::Refusal;
@@ -83,7 +84,12 @@ fn add_condition(
     if Preference::ATOMS < atoms + made + connectives {
         return Err(Refusal::Limit);
     }
-    let mut table = [0u16; 3 * Preference::ATOMS];
+    let unfilled = TableRow {
+        kind: Connective::Not,
+        left: 0,
+        right: 0,
+    };
+    let mut table = [unfilled; Preference::ATOMS];
     let parse = parse_condition(
         spoken,
         made,
@@ -95,8 +101,7 @@ fn add_condition(
     )
     .ok_or(Refusal::BrokenCondition)?;
     let put = put_condition(
-        &table,
-        connectives,
+        &table[..connectives],
         atoms + made,
         parse.atom,
         then,

@@ -3,8 +3,8 @@ use Prim.Native.Nat.{ℕ, suc, ◌+◌, ◌*◌, ◌<◌, ◌≤◌}
 use native.Mathlib.Omega.{arith}
 use mathlib.Core.Path.{◌≡◌, refl, sym, ap, ap₂, ◌∙◌, subst}
 use mathlib.Core.Bool.{Bool, true, false, not, ◌||◌}
-use mathlib.Core.List.{List, [], ◌∷◌, ◌++◌, append_assoc}
-use lib.ListN.{length, drop, length-append}
+use mathlib.Core.List.{List, [], ◌∷◌, ◌++◌, map, append_assoc}
+use lib.ListN.{length, set, drop, length-append}
 use lib.Seq.{sets, length-sets}
 use Rattle.kinds.specs.Words.{not_word, and_word, or_word}
 use Rattle.rules.specs.Lists.{All, some, flat, from}
@@ -14,7 +14,10 @@ use Rattle.conditions.specs.Conditions.{Atom, made, Cond, NOT, AND, OR, connecti
 use Rattle.conditions.specs.Written as Written
 use Rattle.conditions.specs.Rows.{Row, not_row, and-row, or-row, rows}
 use Rattle.conditions.specs.Numbers.{in_file}
-use Rattle.conditions.specs.Table.{not_kind, and_kind, or_kind, row_words}
+use Rattle.conditions.specs.declared.table.Connective.{Connective}
+use Rattle.conditions.specs.declared.table.Connective.TheVariants.{Not, And, Or}
+use Rattle.conditions.specs.declared.table.TableRow.{TableRow}
+use Rattle.conditions.specs.Table.{entry, table_row}
 use Rattle.std.specs.Prelude.{Some, None}
 use Rattle.lines.specs.Tokens.{Token, word, tokens}
 use Rattle.lines.specs.Conditions.{names_in, connectives_in, Pending, bracket, negate, conjoin, disjoin, with_and, with_or, part, after, parse_from}
@@ -43,9 +46,9 @@ abbrev pub word_of : Joint → List ℕ
 word_of conj = and_word
 word_of disj = or_word
 
-abbrev pub kind_of : Joint → ℕ
-kind_of conj = and_kind
-kind_of disj = or_kind
+abbrev pub kind_of : Joint → Connective
+kind_of conj = And
+kind_of disj = Or
 
 abbrev join : Joint → Cond → ℕ → Cond → Cond
 join conj l t r = AND l t r
@@ -79,10 +82,10 @@ module _ (l r : Cond) (t : ℕ) where
   part_joined conj = refl
   part_joined disj = refl
 
-row_words_lem : (j : Joint) (n t : ℕ) (l r : Atom) → row_words n (row_of j t l r) ≡ kind_of j ∷ in_file n l ∷ in_file n r ∷ []
-unfolding row_words
-row_words_lem conj n t l r = refl
-row_words_lem disj n t l r = refl
+row_entry : (j : Joint) (n t : ℕ) (l r : Atom) → table_row n (row_of j t l r) ≡ entry (kind_of j) (in_file n l) (in_file n r)
+unfolding table_row
+row_entry conj n t l r = refl
+row_entry disj n t l r = refl
 
 is_connective : (j : Joint) → IsConnective (word_of j)
 is_connective conj = is_and
@@ -155,7 +158,7 @@ none_left p xs ys e = go (some p xs) (some p ys) (sym (some_app p xs ys) ∙ e)
 module _ {names : List (List ℕ)} {s : List ℕ} {made-before : ℕ} where
   -- reading goes on behind an opening bracket, a connective's word, a part
 
-  module _ {at next : ℕ} {table : List ℕ} (h : Readable names s at made-before next table) where
+  module _ {at next : ℕ} {table : List TableRow} (h : Readable names s at made-before next table) where
     pub behind_opening : {p : ℕ} → OpeningIs s at (Some p) → Readable names s p made-before next table
     behind_opening {p} o =
         let k : OpeningSays s at (Some p) = o.says in
@@ -180,9 +183,9 @@ module _ {names : List (List ℕ)} {s : List ℕ} {made-before : ℕ} where
           numbers = omega (arith, h.numbers);
         }
 
-    module _ {l : Level} {after_table : List ℕ} {place atom next' : ℕ} (k : PartAt l names s at made-before next table after_table place atom next') where
+    module _ {l : Level} {after_table : List TableRow} {place atom next' : ℕ} (k : PartAt l names s at made-before next table after_table place atom next') where
       pub table_kept : length after_table ≡ length table
-      table_kept = ap length k.written ∙ length-sets table (3 * next) (flat (row_words (length names)) (rows k.condition))
+      table_kept = ap length k.written ∙ length-sets table next (map (table_row (length names)) (rows k.condition))
 
       pub behind_part : Readable names s place made-before next' after_table
       behind_part =
@@ -197,12 +200,12 @@ module _ {names : List (List ℕ)} {s : List ℕ} {made-before : ℕ} where
       atom_fits = omega (arith, k.below, behind_part.numbers)
 
   -- a connective's row has room once its right part is read
-  pub row_room : (row : ℕ) {at : ℕ} {table : List ℕ} → Readable names s at made-before (row + 1) table → {l : Level} {after_table : List ℕ} {place atom next' : ℕ}
-      → PartAt l names s at made-before (row + 1) table after_table place atom next' → 3 * row + 3 ≤ length after_table
+  pub row_room : (row : ℕ) {at : ℕ} {table : List TableRow} → Readable names s at made-before (row + 1) table → {l : Level} {after_table : List TableRow} {place atom next' : ℕ}
+      → PartAt l names s at made-before (row + 1) table after_table place atom next' → row < length after_table
   row_room row h k = omega (arith, h.room, table_kept h k)
 
   -- a part of one level is a part of the level above it
-  pub lifted : (j : Joint) {at next : ℕ} {before after_table : List ℕ} {place atom next' : ℕ}
+  pub lifted : (j : Joint) {at next : ℕ} {before after_table : List TableRow} {place atom next' : ℕ}
       → PartAt (lower j) names s at made-before next before after_table place atom next' → PartAt (level j) names s at made-before next before after_table place atom next'
   lifted j h =
       record {
@@ -222,7 +225,7 @@ module _ {names : List (List ℕ)} {s : List ℕ} {made-before : ℕ} where
       }
 
   -- a part, a word, and what stands behind the word
-  module _ (j : Joint) {at next : ℕ} {before mid : List ℕ} {place left row : ℕ} (h : PartAt (level j) names s at made-before next before mid place left row)
+  module _ (j : Joint) {at next : ℕ} {before mid : List TableRow} {place left row : ℕ} (h : PartAt (level j) names s at made-before next before mid place left row)
       {to : ℕ} (o : WordIs s place (word_of j) (Some to)) where
     abbrev t : ℕ
     t = suc (made-before + row)
@@ -239,12 +242,12 @@ module _ {names : List (List ℕ)} {s : List ℕ} {made-before : ℕ} where
         ∙ word_met (name_number names) t j h.condition ps (tokens (drop to s)) q
         ∙ ap (λ (i : ℕ). parse_from (name_number names) i (awaits j h.condition t ∷ ps) part (tokens (drop to s))) u
 
-    pub right_faulty : {after_table : List ℕ} → PartIs (lower j) names s to made-before (row + 1) mid after_table None
-        → (last : List ℕ) → PartIs (level j) names s at made-before next before last None
+    pub right_faulty : {after_table : List TableRow} → PartIs (lower j) names s to made-before (row + 1) mid after_table None
+        → (last : List TableRow) → PartIs (level j) names s at made-before next before last None
     right_faulty k last = record { says = λ ps q. goes_on ps q ∙ k.says (awaits j h.condition t ∷ ps) (open_awaiting j h.condition t ps) }
 
-    module _ {after_table last : List ℕ} {end right later n : ℕ} (k : PartAt (lower j) names s to made-before (row + 1) mid after_table end right later) (b : Behind (lower j) (tokens (drop end s)))
-        (w : last ≡ sets after_table (3 * row) (kind_of j ∷ left ∷ right ∷ [])) (m : n ≡ length names) where
+    module _ {after_table last : List TableRow} {end right later n : ℕ} (k : PartAt (lower j) names s to made-before (row + 1) mid after_table end right later) (b : Behind (lower j) (tokens (drop end s)))
+        (w : last ≡ set after_table row (entry (kind_of j) left right)) (m : n ≡ length names) where
       abbrev whole : Cond
       whole = join j h.condition t k.condition
 
@@ -257,10 +260,10 @@ module _ {names : List (List ℕ)} {s : List ℕ} {made-before : ℕ} where
       size : length (rows whole) ≡ length (rows h.condition) + suc (length (rows k.condition))
       size = ap length rows_are ∙ length-append (rows h.condition) (new_row ∷ rows k.condition)
 
-      words_are : kind_of j ∷ left ∷ right ∷ [] ≡ row_words (length names) new_row
-      words_are =
-          ap₂ (λ (x y : ℕ). kind_of j ∷ x ∷ y ∷ []) h.is_atom k.is_atom
-          ∙ sym (row_words_lem j (length names) t (Written.part h.condition) (Written.part k.condition))
+      entry_is : entry (kind_of j) left right ≡ table_row (length names) new_row
+      entry_is =
+          ap₂ (λ (x y : ℕ). entry (kind_of j) x y) h.is_atom k.is_atom
+          ∙ sym (row_entry j (length names) t (Written.part h.condition) (Written.part k.condition))
 
       middle : connectives_in (tokens (drop place s)) ≡ suc (connectives_in (tokens (drop to s)))
       middle = ap connectives_in found.1 ∙ connectives_connective (is_connective j) (tokens (drop to s))
@@ -287,28 +290,28 @@ module _ {names : List (List ℕ)} {s : List ℕ} {made-before : ℕ} where
             known = subst (All (λ a. a < length names)) (sym (names_joined h.condition k.condition t j)) (all_app (λ a. a < length names) (names_of h.condition) (names_of k.condition) h.known k.known);
             written =
                 w
-                ∙ ap (sets after_table (3 * row)) words_are
+                ∙ ap (set after_table row) entry_is
                 ∙ row_put (length names) new_row mid row (rows k.condition) k.written
                 ∙ rows_put (length names) before next (rows h.condition) (new_row ∷ rows k.condition) h.count h.written
-                ∙ ap (λ l. sets before (3 * next) (flat (row_words (length names)) l)) (sym rows_are);
+                ∙ ap (λ l. sets before next (map (table_row (length names)) l)) (sym rows_are);
             parses = λ ps q. goes_on ps q
                 ∙ k.parses (awaits j h.condition t ∷ ps) (open_awaiting j h.condition t ps)
                 ∙ joined_parse (name_number names) (suc (made-before + later)) j h.condition t k.condition ps (tokens (drop end s)) b;
           }
 
   -- what an answer says
-  module _ {l : Level} {at next : ℕ} {before after_table : List ℕ} {p : Part} (h : PartIs l names s at made-before next before after_table (Some p)) where
+  module _ {l : Level} {at next : ℕ} {before after_table : List TableRow} {p : Part} (h : PartIs l names s at made-before next before after_table (Some p)) where
     pub part_read : PartAt l names s at made-before next before after_table p.place p.atom p.next
     part_read = h.says.0
 
     pub part_behind : Behind l (tokens (drop p.place s))
     part_behind = h.says.1
 
-  pub first_faulty : (j : Joint) {at next : ℕ} {before after_table : List ℕ} → PartIs (lower j) names s at made-before next before after_table None
-      → (last : List ℕ) → PartIs (level j) names s at made-before next before last None
+  pub first_faulty : (j : Joint) {at next : ℕ} {before after_table : List TableRow} → PartIs (lower j) names s at made-before next before after_table None
+      → (last : List TableRow) → PartIs (level j) names s at made-before next before last None
   first_faulty j h last = record { says = λ ps o. h.says ps (open_lower j ps o) }
 
-  pub no_more : (j : Joint) {at next : ℕ} {before after_table : List ℕ} {p : Part} → PartAt (level j) names s at made-before next before after_table p.place p.atom p.next
+  pub no_more : (j : Joint) {at next : ℕ} {before after_table : List TableRow} {p : Part} → PartAt (level j) names s at made-before next before after_table p.place p.atom p.next
       → Behind (lower j) (tokens (drop p.place s)) → WordIs s p.place (word_of j) None → PartIs (level j) names s at made-before next before after_table (Some p)
   no_more j {p = p} h b o = record { says = (h, behind_level j (tokens (drop p.place s)) b o.says) }
 
@@ -328,12 +331,12 @@ module _ (names : List (List ℕ)) (s : List ℕ) (made-before at next : ℕ) wh
         ∙ part_not (name_number names) u ps (tokens (drop to s))
         ∙ ap (λ (i : ℕ). parse_from (name_number names) i (negate u ∷ ps) part (tokens (drop to s))) v
 
-    pub negated_faulty : {before after_table : List ℕ} → PartIs single names s to made-before (next + 1) before after_table None
-        → (last : List ℕ) → PartIs single names s at made-before next before last None
+    pub negated_faulty : {before after_table : List TableRow} → PartIs single names s to made-before (next + 1) before after_table None
+        → (last : List TableRow) → PartIs single names s at made-before next before last None
     negated_faulty k last = record { says = λ ps q. behind_not ps ∙ k.says (negate u ∷ ps) tt }
 
-    module _ {before after_table last : List ℕ} {end atom later n : ℕ} (k : PartAt single names s to made-before (next + 1) before after_table end atom later)
-        (w : last ≡ sets after_table (3 * next) (not_kind ∷ atom ∷ 0 ∷ [])) (m : n ≡ length names) where
+    module _ {before after_table last : List TableRow} {end atom later n : ℕ} (k : PartAt single names s to made-before (next + 1) before after_table end atom later)
+        (w : last ≡ set after_table next (entry Not atom 0)) (m : n ≡ length names) where
       abbrev negation : Cond
       negation = NOT u k.condition
 
@@ -341,9 +344,9 @@ module _ (names : List (List ℕ)) (s : List ℕ) (made-before at next : ℕ) wh
       unfolding rows
       negation_rows = refl
 
-      negation_words : not_kind ∷ atom ∷ 0 ∷ [] ≡ row_words (length names) (not_row u (Written.part k.condition))
-      unfolding row_words
-      negation_words = ap (λ (x : ℕ). not_kind ∷ x ∷ 0 ∷ []) k.is_atom
+      negation_entry : entry Not atom 0 ≡ table_row (length names) (not_row u (Written.part k.condition))
+      unfolding table_row
+      negation_entry = ap (λ (x : ℕ). entry Not x 0) k.is_atom
 
       negation_numbers : connectives negation ≡ from u (suc (length (rows k.condition)))
       unfolding connectives
@@ -377,9 +380,9 @@ module _ (names : List (List ℕ)) (s : List ℕ) (made-before at next : ℕ) wh
                 known = subst (All (λ a. a < length names)) (sym negation_names) k.known;
                 written =
                     w
-                    ∙ ap (sets after_table (3 * next)) negation_words
+                    ∙ ap (set after_table next) negation_entry
                     ∙ row_put (length names) (not_row u (Written.part k.condition)) before next (rows k.condition) k.written
-                    ∙ ap (λ l. sets before (3 * next) (flat (row_words (length names)) l)) (sym negation_rows);
+                    ∙ ap (λ l. sets before next (map (table_row (length names)) l)) (sym negation_rows);
                 parses = λ ps q. behind_not ps ∙ k.parses (negate u ∷ ps) tt ∙ negated (name_number names) (suc (made-before + later)) ps u k.condition (tokens (drop end s));
               },
               tt,
@@ -394,16 +397,16 @@ module _ (names : List (List ℕ)) (s : List ℕ) (made-before at next : ℕ) wh
     inside_bracket : (number : ℕ) (ps : List Pending) → parse_from (name_number names) number ps part (tokens (drop at s)) ≡ parse_from (name_number names) number (bracket ∷ ps) part (tokens (drop inner s))
     inside_bracket number ps = ap (parse_from (name_number names) number ps part) opening_found.1 ∙ part_opening (name_number names) number ps (tokens (drop inner s))
 
-    pub inner_faulty : {before after_table : List ℕ} → PartIs disjunctions names s inner made-before next before after_table None
-        → (last : List ℕ) → PartIs single names s at made-before next before last None
+    pub inner_faulty : {before after_table : List TableRow} → PartIs disjunctions names s inner made-before next before after_table None
+        → (last : List TableRow) → PartIs single names s at made-before next before last None
     inner_faulty k last = record { says = λ ps q. inside_bracket (suc (made-before + next)) ps ∙ k.says (bracket ∷ ps) tt }
 
-    module _ {before after_table : List ℕ} {place atom later : ℕ} (k : PartAt disjunctions names s inner made-before next before after_table place atom later) where
+    module _ {before after_table : List TableRow} {place atom later : ℕ} (k : PartAt disjunctions names s inner made-before next before after_table place atom later) where
       up_to_closing : (ps : List Pending)
           → parse_from (name_number names) (suc (made-before + next)) ps part (tokens (drop at s)) ≡ parse_from (name_number names) (suc (made-before + later)) (bracket ∷ ps) (after k.condition) (tokens (drop place s))
       up_to_closing ps = inside_bracket (suc (made-before + next)) ps ∙ k.parses (bracket ∷ ps) tt
 
-      pub unclosed_faulty : Behind disjunctions (tokens (drop place s)) → ClosedIs s place None → (last : List ℕ) → PartIs single names s at made-before next before last None
+      pub unclosed_faulty : Behind disjunctions (tokens (drop place s)) → ClosedIs s place None → (last : List TableRow) → PartIs single names s at made-before next before last None
       unclosed_faulty b c last =
           record { says = λ ps i. up_to_closing ps ∙ unclosed (name_number names) (suc (made-before + later)) k.condition ps (tokens (drop place s)) b.0 b.1 c.says }
 

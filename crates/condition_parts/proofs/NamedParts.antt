@@ -12,6 +12,7 @@ use Rattle.std.specs.Prelude.{Option, Some, None, is_some}
 use Rattle.name_store.specs.NameStore.{same_bytes, among}
 use Rattle.name_store.specs.NameIndex.{found}
 use Rattle.conditions.specs.Conditions.{name, connectives, names_of}
+use Rattle.conditions.specs.declared.table.TableRow.{TableRow}
 use Rattle.conditions.specs.Rows.{rows}
 use Rattle.conditions.specs.Numbers.{in_file}
 use Rattle.lines.specs.declared.scan.Item.{Item}
@@ -31,7 +32,7 @@ use Rattle.condition_parts.proofs.ConditionLaws.{called_sort, names_called, conn
 module _ (names : List (List ℕ)) (s : List ℕ) (at next : ℕ) where
   -- the answer, whatever was made before and whatever the table holds
   abbrev Answer : Option Part → Type 0
-  Answer r = (made-before : ℕ) (table : List ℕ) → PartIs single names s at made-before next table table r
+  Answer r = (made-before : ℕ) (table : List TableRow) → PartIs single names s at made-before next table table r
 
   faulty : ((t : ℕ) (ps : List Pending) → parse_from (name_number names) t ps part (tokens (drop at s)) ≡ unparsed) → Answer None
   faulty f made-before table = record { says = λ ps o. f (suc (made-before + next)) ps }
@@ -118,10 +119,10 @@ module _ (names : List (List ℕ)) (s : List ℕ) (made-before : ℕ) where
   unfolding parse
   starts = ap (λ (i : ℕ). parse_from (name_number names) (suc i) [] part (tokens s)) (sym (add-zero made-before))
 
-  pub whole_faulty : {before after_table : List ℕ} → PartIs disjunctions names s 0 made-before 0 before after_table None → ParseIs names s made-before before after_table None
+  pub whole_faulty : {before after_table : List TableRow} → PartIs disjunctions names s 0 made-before 0 before after_table None → ParseIs names s made-before before after_table None
   whole_faulty h = record { says = starts ∙ h.says [] tt }
 
-  module _ {before after_table : List ℕ} {place atom count : ℕ} (h : PartAt disjunctions names s 0 made-before 0 before after_table place atom count) {r : Bool} (e : r ≡ is_empty (tokens (drop place s))) where
+  module _ {before after_table : List TableRow} {place atom count : ℕ} (h : PartAt disjunctions names s 0 made-before 0 before after_table place atom count) {r : Bool} (e : r ≡ is_empty (tokens (drop place s))) where
     up_to : parse (name_number names) (suc made-before) (tokens s) ≡ parse_from (name_number names) (suc (made-before + count)) [] (after h.condition) (tokens (drop place s))
     up_to = starts ∙ h.parses [] tt
 

@@ -1,13 +1,14 @@
 -- Parts of a condition, as the code reads them: where a part ends, its atom, and its connectives' rows in the table.
-use Rattle.std.specs.Prelude.{ℕ, suc, ◌+◌, ◌*◌, ◌<◌, ◌≤◌, ◌≡◌, false, List, [], ◌∷◌, ◌++◌, length, drop, Option, Some, None}
+use Rattle.std.specs.Prelude.{ℕ, suc, ◌+◌, ◌<◌, ◌≤◌, ◌≡◌, false, List, [], ◌∷◌, ◌++◌, map, length, drop, Option, Some, None}
 use Rattle.std.proofs.lemmas.List.Edits.{sets}
 use Rattle.kinds.specs.Words.{and_word, or_word}
-use Rattle.rules.specs.Lists.{All, flat, from}
+use Rattle.rules.specs.Lists.{All, from}
 use Rattle.conditions.specs.Conditions.{Cond, connectives, names_of}
 use Rattle.conditions.specs.Written as Written
 use Rattle.conditions.specs.Rows.{rows}
 use Rattle.conditions.specs.Numbers.{in_file}
-use Rattle.conditions.specs.Table.{row_words}
+use Rattle.conditions.specs.declared.table.TableRow.{TableRow}
+use Rattle.conditions.specs.Table.{table_row}
 use Rattle.lines.specs.Tokens.{Token, tokens}
 use Rattle.lines.specs.Conditions.{names_in, connectives_in, Pending, bracket, negate, conjoin, disjoin, parsed, unparsed, part, after, parse_from, parse}
 use Rattle.lines.specs.Faults.{name_number}
@@ -41,14 +42,14 @@ Behind conjunctions ts = is_leading and_word ts ≡ false
 Behind single ts = Unit {0}
 
 -- the names are declared; the rows of the connectives from `at` on have room, the first at row `next`, and their atoms fit a word
-pub record Readable (names : List (List ℕ)) (s : List ℕ) (at made next : ℕ) (table : List ℕ) : Type 0 where
+pub record Readable (names : List (List ℕ)) (s : List ℕ) (at made next : ℕ) (table : List TableRow) : Type 0 where
   pub inside : at ≤ length s
   pub declared : undeclared names (names_in (tokens (drop at s))) ≡ false
-  pub room : 3 * (next + connectives_in (tokens (drop at s))) ≤ length table
+  pub room : next + connectives_in (tokens (drop at s)) ≤ length table
   pub numbers : length names + made + next + connectives_in (tokens (drop at s)) < 65536
 
 -- a condition stands from `at` to `place`; its connectives, numbered on from `next`, have their rows
-pub record PartAt (level : Level) (names : List (List ℕ)) (s : List ℕ) (at made next : ℕ) (before after_table : List ℕ) (place atom next' : ℕ) : Type 0 where
+pub record PartAt (level : Level) (names : List (List ℕ)) (s : List ℕ) (at made next : ℕ) (before after_table : List TableRow) (place atom next' : ℕ) : Type 0 where
   pub condition : Cond
   pub onward : at < place
   pub inside : place ≤ length s
@@ -60,22 +61,22 @@ pub record PartAt (level : Level) (names : List (List ℕ)) (s : List ℕ) (at m
   pub below : atom < length names + made + next'
   pub numbered : connectives condition ≡ from (suc (made + next)) (length (rows condition))
   pub known : All (λ a. a < length names) (names_of condition)
-  pub written : after_table ≡ sets before (3 * next) (flat (row_words (length names)) (rows condition))
+  pub written : after_table ≡ sets before next (map (table_row (length names)) (rows condition))
   pub parses : (ps : List Pending) → Open level ps
       → parse_from (name_number names) (suc (made + next)) ps part (tokens (drop at s)) ≡ parse_from (name_number names) (suc (made + next')) ps (after condition) (tokens (drop place s))
 
-abbrev pub PartSays : Level → List (List ℕ) → List ℕ → ℕ → ℕ → ℕ → List ℕ → List ℕ → Option Part → Type 0
+abbrev pub PartSays : Level → List (List ℕ) → List ℕ → ℕ → ℕ → ℕ → List TableRow → List TableRow → Option Part → Type 0
 PartSays level names s at made next before after_table (Some p) =
     PartAt level names s at made next before after_table p.place p.atom p.next × Behind level (tokens (drop p.place s))
 PartSays level names s at made next before after_table None =
     (ps : List Pending) → Open level ps → parse_from (name_number names) (suc (made + next)) ps part (tokens (drop at s)) ≡ unparsed
 
 -- what the answer of a level says
-pub record PartIs (level : Level) (names : List (List ℕ)) (s : List ℕ) (at made next : ℕ) (before after_table : List ℕ) (r : Option Part) : Type 0 where
+pub record PartIs (level : Level) (names : List (List ℕ)) (s : List ℕ) (at made next : ℕ) (before after_table : List TableRow) (r : Option Part) : Type 0 where
   pub says : PartSays level names s at made next before after_table r
 
 -- the whole is a condition, and its table stands written
-pub record Whole (names : List (List ℕ)) (s : List ℕ) (made : ℕ) (before after_table : List ℕ) (atom count : ℕ) : Type 0 where
+pub record Whole (names : List (List ℕ)) (s : List ℕ) (made : ℕ) (before after_table : List TableRow) (atom count : ℕ) : Type 0 where
   pub condition : Cond
   pub is_parsed : parse (name_number names) (suc made) (tokens s) ≡ parsed condition
   pub is_atom : atom ≡ in_file (length names) (Written.part condition)
@@ -83,11 +84,11 @@ pub record Whole (names : List (List ℕ)) (s : List ℕ) (made : ℕ) (before a
   pub rows_count : count ≡ length (rows condition)
   pub numbered : connectives condition ≡ from (suc made) (length (rows condition))
   pub known : All (λ a. a < length names) (names_of condition)
-  pub written : after_table ≡ sets before 0 (flat (row_words (length names)) (rows condition))
+  pub written : after_table ≡ sets before 0 (map (table_row (length names)) (rows condition))
 
-abbrev pub ParseSays : List (List ℕ) → List ℕ → ℕ → List ℕ → List ℕ → Option Parse → Type 0
+abbrev pub ParseSays : List (List ℕ) → List ℕ → ℕ → List TableRow → List TableRow → Option Parse → Type 0
 ParseSays names s made before after_table (Some p) = Whole names s made before after_table p.atom p.connectives
 ParseSays names s made before after_table None = parse (name_number names) (suc made) (tokens s) ≡ unparsed
 
-pub record ParseIs (names : List (List ℕ)) (s : List ℕ) (made : ℕ) (before after_table : List ℕ) (r : Option Parse) : Type 0 where
+pub record ParseIs (names : List (List ℕ)) (s : List ℕ) (made : ℕ) (before after_table : List TableRow) (r : Option Parse) : Type 0 where
   pub says : ParseSays names s made before after_table r

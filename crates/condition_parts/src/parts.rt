@@ -4,6 +4,7 @@ ghost use Rattle.std.specs.Prelude.{◌≡◌, false, List, ℕ, ◌≤◌, leng
 ghost use Rattle.kinds.specs.Words.{not_word};
 ghost use Rattle.name_store.specs.NameStore.{decode_names};
 ghost use Rattle.name_store.specs.NameIndex.{Indexed};
+ghost use Rattle.conditions.specs.declared.table.TableRow.{TableRow};
 ghost use Rattle.lines.specs.Tokens.{tokens};
 ghost use Rattle.lines.specs.Conditions.{names_in};
 ghost use Rattle.numbering.specs.Numbers.{undeclared};
@@ -11,8 +12,8 @@ ghost use Rattle.condition_parts.specs.Places.{is_opening, is_leading};
 ghost use Rattle.condition_parts.specs.Parts.{disjunctions, conjunctions, single, Readable, PartIs, ParseIs};
 
 use crate::places::{opening_at, word_at};
-use crate::rows;
 use crate::rows::put_row;
+use conditions::table::{Connective, TableRow};
 use lines::scan;
 use lines::scan::Item;
 use name_store::index;
@@ -45,7 +46,7 @@ fn name_at(
     requires at_in_bounds { (at ≤ length s.now) × (undeclared (decode_names (length starts.now) bytes.now) (names_in (tokens (drop at s.now))) ≡ false) }
     requires s_value { (is_opening (tokens (drop at s.now)) ≡ false) × (is_leading not_word (tokens (drop at s.now)) ≡ false) }
     requires indexed { Indexed (decode_names (length starts.now) bytes.now) bytes.now starts.now firsts.now links.now }
-    ensures { (made : ℕ) (table : List ℕ) → PartIs single (decode_names (length starts.now) bytes.now) s.now at made next table table result }
+    ensures { (made : ℕ) (table : List TableRow) → PartIs single (decode_names (length starts.now) bytes.now) s.now at made next table table result }
 {
     if word_at(s, at, b"and").is_some() || word_at(s, at, b"or").is_some() {
         return None;
@@ -68,7 +69,7 @@ pub fn or_level(
     starts: &[u16],
     firsts: &[u16],
     links: &[u16],
-    table: &mut [u16],
+    table: &mut [TableRow],
 ) -> Option<Part>
     requires readable { Readable (decode_names (length starts.now) bytes.now) s.now at made next table.old }
     requires indexed { Indexed (decode_names (length starts.now) bytes.now) bytes.now starts.now firsts.now links.now }
@@ -87,7 +88,7 @@ pub fn or_level(
             links,
             table,
         )?;
-        put_row(table, part.next, rows::OR, part.atom, right.atom);
+        put_row(table, part.next, Connective::Or, part.atom, right.atom);
         part = Part {
             atom: starts.len() + made + part.next,
             ..right
@@ -107,7 +108,7 @@ pub fn and_level(
     starts: &[u16],
     firsts: &[u16],
     links: &[u16],
-    table: &mut [u16],
+    table: &mut [TableRow],
 ) -> Option<Part>
     requires readable { Readable (decode_names (length starts.now) bytes.now) s.now at made next table.old }
     requires indexed { Indexed (decode_names (length starts.now) bytes.now) bytes.now starts.now firsts.now links.now }
@@ -126,7 +127,7 @@ pub fn and_level(
             links,
             table,
         )?;
-        put_row(table, part.next, rows::AND, part.atom, right.atom);
+        put_row(table, part.next, Connective::And, part.atom, right.atom);
         part = Part {
             atom: starts.len() + made + part.next,
             ..right
@@ -146,7 +147,7 @@ pub fn not_level(
     starts: &[u16],
     firsts: &[u16],
     links: &[u16],
-    table: &mut [u16],
+    table: &mut [TableRow],
 ) -> Option<Part>
     requires readable { Readable (decode_names (length starts.now) bytes.now) s.now at made next table.old }
     requires indexed { Indexed (decode_names (length starts.now) bytes.now) bytes.now starts.now firsts.now links.now }
@@ -156,7 +157,7 @@ pub fn not_level(
         return bracket(s, at, made, next, bytes, starts, firsts, links, table);
     };
     let part = not_level(s, to, made, next + 1, bytes, starts, firsts, links, table)?;
-    put_row(table, next, rows::NOT, part.atom, 0);
+    put_row(table, next, Connective::Not, part.atom, 0);
     Some(Part {
         atom: starts.len() + made + next,
         ..part
@@ -174,7 +175,7 @@ pub fn bracket(
     starts: &[u16],
     firsts: &[u16],
     links: &[u16],
-    table: &mut [u16],
+    table: &mut [TableRow],
 ) -> Option<Part>
     requires readable { Readable (decode_names (length starts.now) bytes.now) s.now at made next table.old }
     requires indexed { Indexed (decode_names (length starts.now) bytes.now) bytes.now starts.now firsts.now links.now }
@@ -197,7 +198,7 @@ pub fn parse_condition(
     starts: &[u16],
     firsts: &[u16],
     links: &[u16],
-    table: &mut [u16],
+    table: &mut [TableRow],
 ) -> Option<Parse>
     requires readable { Readable (decode_names (length starts.now) bytes.now) s.now 0 made 0 table.old }
     requires indexed { Indexed (decode_names (length starts.now) bytes.now) bytes.now starts.now firsts.now links.now }

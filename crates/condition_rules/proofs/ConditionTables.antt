@@ -5,8 +5,8 @@ use mathlib.Core.Path.{◌≡◌, refl, sym, ap, ap₂, ◌∙◌, subst}
 use mathlib.Core.Bool.{Bool, true, false, not}
 use mathlib.Core.List.{List, [], ◌∷◌, ◌++◌, map, map-append}
 use lib.Dec.{eqb, eqb→eq}
-use lib.ListN.{length, drop}
-use lib.Seq.{sets, sets-eq}
+use lib.ListN.{length, take, drop, length-map}
+use lib.Seq.{sets, sets-eq, take-append_seam}
 use borrow.Author.Tests.{ne_eqb}
 use Rattle.rules.specs.Lists.{All, keep, flat, from}
 use Rattle.rules.specs.Rules.{Rule, rule, rename}
@@ -17,7 +17,8 @@ use Rattle.conditions.specs.Conditions.{Atom, planner, made, Cond, name, NOT, AN
 use Rattle.conditions.specs.Written.{is_same, once, part, connective_rules, then_rule}
 use Rattle.conditions.specs.Rows.{Row, not_row, and-row, or-row, rows, row_rules, row_atom}
 use Rattle.conditions.specs.Numbers.{in_file, condition_rules}
-use Rattle.conditions.specs.Table.{row_words}
+use Rattle.conditions.specs.declared.table.TableRow.{TableRow}
+use Rattle.conditions.specs.Table.{table_row}
 use Rattle.conditions.proofs.Rows.{rows_law, rows_atoms}
 use Rattle.condition_rules.specs.declared.RulesPut.{RulesPut}
 use Rattle.condition_rules.specs.TableRules.{once_in, not_atoms, and_atoms, or_atoms, kind_rules, table_rules, RulesPutIs}
@@ -71,30 +72,30 @@ made_number_lem : (n k : ℕ) → in_file n (made (suc k)) ≡ n + k
 unfolding in_file
 made_number_lem n k = omega arith
 
--- the rows' rules, from their words
-rows_rules : (n k : ℕ) (rws : List Row) (rest : List ℕ) → map row_atom rws ≡ from (suc k) (length rws) → All (KnownRow n) rws
-    → table_rules (length rws) (n + k) (flat (row_words n) rws ++ rest) ≡ flat (file_rules n) rws
-unfolding table_rules kind_rules row_words
-rows_rules n k [] rest e h = refl
-rows_rules n k (not_row t c ∷ rws) rest e h =
+-- the rows' rules, from the table's
+rows_rules : (n k : ℕ) (rws : List Row) → map row_atom rws ≡ from (suc k) (length rws) → All (KnownRow n) rws
+    → table_rules (n + k) (map (table_row n) rws) ≡ flat (file_rules n) rws
+unfolding table_rules kind_rules table_row
+rows_rules n k [] e h = refl
+rows_rules n k (not_row t c ∷ rws) e h =
     let number : t ≡ suc k = cc in
     let others : map row_atom rws ≡ from (suc (suc k)) (length rws) = cc in
     let up : n + k + 1 ≡ n + suc k = omega arith in
     ap₂ (λ (a : ℕ) (rs : List (Rule ℕ)). not_atoms a (in_file n c) ++ rs) (sym (ap (λ (u : ℕ). in_file n (made u)) number ∙ made_number_lem n k))
-    (ap (λ (i : ℕ). table_rules (length rws) i (flat (row_words n) rws ++ rest)) up ∙ rows_rules n (suc k) rws rest others h.1)
-rows_rules n k (and-row t l r ∷ rws) rest e h =
+    (ap (λ (i : ℕ). table_rules i (map (table_row n) rws)) up ∙ rows_rules n (suc k) rws others h.1)
+rows_rules n k (and-row t l r ∷ rws) e h =
     let number : t ≡ suc k = cc in
     let others : map row_atom rws ≡ from (suc (suc k)) (length rws) = cc in
     let up : n + k + 1 ≡ n + suc k = omega arith in
     ap₂ (λ (a : ℕ) (rs : List (Rule ℕ)). and_atoms a (in_file n l) (in_file n r) ++ rs) (sym (ap (λ (u : ℕ). in_file n (made u)) number ∙ made_number_lem n k))
-    (ap (λ (i : ℕ). table_rules (length rws) i (flat (row_words n) rws ++ rest)) up ∙ rows_rules n (suc k) rws rest others h.1)
+    (ap (λ (i : ℕ). table_rules i (map (table_row n) rws)) up ∙ rows_rules n (suc k) rws others h.1)
     ∙ ap (λ (rs : List (Rule ℕ)). rs ++ flat (file_rules n) rws) (sym (and_file n t l r h.0.0 h.0.1))
-rows_rules n k (or-row t l r ∷ rws) rest e h =
+rows_rules n k (or-row t l r ∷ rws) e h =
     let number : t ≡ suc k = cc in
     let others : map row_atom rws ≡ from (suc (suc k)) (length rws) = cc in
     let up : n + k + 1 ≡ n + suc k = omega arith in
     ap₂ (λ (a : ℕ) (rs : List (Rule ℕ)). or_atoms a (in_file n l) (in_file n r) ++ rs) (sym (ap (λ (u : ℕ). in_file n (made u)) number ∙ made_number_lem n k))
-    (ap (λ (i : ℕ). table_rules (length rws) i (flat (row_words n) rws ++ rest)) up ∙ rows_rules n (suc k) rws rest others h.1)
+    (ap (λ (i : ℕ). table_rules i (map (table_row n) rws)) up ∙ rows_rules n (suc k) rws others h.1)
     ∙ ap (λ (rs : List (Rule ℕ)). rs ++ flat (file_rules n) rws) (sym (or_file n t l r h.0.0 h.0.1))
 
 -- a condition over n declared atoms, its connectives numbered from 1 or later
@@ -127,28 +128,29 @@ module _ (n : ℕ) where
     counted : All (λ t. 1 ≤ t) (connectives c)
     counted = subst (All (λ t. 1 ≤ t)) (sym numbered) (all_from (λ t. 1 ≤ t) (suc k) (length (rows c)) (λ t l m. omega arith))
 
-    -- the rules of a table that begins with the condition's rows
-    pub table_rules_lem : (rest : List ℕ) → table_rules (length (rows c)) (n + k) (flat (row_words n) (rows c) ++ rest) ≡ map (rename (in_file n)) (connective_rules c)
-    table_rules_lem rest =
-        rows_rules n k (rows c) rest (rows_atoms c ∙ numbered) (rows_known c known counted)
+    -- the rules of a table of the condition's rows
+    pub table_rules_lem : table_rules (n + k) (map (table_row n) (rows c)) ≡ map (rename (in_file n)) (connective_rules c)
+    table_rules_lem =
+        rows_rules n k (rows c) (rows_atoms c ∙ numbered) (rows_known c known counted)
         ∙ sym (map_flat (rename (in_file n)) row_rules (rows c))
         ∙ ap (map (rename (in_file n))) (rows_law c)
 
     -- with the condition's own rule
-    condition_rules_lem : (rest : List ℕ) (a : ℕ) → table_rules (length (rows c)) (n + k) (flat (row_words n) (rows c) ++ rest) ++ (rule (a ∷ []) (in_file n (part c) ∷ []) [] ∷ []) ≡ condition_rules n c a
+    condition_rules_lem : (a : ℕ) → table_rules (n + k) (map (table_row n) (rows c)) ++ (rule (a ∷ []) (in_file n (part c) ∷ []) [] ∷ []) ≡ condition_rules n c a
     unfolding condition_rules in_file
-    condition_rules_lem rest a =
-        ap (λ (rs : List (Rule ℕ)). rs ++ (rule (a ∷ []) (in_file n (part c) ∷ []) [] ∷ [])) (table_rules_lem rest)
+    condition_rules_lem a =
+        ap (λ (rs : List (Rule ℕ)). rs ++ (rule (a ∷ []) (in_file n (part c) ∷ []) [] ∷ [])) table_rules_lem
         ∙ sym (map-append (rename (in_file n)) (connective_rules c) (then_rule c a ∷ []))
 
     -- what is written from a table that the rows were written to
-    pub condition_written : {count first atom : ℕ} {table : List ℕ} (before : List ℕ) → count ≡ length (rows c) → first ≡ n + k → atom ≡ in_file n (part c)
-        → table ≡ sets before 0 (flat (row_words n) (rows c)) → length (flat (row_words n) (rows c)) ≤ length before → (a : ℕ) {at : ℕ} {words now : List ℕ} {r : RulesPut}
-        → RulesPutIs (table_rules count first table ++ (rule (a ∷ []) (atom ∷ []) [] ∷ [])) words at now r → RulesPutIs (condition_rules n c a) words at now r
-    condition_written {table = table} before count_is first_is atom_is written room a {at} {words} {now} {r} h =
-        let rest = drop (0 + length (flat (row_words n) (rows c))) before in
-        let front = written ∙ sets-eq (flat (row_words n) (rows c)) before 0 (omega arith) in
+    pub condition_written : {count first atom : ℕ} {table : List TableRow} (before : List TableRow) → count ≡ length (rows c) → first ≡ n + k → atom ≡ in_file n (part c)
+        → table ≡ sets before 0 (map (table_row n) (rows c)) → length (rows c) ≤ length before → (a : ℕ) {at : ℕ} {words now : List ℕ} {r : RulesPut}
+        → RulesPutIs (table_rules first (take count table) ++ (rule (a ∷ []) (atom ∷ []) [] ∷ [])) words at now r → RulesPutIs (condition_rules n c a) words at now r
+    condition_written {count} {table = table} before count_is first_is atom_is written room a {at} {words} {now} {r} h =
+        let size = length-map (rows c) (table_row n) in
+        let front : take count table ≡ map (table_row n) (rows c) =
+        ap₂ take (count_is ∙ sym size) (written ∙ sets-eq (map (table_row n) (rows c)) before 0 (omega (arith, size)))
+        ∙ take-append_seam (map (table_row n) (rows c)) (drop (0 + length (map (table_row n) (rows c))) before) in
         subst (λ rs. RulesPutIs rs words at now r)
-        (ap₂ (λ (rs : List (Rule ℕ)) (i : ℕ). rs ++ (rule (a ∷ []) (i ∷ []) [] ∷ [])) (ap₂ (λ (i j : ℕ). table_rules i j table) count_is first_is ∙ ap (table_rules (length (rows c)) (n + k)) front) atom_is
-        ∙ condition_rules_lem rest a)
+        (ap₂ (λ (rs : List (Rule ℕ)) (i : ℕ). rs ++ (rule (a ∷ []) (i ∷ []) [] ∷ [])) (ap₂ table_rules first_is front) atom_is ∙ condition_rules_lem a)
         h

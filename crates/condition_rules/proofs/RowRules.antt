@@ -1,13 +1,14 @@
 -- Rules written one after the other, and the rows of a table walked through.
 use Prim.Native.Nat.{ℕ, zero, suc, ◌+◌, ◌*◌, ◌-◌, ◌≤◌, ◌<◌}
-use native.Mathlib.Nat.{add-zero, sub-zero}
+use native.Mathlib.Nat.{add-zero}
+use native.Mathlib.Numerals.{add-one}
 use native.Mathlib.Omega.{arith}
 use mathlib.Core.Path.{◌≡◌, refl, sym, ap, ap₂, ◌∙◌, subst}
 use mathlib.Core.Bool.{Bool, true, false, not, cond}
 use mathlib.Core.List.{List, [], ◌∷◌, ◌++◌, append_assoc, append-nil}
 use lib.Dec.{eqb}
-use lib.ListN.{length, get_or, drop, length-append}
-use lib.Seq.{drop-drop, get_or-drop}
+use lib.ListN.{length, get_or, drop, length-append, drop_of_length-le}
+use lib.Seq.{drop-cons}
 use borrow.Author.Tests.{eq-eqb, ne_eqb}
 use Rattle.rules.specs.Lists.{keep, flat, sum}
 use Rattle.rules.specs.Rules.{Rule, rule, occurrences}
@@ -16,7 +17,9 @@ use Rattle.stores.specs.RuleStore.{rule_words}
 use Rattle.stores.proofs.RuleStores.{rules_length}
 use Rattle.output.specs.Emitted.{Emitted}
 use Rattle.output.proofs.Emitting.{none, then, renamed}
-use Rattle.conditions.specs.Table.{not_kind, and_kind}
+use Rattle.conditions.specs.declared.table.Connective.{Connective}
+use Rattle.conditions.specs.declared.table.Connective.TheVariants.{Not, And, Or}
+use Rattle.conditions.specs.declared.table.TableRow.{TableRow}
 use Rattle.condition_rules.specs.declared.RowsPut.{RowsPut}
 use Rattle.condition_rules.specs.TableRules.{once_in, not_atoms, and_atoms, or_atoms, kind_rules, table_rules, RowsPutIs, RulesPutIs}
 
@@ -56,101 +59,79 @@ either_end l r b e = omega (arith, e.place, once_short l r, length-append (once_
 
 -- the rules of a row
 
-module _ {before after : List ℕ} {at end : ℕ} (kind t l r : ℕ) where
-  pub not_row_put : kind ≡ not_kind → Emitted before at (flat rule_words (not_atoms t l)) after end → RowsPutIs (kind_rules kind t l r) before at after (record { end = end; rules = 2 })
+module _ {before after : List ℕ} {at end : ℕ} (row : TableRow) (t : ℕ) where
+  pub not_row_put : row.kind ≡ Not → Emitted before at (flat rule_words (not_atoms t row.left)) after end → RowsPutIs (kind_rules row.kind t row.left row.right) before at after (record { end = end; rules = 2 })
   unfolding kind_rules
-  not_row_put e w =
-      let same : not_atoms t l ≡ kind_rules kind t l r = ap (λ (b : Bool). cond b (not_atoms t l) (cond (eqb kind and_kind) (and_atoms t l r) (or_atoms t l r))) (sym (eq-eqb kind not_kind e)) in
-      subst (λ rs. RowsPutIs rs before at after (record { end = end; rules = 2 })) same (record { written = w; is_rules = refl })
+  not_row_put e w = subst (λ k. RowsPutIs (kind_rules k t row.left row.right) before at after (record { end = end; rules = 2 })) (sym e) (record { written = w; is_rules = refl })
 
-  pub and_row_put : kind ≡ and_kind → Emitted before at (flat rule_words (and_atoms t l r)) after end → RowsPutIs (kind_rules kind t l r) before at after (record { end = end; rules = 3 })
+  pub and_row_put : row.kind ≡ And → Emitted before at (flat rule_words (and_atoms t row.left row.right)) after end → RowsPutIs (kind_rules row.kind t row.left row.right) before at after (record { end = end; rules = 3 })
   unfolding kind_rules
-  and_row_put e w =
-      let no_not : eqb kind not_kind ≡ false = ap (λ (k : ℕ). eqb k not_kind) e in
-      let same : and_atoms t l r ≡ kind_rules kind t l r = ap₂ (λ (a b : Bool). cond a (not_atoms t l) (cond b (and_atoms t l r) (or_atoms t l r))) (sym no_not) (sym (eq-eqb kind and_kind e)) in
-      subst (λ rs. RowsPutIs rs before at after (record { end = end; rules = 3 })) same (record { written = w; is_rules = refl })
+  and_row_put e w = subst (λ k. RowsPutIs (kind_rules k t row.left row.right) before at after (record { end = end; rules = 3 })) (sym e) (record { written = w; is_rules = refl })
 
-  pub or_row_put : (kind ≡ not_kind → ⊥) → (kind ≡ and_kind → ⊥) → Emitted before at (flat rule_words (or_atoms t l r)) after end → RowsPutIs (kind_rules kind t l r) before at after (record { end = end; rules = 3 })
+  pub or_row_put : row.kind ≡ Or → Emitted before at (flat rule_words (or_atoms t row.left row.right)) after end → RowsPutIs (kind_rules row.kind t row.left row.right) before at after (record { end = end; rules = 3 })
   unfolding kind_rules
-  or_row_put m n w =
-      let same : or_atoms t l r ≡ kind_rules kind t l r = ap₂ (λ (a b : Bool). cond a (not_atoms t l) (cond b (and_atoms t l r) (or_atoms t l r))) (sym (ne_eqb kind not_kind m)) (sym (ne_eqb kind and_kind n)) in
-      subst (λ rs. RowsPutIs rs before at after (record { end = end; rules = 3 })) same (record { written = w; is_rules = refl })
+  or_row_put e w = subst (λ k. RowsPutIs (kind_rules k t row.left row.right) before at after (record { end = end; rules = 3 })) (sym e) (record { written = w; is_rules = refl })
 
-kind_few : (kind t l r : ℕ) → length (kind_rules kind t l r) ≤ 3
+kind_few : (kind : Connective) (t l r : ℕ) → length (kind_rules kind t l r) ≤ 3
 unfolding kind_rules
-kind_few kind t l r = go (eqb kind not_kind) (eqb kind and_kind)
-  where
-    go : (a b : Bool) → length (cond a (not_atoms t l) (cond b (and_atoms t l r) (or_atoms t l r))) ≤ 3
-    go true b = omega arith
-    go false true = omega arith
-    go false false = omega arith
+kind_few Not t l r = omega arith
+kind_few And t l r = omega arith
+kind_few Or t l r = omega arith
 
-kind_occurrences : (kind t l r : ℕ) → sum occurrences (kind_rules kind t l r) ≤ 7
+kind_occurrences : (kind : Connective) (t l r : ℕ) → sum occurrences (kind_rules kind t l r) ≤ 7
 unfolding kind_rules
-kind_occurrences kind t l r = go (eqb kind not_kind) (eqb kind and_kind)
-  where
-    go : (a b : Bool) → sum occurrences (cond a (not_atoms t l) (cond b (and_atoms t l r) (or_atoms t l r))) ≤ 7
-    go true b = omega arith
-    go false true = let h = once_short l r in omega arith
-    go false false = let h = once_short l r in omega arith
+kind_occurrences Not t l r = omega arith
+kind_occurrences And t l r = let h = once_short l r in omega arith
+kind_occurrences Or t l r = let h = once_short l r in omega arith
 
-kind_short : (kind t l r : ℕ) → length (flat rule_words (kind_rules kind t l r)) ≤ 16
+kind_short : (kind : Connective) (t l r : ℕ) → length (flat rule_words (kind_rules kind t l r)) ≤ 16
 kind_short kind t l r = omega (arith, rules_length (kind_rules kind t l r), kind_few kind t l r, kind_occurrences kind t l r)
 
 -- the first i rows are walked through
-pub record Putting (table : List ℕ) (count first : ℕ) (before : List ℕ) (at : ℕ) (now : List ℕ) (end rules i : ℕ) : Type 0 where
-  pub few : i ≤ count
+pub record Putting (table : List TableRow) (first : ℕ) (before : List ℕ) (at : ℕ) (now : List ℕ) (end rules i : ℕ) : Type 0 where
   pub done : List (Rule ℕ)
-  pub all : done ++ table_rules (count - i) (first + i) (drop (3 * i) table) ≡ table_rules count first table
+  pub all : done ++ table_rules (first + i) (drop i table) ≡ table_rules first table
   pub written : Emitted before at (flat rule_words done) now end
   pub is_rules : rules ≡ length done
   pub short : end ≤ at + 16 * i
   pub few_rules : rules ≤ 3 * i
 
-pub putting : (table : List ℕ) (count first : ℕ) (before : List ℕ) (at : ℕ) → Putting table count first before at before at 0 0
-putting table count first before at =
-    record { few = omega arith; done = []; all = ap₂ (λ (k t : ℕ). table_rules k t table) (sub-zero count) (add-zero first); written = none; is_rules = refl; short = omega arith; few_rules = omega arith }
+pub putting : (table : List TableRow) (first : ℕ) (before : List ℕ) (at : ℕ) → Putting table first before at before at 0 0
+putting table first before at =
+    record { done = []; all = ap (λ (t : ℕ). table_rules t table) (add-zero first); written = none; is_rules = refl; short = omega arith; few_rules = omega arith }
 
-table_rules_lem : (k i t : ℕ) (table : List ℕ)
-    → table_rules (suc k) t (drop (3 * i) table) ≡ kind_rules (get_or table (3 * i) 0) t (get_or table (3 * i + 1) 0) (get_or table (3 * i + 2) 0) ++ table_rules k (t + 1) (drop (3 * (i + 1)) table)
-unfolding table_rules
-table_rules_lem k i t table =
-    let next : 3 * i + 3 ≡ 3 * (i + 1) = omega arith in
-    let zeroth : get_or (drop (3 * i) table) 0 0 ≡ get_or table (3 * i) 0 = get_or-drop (3 * i) table 0 0 ∙ ap (λ (n : ℕ). get_or table n 0) (add-zero (3 * i)) in
-    ap₂ (λ (a : ℕ) (ws : List ℕ). kind_rules a t (get_or (drop (3 * i) table) 1 0) (get_or (drop (3 * i) table) 2 0) ++ table_rules k (t + 1) ws) zeroth (drop-drop 3 (3 * i) table ∙ ap (λ (n : ℕ). drop n table) next)
-    ∙ ap₂ (λ (a b : ℕ). kind_rules (get_or table (3 * i) 0) t a b ++ table_rules k (t + 1) (drop (3 * (i + 1)) table)) (get_or-drop (3 * i) table 1 0) (get_or-drop (3 * i) table 2 0)
-
-module _ {table : List ℕ} {count first : ℕ} {before : List ℕ} {at : ℕ} {now : List ℕ} {end rules i : ℕ} (h : Putting table count first before at now end rules i) where
-  pub all_put : count ≤ i → RowsPutIs (table_rules count first table) before at now (record { end = end; rules = rules })
+module _ {table : List TableRow} {first : ℕ} {before : List ℕ} {at : ℕ} {now : List ℕ} {end rules i : ℕ} (h : Putting table first before at now end rules i) where
+  pub all_put : length table ≤ i → RowsPutIs (table_rules first table) before at now (record { end = end; rules = rules })
   unfolding table_rules
   all_put l =
-      let out : count - i ≡ 0 = omega (arith, h.few) in
-      let whole : h.done ≡ table_rules count first table =
-      sym (append-nil h.done) ∙ sym (ap (λ (k : ℕ). h.done ++ table_rules k (first + i) (drop (3 * i) table)) out) ∙ h.all in
+      let out : drop i table ≡ [] = drop_of_length-le table l in
+      let whole : h.done ≡ table_rules first table = sym (append-nil h.done) ∙ sym (ap (λ rs. h.done ++ table_rules (first + i) rs) out) ∙ h.all in
       record { written = renamed h.written (ap (flat rule_words) whole); is_rules = h.is_rules ∙ ap length whole }
 
-  module _ (l : i < count) {now' : List ℕ} {r : RowsPut} (p : RowsPutIs (kind_rules (get_or table (3 * i) 0) (first + i) (get_or table (3 * i + 1) 0) (get_or table (3 * i + 2) 0)) now end now' r) where
+  module _ (l : i < length table) (d : TableRow) {now' : List ℕ} {r : RowsPut} (p : RowsPutIs (kind_rules (get_or table i d).kind (first + i) (get_or table i d).left (get_or table i d).right) now end now' r) where
+    abbrev row : TableRow
+    row = get_or table i d
+
     abbrev row_rules_lem : List (Rule ℕ)
-    row_rules_lem = kind_rules (get_or table (3 * i) 0) (first + i) (get_or table (3 * i + 1) 0) (get_or table (3 * i + 2) 0)
+    row_rules_lem = kind_rules row.kind (first + i) row.left row.right
 
     pub rows_fit : (r.rules ≤ 3) × (r.end ≤ end + 16)
     rows_fit = (
-      omega (arith, p.is_rules, kind_few (get_or table (3 * i) 0) (first + i) (get_or table (3 * i + 1) 0) (get_or table (3 * i + 2) 0)),
-      omega (arith, p.written.place, kind_short (get_or table (3 * i) 0) (first + i) (get_or table (3 * i + 1) 0) (get_or table (3 * i + 2) 0)),
+      omega (arith, p.is_rules, kind_few row.kind (first + i) row.left row.right),
+      omega (arith, p.written.place, kind_short row.kind (first + i) row.left row.right),
     )
 
-    pub put_again : Putting table count first before at now' r.end (rules + r.rules) (i + 1)
+    pub put_again : Putting table first before at now' r.end (rules + r.rules) (i + 1)
+    unfolding table_rules
     put_again =
-        let left : suc (count - (i + 1)) ≡ count - i = omega arith in
         let after : first + i + 1 ≡ first + (i + 1) = omega arith in
+        let here : drop i table ≡ row ∷ drop (i + 1) table = drop-cons table i d l ∙ ap (λ (k : ℕ). row ∷ drop k table) (sym (add-one i)) in
         record {
-          few = omega arith;
           done = h.done ++ row_rules_lem;
           all =
-              append_assoc h.done row_rules_lem (table_rules (count - (i + 1)) (first + (i + 1)) (drop (3 * (i + 1)) table))
-              ∙ ap (λ (k : ℕ). h.done ++ (row_rules_lem ++ table_rules (count - (i + 1)) k (drop (3 * (i + 1)) table))) (sym after)
-              ∙ ap (λ rs. h.done ++ rs) (sym (table_rules_lem (count - (i + 1)) i (first + i) table))
-              ∙ ap (λ (k : ℕ). h.done ++ table_rules k (first + i) (drop (3 * i) table)) left
+              append_assoc h.done row_rules_lem (table_rules (first + (i + 1)) (drop (i + 1) table))
+              ∙ ap (λ (k : ℕ). h.done ++ (row_rules_lem ++ table_rules k (drop (i + 1) table))) (sym after)
+              ∙ ap (λ rs. h.done ++ table_rules (first + i) rs) (sym here)
               ∙ h.all;
           written = renamed (then h.written p.written) (sym (flat_append rule_words h.done row_rules_lem));
           is_rules = omega (arith, h.is_rules, p.is_rules, length-append h.done row_rules_lem);
@@ -160,38 +141,38 @@ module _ {table : List ℕ} {count first : ℕ} {before : List ℕ} {at : ℕ} {
 
 -- the rows' rules are short
 
-rules_short : (count first : ℕ) (table : List ℕ) → length (flat rule_words (table_rules count first table)) ≤ 16 * count
+rules_short : (first : ℕ) (table : List TableRow) → length (flat rule_words (table_rules first table)) ≤ 16 * length table
 unfolding table_rules
-rules_short zero first table = omega arith
-rules_short (suc k) first table =
+rules_short first [] = omega arith
+rules_short first (r ∷ rs) =
     omega (
       arith,
-      ap length (flat_append rule_words (kind_rules (get_or table 0 0) first (get_or table 1 0) (get_or table 2 0)) (table_rules k (first + 1) (drop 3 table))),
-      length-append (flat rule_words (kind_rules (get_or table 0 0) first (get_or table 1 0) (get_or table 2 0))) (flat rule_words (table_rules k (first + 1) (drop 3 table))),
-      kind_short (get_or table 0 0) first (get_or table 1 0) (get_or table 2 0),
-      rules_short k (first + 1) (drop 3 table),
+      ap length (flat_append rule_words (kind_rules r.kind first r.left r.right) (table_rules (first + 1) rs)),
+      length-append (flat rule_words (kind_rules r.kind first r.left r.right)) (flat rule_words (table_rules (first + 1) rs)),
+      kind_short r.kind first r.left r.right,
+      rules_short (first + 1) rs,
     )
 
 -- and last the condition's own rule
-module _ (count first : ℕ) (table : List ℕ) {before now : List ℕ} {at : ℕ} {r : RowsPut} (h : RowsPutIs (table_rules count first table) before at now r) where
-  pub rows_end : r.end ≤ at + 16 * count
-  rows_end = omega (arith, h.written.place, rules_short count first table)
+module _ (first : ℕ) (table : List TableRow) {before now : List ℕ} {at : ℕ} {r : RowsPut} (h : RowsPutIs (table_rules first table) before at now r) where
+  pub rows_end : r.end ≤ at + 16 * length table
+  rows_end = omega (arith, h.written.place, rules_short first table)
 
-  pub rows_count : r.rules ≤ 16 * count
-  rows_count = omega (arith, h.is_rules, rules_length (table_rules count first table), rules_short count first table)
+  pub rows_count : r.rules ≤ 16 * length table
+  rows_count = omega (arith, h.is_rules, rules_length (table_rules first table), rules_short first table)
 
   module _ {head body end : ℕ} {after : List ℕ} (w : Emitted now r.end (rule_words (rule (head ∷ []) (body ∷ []) [])) after end) where
     abbrev last : Rule ℕ
     last = rule (head ∷ []) (body ∷ []) []
 
-    rules_are : r.rules + 1 ≡ length (table_rules count first table ++ (last ∷ []))
-    rules_are = omega (arith, h.is_rules, length-append (table_rules count first table) (last ∷ []))
+    rules_are : r.rules + 1 ≡ length (table_rules first table ++ (last ∷ []))
+    rules_are = omega (arith, h.is_rules, length-append (table_rules first table) (last ∷ []))
 
-    words_are : Emitted before at (flat rule_words (table_rules count first table ++ (last ∷ []))) after end
-    words_are = then_rule_lem (table_rules count first table) last h.written w
+    words_are : Emitted before at (flat rule_words (table_rules first table ++ (last ∷ []))) after end
+    words_are = then_rule_lem (table_rules first table) last h.written w
 
-    pub words_count : end ≡ at + (3 * (r.rules + 1) + sum occurrences (table_rules count first table ++ (last ∷ [])))
-    words_count = omega (arith, words_are.place, rules_length (table_rules count first table ++ (last ∷ [])), rules_are)
+    pub words_count : end ≡ at + (3 * (r.rules + 1) + sum occurrences (table_rules first table ++ (last ∷ [])))
+    words_count = omega (arith, words_are.place, rules_length (table_rules first table ++ (last ∷ [])), rules_are)
 
-    pub condition_put : RulesPutIs (table_rules count first table ++ (last ∷ [])) before at after (record { end = end; rules = r.rules + 1; occurrences = end - at - 3 * (r.rules + 1) })
+    pub condition_put : RulesPutIs (table_rules first table ++ (last ∷ [])) before at after (record { end = end; rules = r.rules + 1; occurrences = end - at - 3 * (r.rules + 1) })
     condition_put = record { written = words_are; is_rules = rules_are; is_occurrences = omega (arith, words_count) }

@@ -1,10 +1,12 @@
 -- The rules of a table's rows, over numbers, and what writing them leaves.
-use Rattle.std.specs.Prelude.{ℕ, zero, suc, ◌+◌, ◌≡◌, not, cond, List, [], ◌∷◌, ◌++◌, eqb, length, get_or, drop}
+use Rattle.std.specs.Prelude.{ℕ, ◌+◌, ◌≡◌, not, List, [], ◌∷◌, ◌++◌, eqb, length}
 use Rattle.rules.specs.Lists.{keep, flat, sum}
 use Rattle.rules.specs.Rules.{Rule, rule, occurrences}
 use Rattle.stores.specs.RuleStore.{rule_words}
 use Rattle.output.specs.Emitted.{Emitted}
-use Rattle.conditions.specs.Table.{not_kind, and_kind}
+use Rattle.conditions.specs.declared.table.Connective.{Connective}
+use Rattle.conditions.specs.declared.table.Connective.TheVariants.{Not, And, Or}
+use Rattle.conditions.specs.declared.table.TableRow.{TableRow}
 use Rattle.condition_rules.specs.declared.RowsPut.{RowsPut}
 use Rattle.condition_rules.specs.declared.RulesPut.{RulesPut}
 
@@ -25,13 +27,15 @@ abbrev pub or_atoms : ℕ → ℕ → ℕ → List (Rule ℕ)
 or_atoms t l r = rule (once_in l r) (t ∷ []) [] ∷ rule (t ∷ []) (l ∷ []) [] ∷ rule (t ∷ []) (r ∷ []) [] ∷ []
 
 -- a row's rules: its connective, its T and its parts
-unfoldable pub kind_rules : ℕ → ℕ → ℕ → ℕ → List (Rule ℕ)
-kind_rules kind t l r = cond (eqb kind not_kind) (not_atoms t l) (cond (eqb kind and_kind) (and_atoms t l r) (or_atoms t l r))
+unfoldable pub kind_rules : Connective → ℕ → ℕ → ℕ → List (Rule ℕ)
+kind_rules Not t l r = not_atoms t l
+kind_rules And t l r = and_atoms t l r
+kind_rules Or t l r = or_atoms t l r
 
--- the rules of so many rows, t being the first one's T
-unfoldable pub table_rules : ℕ → ℕ → List ℕ → List (Rule ℕ)
-table_rules zero t ws = []
-table_rules (suc k) t ws = kind_rules (get_or ws 0 0) t (get_or ws 1 0) (get_or ws 2 0) ++ table_rules k (t + 1) (drop 3 ws)
+-- the rules of the rows, t being the first one's T
+unfoldable pub table_rules : ℕ → List TableRow → List (Rule ℕ)
+table_rules t [] = []
+table_rules t (r ∷ rs) = kind_rules r.kind t r.left r.right ++ table_rules (t + 1) rs
 
 -- the rules stand written, and their number is given
 pub record RowsPutIs (rs : List (Rule ℕ)) (before : List ℕ) (at : ℕ) (after : List ℕ) (r : RowsPut) : Type 0 where

@@ -7,12 +7,8 @@ ghost use Rattle.stores.specs.RuleStore.{rule_words};
 ghost use Rattle.output.specs.Emitted.{Emitted};
 ghost use Rattle.condition_rules.specs.TableRules.{once_in, not_atoms, and_atoms, or_atoms, kind_rules, table_rules, RowsPutIs, RulesPutIs};
 
+use conditions::table::{Connective, TableRow};
 use output::words::emit;
-
-// Which connective a row of the table is of; any other word: `or`.
-const NOT: u16 = 0;
-
-const AND: u16 = 1;
 
 // The place behind the rules, and how many they are.
 #[derive(Clone, Copy)]
@@ -92,39 +88,35 @@ fn put_or(atom: u16, left: u16, right: u16, words: &mut [u16], at: usize) -> usi
 }
 
 // The rules of a row.
-fn put_row(kind: u16, atom: u16, left: u16, right: u16, words: &mut [u16], at: usize) -> RowsPut
+fn put_row(row: TableRow, atom: u16, words: &mut [u16], at: usize) -> RowsPut
     requires { at < 2 ^ 61 }
-    ensures { RowsPutIs (kind_rules kind atom left right) words.old at words.new result }
+    ensures { RowsPutIs (kind_rules row.kind atom row.left row.right) words.old at words.new result }
 {
-    if kind == NOT {
-        let end = put_not(atom, left, words, at);
-        return RowsPut { end, rules: 2 };
+    match row.kind {
+        Connective::Not => RowsPut {
+            end: put_not(atom, row.left, words, at),
+            rules: 2,
+        },
+        Connective::And => RowsPut {
+            end: put_and(atom, row.left, row.right, words, at),
+            rules: 3,
+        },
+        Connective::Or => RowsPut {
+            end: put_or(atom, row.left, row.right, words, at),
+            rules: 3,
+        },
     }
-    if kind == AND {
-        let end = put_and(atom, left, right, words, at);
-        return RowsPut { end, rules: 3 };
-    }
-    let end = put_or(atom, left, right, words, at);
-    RowsPut { end, rules: 3 }
 }
 
-// The rules of the first `count` rows; `first` is the atom of the first row's connective.
-pub fn put_rules(table: &[u16], count: usize, first: usize, words: &mut [u16], at: usize) -> RowsPut
-    requires { (3 * count ≤ length table.now) × (first + count ≤ 65536) × (at + 16 * count < 2 ^ 61) }
-    ensures { RowsPutIs (table_rules count first table.now) words.old at words.new result }
+// The rules of the rows; `first` is the atom of the first row's connective.
+pub fn put_rules(table: &[TableRow], first: usize, words: &mut [u16], at: usize) -> RowsPut
+    requires { (first + length table.now ≤ 65536) × (at + 16 * length table.now < 2 ^ 61) }
+    ensures { RowsPutIs (table_rules first table.now) words.old at words.new result }
 {
     let mut end = at;
     let mut rules: usize = 0;
-    for i in 0..count {
-        let row = 3 * i;
-        let put = put_row(
-            table[row],
-            (first + i) as u16,
-            table[row + 1],
-            table[row + 2],
-            words,
-            end,
-        );
+    for (i, row) in table.iter().enumerate() {
+        let put = put_row(*row, (first + i) as u16, words, end);
         end = put.end;
         rules += put.rules;
     }
@@ -133,18 +125,17 @@ pub fn put_rules(table: &[u16], count: usize, first: usize, words: &mut [u16], a
 
 // The rules of the rows, and last `then` if `atom`.
 pub fn put_condition(
-    table: &[u16],
-    count: usize,
+    table: &[TableRow],
     first: usize,
     atom: usize,
     then: usize,
     words: &mut [u16],
     at: usize,
 ) -> RulesPut
-    requires { (3 * count ≤ length table.now) × (first + count ≤ 65536) × (at + 16 * count < 2 ^ 61) × (atom < 65536) × (then < 65536) }
-    ensures { RulesPutIs (table_rules count first table.now ++ (rule (then ∷ []) (atom ∷ []) [] ∷ [])) words.old at words.new result }
+    requires { (first + length table.now ≤ 65536) × (at + 16 * length table.now < 2 ^ 61) × (atom < 65536) × (then < 65536) }
+    ensures { RulesPutIs (table_rules first table.now ++ (rule (then ∷ []) (atom ∷ []) [] ∷ [])) words.old at words.new result }
 {
-    let rows = put_rules(table, count, first, words, at);
+    let rows = put_rules(table, first, words, at);
     let end = put_if(then as u16, atom as u16, words, rows.end);
     let rules = rows.rules + 1;
     RulesPut {

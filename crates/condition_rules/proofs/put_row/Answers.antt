@@ -1,11 +1,11 @@
 use Rattle.condition_rules.proofs.RowRules.{not_row_put, and_row_put, or_row_put}
 use Rattle.condition_rules.proofs.put_row.Goals as goal
 
-pub returns-then-kind-eq-NOT : goal.returns-then-kind-eq-NOT
-returns-then-kind-eq-NOT c = not_row_put c.args.kind c.args.atom c.args.left c.args.right c.if-kind-eq-NOT.true c.put_not-end.ensures
+pub returns-in-Not : goal.returns-in-Not
+returns-in-Not c = not_row_put c.args.row c.args.atom c.in-Not.is c.put_not.ensures
 
-pub returns-then-kind-eq-AND : goal.returns-then-kind-eq-AND
-returns-then-kind-eq-AND c = and_row_put c.args.kind c.args.atom c.args.left c.args.right c.if-kind-eq-AND.true c.put_and-end.ensures
+pub returns-in-And : goal.returns-in-And
+returns-in-And c = and_row_put c.args.row c.args.atom c.in-And.is c.put_and.ensures
 
-pub returns : goal.returns
-returns c = or_row_put c.args.kind c.args.atom c.args.left c.args.right c.if-kind-eq-NOT.false c.if-kind-eq-AND.false c.put_or-end.ensures
+pub returns-in-Or : goal.returns-in-Or
+returns-in-Or c = or_row_put c.args.row c.args.atom c.in-Or.is c.put_or.ensures

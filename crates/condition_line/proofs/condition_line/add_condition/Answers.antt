@@ -1,3 +1,6 @@
+use Rattle.conditions.specs.declared.table.Connective.TheVariants.{Not}
+use Rattle.conditions.specs.declared.table.TableRow.{TableRow}
+use Rattle.conditions.specs.Table.{entry}
 use Rattle.std.proofs.lemmas.Result.{err_from_is_err_and}
 use Rattle.condition_line.proofs.ConditionSteps.{refused_line_lem}
 use Prim.Native.Nat.{ℕ}
@@ -6,10 +9,6 @@ use mathlib.Core.Path.{sym, ◌∙◌}
 use lib.ListN.{length-replicate}
 use Rattle.gathering.proofs.HeldState.{held_small, known_starts, known_index}
 use Rattle.condition_line.proofs.AddedCondition.{unknown_line, full_line, readable, faulty_line, put_fits, keep_fits, added_line}
-use Rattle.condition_line.proofs.condition_line.keep_condition.Reads as keep-condition-reads
-use Rattle.condition_parts.proofs.parts.parse_condition.Reads as parse-condition-reads
-use Rattle.condition_rules.proofs.put_condition.Reads as put-condition-reads
-use Rattle.name_store.proofs.index.find.Reads as find-reads
 use Rattle.condition_line.proofs.condition_line.add_condition.Goals as goal
 
 pub slice_bounds-find-end : goal.slice_bounds-find-end
@@ -36,18 +35,18 @@ slice_bounds-parse_condition-end c = sym (known_starts c.requires.held_index)
 pub parse_condition-requires : goal.parse_condition-requires
 parse_condition-requires c =
     record {
-      readable = readable c.requires.held c.requires.held_index c.args.spoken.now c.args.name.now c.requires.tested c.find.ensures c.in_ok-then.ensures.ok_part c.if-atoms-made-gt-ATOMS.false (length-replicate {A = ℕ} 768 0);
+      readable = readable c.requires.held c.requires.held_index c.args.spoken.now c.args.name.now c.requires.tested c.find.ensures c.in_ok-then.ensures.ok_part c.if-atoms-made-gt-ATOMS.false (length-replicate {A = TableRow} 256 (entry Not 0 0));
       indexed = known_index c.requires.held_index;
     }
 
 pub returns-in_err-parse : goal.returns-in_err-parse
-returns-in_err-parse c = refused_line_lem c.in_err-parse.ensures.value c.in_err-parse.ensures.ok_part (err_from_is_err_and c.from_residual-in_err-parse.result c.from_residual-in_err-parse.ensures.1) (faulty_line c.requires.held c.requires.held_index c.args.spoken.now c.args.name.now c.requires.tested c.find.ensures c.in_ok-then.ensures.ok_part c.if-atoms-made-gt-ATOMS.false (length-replicate {A = ℕ} 768 0) c.parse_condition.ensures c.in_err-parse.ensures.ok_part)
+returns-in_err-parse c = refused_line_lem c.in_err-parse.ensures.value c.in_err-parse.ensures.ok_part (err_from_is_err_and c.from_residual-in_err-parse.result c.from_residual-in_err-parse.ensures.1) (faulty_line c.requires.held c.requires.held_index c.args.spoken.now c.args.name.now c.requires.tested c.find.ensures c.in_ok-then.ensures.ok_part c.if-atoms-made-gt-ATOMS.false (length-replicate {A = TableRow} 256 (entry Not 0 0)) c.parse_condition.ensures c.in_err-parse.ensures.ok_part)
 
 pub put_condition-put-requires : goal.put_condition-put-requires
-put_condition-put-requires c = put_fits c.requires.held c.requires.held_index c.args.spoken.now c.args.name.now c.requires.tested c.find.ensures c.in_ok-then.ensures.ok_part c.if-atoms-made-gt-ATOMS.false (length-replicate {A = ℕ} 768 0) c.parse_condition.ensures c.in_ok-parse.ensures.ok_part (c.parse_condition.auto.table ∙ length-replicate {A = ℕ} 768 0)
+put_condition-put-requires c = put_fits c.requires.held c.requires.held_index c.args.spoken.now c.args.name.now c.requires.tested c.find.ensures c.in_ok-then.ensures.ok_part c.if-atoms-made-gt-ATOMS.false (length-replicate {A = TableRow} 256 (entry Not 0 0)) c.parse_condition.ensures c.in_ok-parse.ensures.ok_part (c.parse_condition.auto.table ∙ length-replicate {A = TableRow} 256 (entry Not 0 0))
 
 pub keep_condition-requires : goal.keep_condition-requires
-keep_condition-requires c = keep_fits c.requires.held c.requires.held_index c.args.spoken.now c.args.name.now c.requires.tested c.find.ensures c.in_ok-then.ensures.ok_part c.if-atoms-made-gt-ATOMS.false (length-replicate {A = ℕ} 768 0) c.parse_condition.ensures c.in_ok-parse.ensures.ok_part c.put_condition-put.ensures
+keep_condition-requires c = keep_fits c.requires.held c.requires.held_index c.args.spoken.now c.args.name.now c.requires.tested c.find.ensures c.in_ok-then.ensures.ok_part c.if-atoms-made-gt-ATOMS.false (length-replicate {A = TableRow} 256 (entry Not 0 0)) c.parse_condition.ensures c.in_ok-parse.ensures.ok_part c.put_condition-put.ensures
 
 pub returns : goal.returns
-returns c = added_line c.requires.held c.requires.held_index c.args.spoken.now c.args.name.now c.requires.tested c.find.ensures c.in_ok-then.ensures.ok_part c.if-atoms-made-gt-ATOMS.false (length-replicate {A = ℕ} 768 0) c.parse_condition.ensures c.in_ok-parse.ensures.ok_part c.put_condition-put.ensures c.keep_condition.ensures
+returns c = added_line c.requires.held c.requires.held_index c.args.spoken.now c.args.name.now c.requires.tested c.find.ensures c.in_ok-then.ensures.ok_part c.if-atoms-made-gt-ATOMS.false (length-replicate {A = TableRow} 256 (entry Not 0 0)) c.parse_condition.ensures c.in_ok-parse.ensures.ok_part c.put_condition-put.ensures c.keep_condition.ensures

@@ -1,6 +1,4 @@
 use Rattle.condition_line.proofs.ConditionSteps.{over_limit, within_limit}
-use Rattle.kinds.proofs.limits.Counts.within.Reads as within-reads
-use borrow.Author.Rules.{rules}
 use mathlib.Core.Path.{ap}
 use mathlib.Core.Bool.{not}
 use Rattle.condition_line.proofs.condition_line.keep_condition.Goals as goal

@@ -5,7 +5,6 @@ use mathlib.Core.Path.{◌≡◌, sym, ap, ◌∙◌}
 use Rattle.gathering.specs.Gathered.{opens_condition}
 use Rattle.lines.proofs.ConditionLines.{whole_when}
 use Rattle.condition_line.proofs.ConditionSteps.{opens}
-use Rattle.lines.proofs.scan.opened_at.Reads as opened-at-reads
 use Rattle.condition_line.proofs.condition_line.opens_condition.Goals as goal
 use Rattle.condition_line.proofs.condition_line.opens_condition.Goals.{in-Preference, in_default}
 

@@ -1,7 +1,5 @@
 use Rattle.std.proofs.lemmas.Result.{err_from_is_err_and}
 use Rattle.condition_line.proofs.ConditionSteps.{refused_line_lem, broken_line, condition_places, places_fit, line_here}
-use Rattle.condition_form.proofs.condition.condition_at.Reads as condition-at-reads
-use Rattle.condition_line.proofs.condition_line.test_condition.Reads as test-condition-reads
 use Rattle.condition_line.proofs.condition_line.read_condition.Goals as goal
 
 pub returns-in_err-places : goal.returns-in_err-places

@@ -3,9 +3,6 @@ use native.Mathlib.Omega.{arith}
 use mathlib.Core.Path.{sym}
 use Rattle.gathering.proofs.HeldState.{known_starts, known_index}
 use Rattle.condition_line.proofs.ConditionSteps.{refused_line_lem, all_allowed, unparsed_line, few_here, deep_line, refused_line, taken_line, undeclared_line, tested}
-use Rattle.condition_line.proofs.condition_line.add_condition.Reads as add-condition-reads
-use Rattle.condition_scan.proofs.scan.scan_condition.Reads as scan-condition-reads
-use Rattle.made_names.proofs.declared.any_declared.Reads as any-declared-reads
 use Rattle.condition_line.proofs.condition_line.test_condition.Goals as goal
 
 pub slice_bounds-scan_condition-end : goal.slice_bounds-scan_condition-end

@@ -1,3 +1,4 @@
+use Rattle.conditions.specs.declared.table.TableRow.{TableRow}
 use Rattle.lines.specs.Tokens.{tokens}
 use Prim.Native.Nat.{ℕ, ◌-◌, ◌+◌, ◌*◌}
 use lib.ListN.{length, drop}
@@ -12,7 +13,7 @@ decreases-and_level l = 4 * (length l.s.now - l.at) + 2
 
 abbrev pub invariant-and_level-loop-to : goal.invariant-and_level-loop-to
 invariant-and_level-loop-to l =
-    ((before : List ℕ) → PartAt (level conj) (decode_names (length l.starts) l.bytes) l.s l.at l.made l.next before l.initial.table l.initial.part.place l.initial.part.atom l.initial.part.next → PartAt (level conj) (decode_names (length l.starts) l.bytes) l.s l.at l.made l.next before l.table l.part.place l.part.atom l.part.next) × Behind (lower conj) (tokens (drop l.part.place l.s))
+    ((before : List TableRow) → PartAt (level conj) (decode_names (length l.starts) l.bytes) l.s l.at l.made l.next before l.initial.table l.initial.part.place l.initial.part.atom l.initial.part.next → PartAt (level conj) (decode_names (length l.starts) l.bytes) l.s l.at l.made l.next before l.table l.part.place l.part.atom l.part.next) × Behind (lower conj) (tokens (drop l.part.place l.s))
 
 abbrev pub decreases-and_level-loop-to : goal.decreases-and_level-loop-to
 decreases-and_level-loop-to l =
@@ -29,7 +30,7 @@ decreases-or_level l = 4 * (length l.s.now - l.at) + 3
 
 abbrev pub invariant-or_level-loop-to : goal.invariant-or_level-loop-to
 invariant-or_level-loop-to l =
-    ((before : List ℕ) → PartAt (level disj) (decode_names (length l.starts) l.bytes) l.s l.at l.made l.next before l.initial.table l.initial.part.place l.initial.part.atom l.initial.part.next → PartAt (level disj) (decode_names (length l.starts) l.bytes) l.s l.at l.made l.next before l.table l.part.place l.part.atom l.part.next) × Behind (lower disj) (tokens (drop l.part.place l.s))
+    ((before : List TableRow) → PartAt (level disj) (decode_names (length l.starts) l.bytes) l.s l.at l.made l.next before l.initial.table l.initial.part.place l.initial.part.atom l.initial.part.next → PartAt (level disj) (decode_names (length l.starts) l.bytes) l.s l.at l.made l.next before l.table l.part.place l.part.atom l.part.next) × Behind (lower disj) (tokens (drop l.part.place l.s))
 
 abbrev pub decreases-or_level-loop-to : goal.decreases-or_level-loop-to
 decreases-or_level-loop-to l =

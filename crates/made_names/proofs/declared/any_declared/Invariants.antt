@@ -1,4 +1,4 @@
-use Prim.Native.Nat.{suc, ◌-◌, ◌≤◌}
+use Prim.Native.Nat.{◌≤◌}
 use lib.ListN.{length}
 use Rattle.kinds.specs.Limits.{atom_limit}
 use Rattle.kinds.specs.declared.limits.Kind.TheVariants.{Preference}

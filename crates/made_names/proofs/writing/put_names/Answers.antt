@@ -1,4 +1,3 @@
-use Prim.Native.Nat.{◌-◌}
 use native.Mathlib.Omega.{arith}
 use Rattle.output.proofs.Emitting.{turn, finish, range_here, length_kept}
 use Rattle.made_names.proofs.NamesPut.{names_begin, names_next}

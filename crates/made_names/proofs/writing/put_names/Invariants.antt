@@ -1,4 +1,4 @@
-use Prim.Native.Nat.{suc, ◌-◌}
+use Prim.Native.Nat.{suc}
 use mathlib.Core.List.{map}
 use Rattle.rules.specs.Lists.{from}
 use Rattle.names.specs.Names.{made_name}
