@@ -1,5 +1,5 @@
 // The form of a line and the places of its lists (document 01, "The two kinds of file"; document 02, W-205).
-ghost use Rattle.std.specs.Prelude.{◌≡◌, ◌||◌, ◌≤◌, length, drop};
+ghost use Rattle.std.specs.Prelude.{◌≡◌, ◌≤◌, length, drop};
 ghost use Rattle.lines.specs.Tokens.{tokens};
 ghost use Rattle.lines.specs.Forms.{opened_of, declared_form, rule_form, opened_form, named, form_of};
 ghost use Rattle.lines.specs.Shapes.{WholeWord, is_closing_last, name_fit, NamesAre, ListIs, word_of, ShapeIs};
@@ -122,15 +122,6 @@ fn declared_shape(line: &[u8], from: usize, kind: Kind, word: Keyword) -> Shape
     Shape::Other
 }
 
-pub fn any(a: bool, b: bool, c: bool) -> bool
-    ensures { result ≡ (a || (b || c)) }
-{
-    if a {
-        return true;
-    }
-    b || c
-}
-
 // A closing bracket, and nothing behind it.
 pub fn closes_line(line: &[u8], at: usize) -> bool
     requires { at ≤ length line.now }
@@ -154,7 +145,7 @@ fn rule_shape(line: &[u8], from: usize, kind: Kind) -> Shape
         return Shape::Other;
     };
     if closes_line(line, not.end) {
-        let refused = any(head.refused, body.refused, not.refused);
+        let refused = head.refused | body.refused | not.refused;
         return Shape::Rule { refused };
     }
     Shape::Other

@@ -6,7 +6,7 @@ use native.Mathlib.Omega.{arith}
 use mathlib.Core.Path.{◌≡◌, refl, sym, ap, ap₂, ◌∙◌, subst}
 use mathlib.Core.Logic.{◌≢◌}
 use mathlib.Core.List.{List, [], ◌∷◌, ◌++◌, append_assoc, append-nil}
-use mathlib.Core.Bool.{true, false, cond, not}
+use mathlib.Core.Bool.{Bool, true, false, cond, not}
 use lib.Dec.{eqb}
 use lib.ListN.{replicate, length-replicate, get_or-replicate, length, get_or, take, drop, set, length-append, length-set, get_or-append}
 use lib.Seq.{length-take-le, take-suc, get_or-take, drop-append_seam, take-append-le, take-append_seam, get_or-append_seam, get_or-set_same, get_or-set_other, drop-drop}
@@ -20,7 +20,7 @@ use Rattle.name_store.proofs.NamePlaces.{length_decode}
 use Rattle.name_store.proofs.NameStores.{not_seen, decode_front}
 use Rattle.rules.proofs.Booleans.{T-not-out, is_true_lem, is_false}
 use Rattle.rules.proofs.ListLaws.{flat_append}
-use Rattle.std.specs.Prelude.{Option, Some, None}
+use Rattle.std.specs.Prelude.{Option, Some, None, is_some}
 
 pub encode_append : (xs ys : List (List ℕ)) → encode_names (xs ++ ys) ≡ encode_names xs ++ encode_names ys
 unfolding encode_names
@@ -148,6 +148,16 @@ module _ {names : List (List ℕ)} {bytes starts firsts links : List ℕ} (ix : 
     first = head_more;
     link = link_more;
   }
+
+-- whether a number is found
+
+pub is_found : (q : Option ℕ) {t : Bool} → t ≡ is_some q → t ≡ true → (j : ℕ) × (q ≡ Some j)
+is_found None e d = absurd (let z : ◌≡◌ {A = Bool} false true = sym e ∙ d in let y : ◌≡◌ {A = ℕ} 0 1 = cc in omega arith)
+is_found (Some j) e d = (j, refl)
+
+pub not_found : (q : Option ℕ) {t : Bool} → t ≡ is_some q → t ≡ false → q ≡ None
+not_found None e d = refl
+not_found (Some j) e d = absurd (let z : ◌≡◌ {A = Bool} true false = sym e ∙ d in let y : ◌≡◌ {A = ℕ} 0 1 = cc in omega arith)
 
 -- the part of `starts` that is filled
 

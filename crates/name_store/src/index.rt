@@ -63,8 +63,8 @@ pub fn hash(name: &[u8]) -> usize
     ensures { result ≡ name_hash name.now }
 {
     let mut h: usize = 0;
-    for i in 0..name.len() {
-        h = hash_step(h, name[i]);
+    for b in name {
+        h = hash_step(h, *b);
     }
     h
 }
@@ -171,9 +171,9 @@ pub fn enter_new(
     ensures firsts_after { firsts.new ≡ cond result (set firsts.old (name_hash name.now) (atom + 1)) firsts.old }
     ensures links_after { links.new ≡ cond result (set links.old atom (get_or firsts.old (name_hash name.now) 0)) links.old }
 {
-    let None = find(bytes, &starts[..atom], firsts, links, name) else {
+    if find(bytes, &starts[..atom], firsts, links, name).is_some() {
         return false;
-    };
+    }
     enter(name, starts, firsts, links, atom, at);
     true
 }

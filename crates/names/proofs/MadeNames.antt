@@ -13,6 +13,7 @@ use Rattle.kinds.specs.declared.limits.Kind.{Kind}
 use Rattle.kinds.specs.declared.limits.Kind.TheVariants.{Plain, Preference}
 use Rattle.rules.proofs.Booleans.{is_true_lem, is_false}
 use Rattle.names.specs.Numerals.{value}
+use Rattle.std.specs.Prelude.{Some}
 use Rattle.names.specs.Names.{is_house, is_made_name, made_number, made_name, is_common_name, name_class, allowed}
 use Rattle.names.specs.declared.forms.NameClass.TheVariants.{Common, Wrong}
 use Rattle.names.proofs.Decimals.{digits_below, value_digits}
@@ -64,9 +65,9 @@ module _ (t : ℕ) where
         let v = value_digits 20 t (omega arith) in
         (made_iff (made_name t)).1 (refl, (refl, (atom_number_iff (decimal t)).1 (decimal_numeral t low (omega arith), (omega arith, omega arith))))
 
-    pub made_number_lem : made_number (made_name t) ≡ t
+    pub made_number_lem : made_number (made_name t) ≡ Some t
     unfolding made_number
-    made_number_lem = simp (is_true_lem (is_made_name (made_name t)) made_is) (made_value (omega arith))
+    made_number_lem = simp (is_true_lem (is_made_name (made_name t)) made_is) (ap Some (made_value (omega arith)))
 
     pub made_short : length (made_name t) ≤ 5
     unfolding made_name

@@ -113,25 +113,6 @@ pub dotted_other : (c : ℕ) (bs : List ℕ) → (Copy c → ⊥) → (c ≡ 69 
 dotted_other c bs f g =
     simp (ne_eqb c 68 (λ e. f (inl e)), ne_eqb c 78 (λ e. f (inr (inl e))), ne_eqb c 83 (λ e. f (inr (inr e))), ne_eqb c 69 g)
 
-pub generated_empty : (bs : List ℕ) → length bs ≡ 0 → Wrong ≡ generated bs
-generated_empty bs e = simp e
-
-pub generated_u : (bs : List ℕ) → length bs ≡ 1 → get_or bs 0 0 ≡ 85 → Generated ≡ generated bs
-generated_u bs e f = simp (e, f)
-
-pub generated_one : (bs : List ℕ) → length bs ≡ 1 → (get_or bs 0 0 ≡ 85 → ⊥) → Wrong ≡ generated bs
-generated_one bs e f = simp (e, ne_eqb _ _ f)
-
-module _ (bs : List ℕ) (some : length bs ≡ 0 → ⊥) (more : length bs ≡ 1 → ⊥) where
-  two : leb 2 (length bs) ≡ true
-  two = le-leb 2 (length bs) (omega arith)
-
-  pub generated_dotted : get_or bs 1 0 ≡ 46 → dotted (get_or bs 0 0) (take (length bs - 2) (drop 2 bs)) ≡ generated bs
-  generated_dotted e = simp (ne_eqb _ _ more, two, e, rest_is)
-
-  pub generated_plain : (get_or bs 1 0 ≡ 46 → ⊥) → Wrong ≡ generated bs
-  generated_plain e = simp (ne_eqb _ _ more, two, ne_eqb _ _ e)
-
 pub class_common : (bs : List ℕ) {r : Bool} → r ≡ is_common_name bs → r ≡ true → by_length bs Common ≡ name_class bs
 unfolding name_class
 class_common bs f g = simp (sym f ∙ g)

@@ -1,5 +1,5 @@
 -- Names: which bytes each kind of program takes (document 01, "The two kinds of file"; document 02, W-201, W-208).
-use Rattle.std.specs.Prelude.{ℕ, Bool, true, false, ◌&&◌, ◌||◌, cond, List, [], ◌∷◌, ◌++◌, leb, eqb, length, get_or, drop}
+use Rattle.std.specs.Prelude.{ℕ, Bool, true, false, ◌&&◌, ◌||◌, cond, List, [], ◌∷◌, ◌++◌, leb, eqb, length, get_or, drop, Option, Some, None}
 use Rattle.kinds.specs.Limits.{atom_limit, name_limit}
 use Rattle.kinds.specs.Words.{byte, bytes, decimal}
 use Rattle.kinds.specs.declared.limits.Kind.{Kind}
@@ -30,17 +30,17 @@ is_house (b ∷ bs) = is_first_byte b && every is_name_byte bs
 unfoldable pub is_atom_number : List ℕ → Bool
 is_atom_number bs = is_numeral bs && (leb 1 (value bs) && leb (value bs) (atom_limit Preference))
 
--- the number itself, 0 for other bytes
-abbrev pub atom_number : List ℕ → ℕ
-atom_number bs = cond (is_atom_number bs) (value bs) 0
+-- the number itself, none for other bytes
+abbrev pub atom_number : List ℕ → Option ℕ
+atom_number bs = cond (is_atom_number bs) (Some (value bs)) None
 
 -- `T.` before a number from 1 to 256, without leading zero: the name of an atom that a condition makes (document 02, W-208)
 unfoldable pub is_made_name : List ℕ → Bool
 is_made_name bs = eqb (get_or bs 0 0) (byte "T") && (eqb (get_or bs 1 0) (byte ".") && is_atom_number (drop 2 bs))
 
--- the number of such a name, 0 for other bytes
-unfoldable pub made_number : List ℕ → ℕ
-made_number bs = cond (is_made_name bs) (value (drop 2 bs)) 0
+-- the number of such a name, none for other bytes
+unfoldable pub made_number : List ℕ → Option ℕ
+made_number bs = cond (is_made_name bs) (Some (value (drop 2 bs))) None
 
 -- the name of the atom that the connective with number t makes
 unfoldable pub made_name : ℕ → List ℕ

@@ -193,9 +193,9 @@ module _ {names : List (List ℕ)} {s : List ℕ} {from stamp : ℕ} {before : L
               ∙ sym (h.marked j)
               ∙ sym m
 
-          step : {flag' : Bool} → flag' ≡ (flag || had) → Numbering names s from stamp before at (i + g + n) end' flag' marks' now'
+          pub number_passed : {flag' : Bool} → flag' ≡ (flag || had) → Numbering names s from stamp before at (i + g + n) end' flag' marks' now'
           unfolding twice
-          step {flag'} k =
+          number_passed {flag'} k =
               record {
                 seen = h.seen ++ (x ∷ []);
                 inside = number_inside;
@@ -216,9 +216,3 @@ module _ {names : List (List ℕ)} {s : List ℕ} {from stamp : ℕ} {before : L
                 room = omega (arith, h.room, ap length t ∙ length-set marks j stamp);
                 written = renamed (then h.written w) (ap (λ k. map (name_number names) h.seen ++ (k ∷ [])) (sym known_name.number) ∙ sym (map_last (name_number names) h.seen x));
               }
-
-          pub number_again : had ≡ true → {flag' : Bool} → flag' ≡ true → Numbering names s from stamp before at (i + g + n) end' flag' marks' now'
-          number_again o p = step (p ∙ sym (ap (λ b. flag || b) o ∙ or-true flag))
-
-          pub number_new : had ≡ false → {flag' : Bool} → flag' ≡ flag → Numbering names s from stamp before at (i + g + n) end' flag' marks' now'
-          number_new o p = step (p ∙ sym (ap (λ b. flag || b) o ∙ or-false flag))

@@ -73,26 +73,23 @@ pub fn enter_names(
     let mut i = from;
     let mut atom = count;
     let mut at = used;
-    loop {
-        let Some(Item { gap, size }) = scan::item_at(line, i) else {
-            return Ok(Entered {
-                atoms: atom,
-                bytes: at,
-            });
-        };
+    while let Some(Item { gap, size }) = scan::item_at(line, i) {
         if Plain::ATOMS <= atom {
             return Err(Unentered::Full { at: i });
         }
         let start = i + gap;
         let to = start + size;
-        if enter_name(&line[start..to], bytes, starts, firsts, links, atom, at) {
-            i = to;
-            atom += 1;
-            at += 1 + size;
-        } else {
+        if !enter_name(&line[start..to], bytes, starts, firsts, links, atom, at) {
             return Err(Unentered::Twice);
         }
+        i = to;
+        atom += 1;
+        at += 1 + size;
     }
+    Ok(Entered {
+        atoms: atom,
+        bytes: at,
+    })
 }
 
 // Whether a name from `from` on is in the index.
@@ -109,17 +106,15 @@ pub fn any_known(
     ensures { result ≡ some (among (decode_names (length starts.now) bytes.now)) (items (drop from line.now)) }
 {
     let mut i = from;
-    loop {
-        let Some(Item { gap, size }) = scan::item_at(line, i) else {
-            return false;
-        };
+    while let Some(Item { gap, size }) = scan::item_at(line, i) {
         let start = i + gap;
         let to = start + size;
-        let None = index::find(bytes, starts, firsts, links, &line[start..to]) else {
+        if index::find(bytes, starts, firsts, links, &line[start..to]).is_some() {
             return true;
-        };
+        }
         i = to;
     }
+    false
 }
 
 fn clear(firsts: &mut [u16])

@@ -18,23 +18,17 @@ fn hashed_run_at(s: &[u8], at: usize, gap: usize) -> HashedItem
     requires { at ≤ length s.now }
     ensures { result ≡ hashed_run gap (drop at s.now) }
 {
-    let mut i = at;
+    let rest = &s[at..];
     let mut hash: usize = 0;
-    while i < s.len() {
-        let b = s[i];
-        if scan::is_delimiter(b) {
-            return HashedItem {
-                gap,
-                size: i - at,
-                hash,
-            };
+    for (i, b) in rest.iter().enumerate() {
+        if scan::is_delimiter(*b) {
+            return HashedItem { gap, size: i, hash };
         }
-        hash = index::hash_step(hash, b);
-        i += 1;
+        hash = index::hash_step(hash, *b);
     }
     HashedItem {
         gap,
-        size: i - at,
+        size: rest.len(),
         hash,
     }
 }

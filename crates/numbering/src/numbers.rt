@@ -6,7 +6,7 @@ ghost use Rattle.stores.specs.Checking.{Below};
 ghost use Rattle.numbering.specs.Numbers.{NumbersAre, ListsAre, RuleIs};
 
 use crate::hashed_items::{HashedItem, hashed_item_at};
-use lines::forms::{any, closes_line};
+use lines::forms::closes_line;
 use lines::scan;
 use name_store::index;
 use output::words::push;
@@ -35,9 +35,7 @@ pub fn mark(marks: &mut [u16], atom: usize, stamp: u16) -> bool
     requires { atom < length marks.old }
     ensures { (result ≡ eqb (get_or marks.old atom 0) stamp) × (marks.new ≡ set marks.old atom stamp) }
 {
-    let marked = marks[atom] == stamp;
-    marks[atom] = stamp;
-    marked
+    std::mem::replace(&mut marks[atom], stamp) == stamp
 }
 
 // Writes the numbers of the names from `from` on, unless a name is not declared or the list is not closed.
@@ -61,20 +59,16 @@ pub fn numbers_at(
     let mut i = from;
     let mut end = at;
     let mut twice = false;
-    loop {
-        let Some(HashedItem { gap, size, hash }) = hashed_item_at(line, i) else {
-            let place = scan::closed_at(line, i)?;
-            return Some(Numbers { place, end, twice });
-        };
+    while let Some(HashedItem { gap, size, hash }) = hashed_item_at(line, i) {
         let start = i + gap;
         let to = start + size;
         let atom = index::find_hashed(bytes, starts, firsts, links, &line[start..to], hash)?;
-        if mark(marks, atom, stamp) {
-            twice = true;
-        }
+        twice |= mark(marks, atom, stamp);
         end = push(atom as u16, out, end);
         i = to;
     }
+    let place = scan::closed_at(line, i)?;
+    Some(Numbers { place, end, twice })
 }
 
 // The three lists from `from` on, each with a stamp of its own.
@@ -125,14 +119,13 @@ fn lists_at(
         out,
         bodies.end,
     )?;
-    let twice = any(heads.twice, bodies.twice, nots.twice);
     Some(RuleCounts {
         place: nots.place,
         heads: heads.end - at,
         bodies: bodies.end - heads.end,
         nots: nots.end - bodies.end,
         end: nots.end,
-        twice,
+        twice: heads.twice | bodies.twice | nots.twice,
     })
 }
 

@@ -1,3 +1,5 @@
+use mathlib.Core.Path.{sym}
+use Rattle.rules.proofs.Booleans.{or_assoc}
 use Rattle.lines.proofs.NameLists.{list_is, no_list}
 use Rattle.lines.proofs.LineShapes.{whole_head, whole_body, whole_not, no_head, no_body, no_not, not_ended, ruling}
 use Rattle.lines.proofs.forms.rule_shape.Goals as goal
@@ -24,7 +26,7 @@ pub closes_line-requires : goal.closes_line-requires
 closes_line-requires c = (list_is c.list_at-3.ensures c.in-Some-list_at-2.is).inside
 
 pub returns-then-closes_line : goal.returns-then-closes_line
-returns-then-closes_line c = ruling c.args.kind c.args.line.now c.args.from (list_is c.list_at.ensures c.in-Some.is) (list_is c.list_at-2.ensures c.in-Some-list_at.is) (list_is c.list_at-3.ensures c.in-Some-list_at-2.is) c.closes_line.ensures c.if-closes_line.true c.any-refused.ensures
+returns-then-closes_line c = ruling c.args.kind c.args.line.now c.args.from (list_is c.list_at.ensures c.in-Some.is) (list_is c.list_at-2.ensures c.in-Some-list_at.is) (list_is c.list_at-3.ensures c.in-Some-list_at-2.is) c.closes_line.ensures c.if-closes_line.true (sym (or_assoc c.in-Some.head.refused c.in-Some-list_at.body.refused c.in-Some-list_at-2.not.refused))
 
 pub returns : goal.returns
 returns c = not_ended c.args.kind c.args.line.now c.args.from (list_is c.list_at.ensures c.in-Some.is) (list_is c.list_at-2.ensures c.in-Some-list_at.is) (list_is c.list_at-3.ensures c.in-Some-list_at-2.is) c.closes_line.ensures c.if-closes_line.false

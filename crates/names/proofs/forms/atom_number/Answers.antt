@@ -13,29 +13,29 @@ returns-then-bytes-gt3 c = number_long c.args.bytes.now c.if-bytes-gt3.true
 pub returns-then-bytes-eq48 : goal.returns-then-bytes-eq48
 returns-then-bytes-eq48 c = number_led c.args.bytes.now c.if-bytes-eq48.true
 
-pub loop-i-init : goal.loop-i-init
-loop-i-init c = digits_begin _
+pub loop-b-init : goal.loop-b-init
+loop-b-init c = digits_begin _
 
 pub returns-then-not-is_digit : goal.returns-then-not-is_digit
-returns-then-not-is_digit c = digits_fail c.loop-i.invariant c.loop-i-test.true (sym c.is_digit.ensures ∙ c.if-not-is_digit.true)
+returns-then-not-is_digit c = digits_fail c.loop-b.invariant c.loop-b-test.true (sym c.is_digit.ensures ∙ c.if-not-is_digit.true)
 
 pub overflow_mul-value : goal.overflow_mul-value
-overflow_mul-value c = omega (arith, digits_small c.loop-i.invariant c.loop-i-test.true c.if-bytes-gt3.false)
+overflow_mul-value c = omega (arith, digits_small c.loop-b.invariant c.loop-b-test.true c.if-bytes-gt3.false)
 
 pub overflow_sub-value : goal.overflow_sub-value
 overflow_sub-value c = (digit_range _ (sym c.is_digit.ensures ∙ c.if-not-is_digit.false)).0
 
 pub overflow_cast-value : goal.overflow_cast-value
-overflow_cast-value c = omega (arith, c.type_inv.bytes c.loop-i.i)
+overflow_cast-value c = omega (arith, c.type_inv.bytes c.loop-b.b-index)
 
 pub overflow_add-value : goal.overflow_add-value
-overflow_add-value c = omega (arith, digits_small c.loop-i.invariant c.loop-i-test.true c.if-bytes-gt3.false, c.type_inv.bytes c.loop-i.i)
+overflow_add-value c = omega (arith, digits_small c.loop-b.invariant c.loop-b-test.true c.if-bytes-gt3.false, c.type_inv.bytes c.loop-b.b-index)
 
-pub loop-i-preserved : goal.loop-i-preserved
-loop-i-preserved c = digits_again c.loop-i.invariant c.loop-i-test.true (sym c.is_digit.ensures ∙ c.if-not-is_digit.false)
+pub loop-b-preserved : goal.loop-b-preserved
+loop-b-preserved c = digits_again c.loop-b.invariant c.loop-b-test.true (sym c.is_digit.ensures ∙ c.if-not-is_digit.false)
 
 pub returns-then-value-le-ATOMS : goal.returns-then-value-le-ATOMS
-returns-then-value-le-ATOMS c = number_said c.loop-i.invariant c.loop-i-test.false c.if-bytes-eq0.false c.if-bytes-eq48.false c.if-value-le-ATOMS.true
+returns-then-value-le-ATOMS c = number_said c.loop-b.invariant c.loop-b-test.false c.if-bytes-eq0.false c.if-bytes-eq48.false c.if-value-le-ATOMS.true
 
 pub returns-else-value-le-ATOMS : goal.returns-else-value-le-ATOMS
-returns-else-value-le-ATOMS c = number_past c.loop-i.invariant c.loop-i-test.false c.if-value-le-ATOMS.false
+returns-else-value-le-ATOMS c = number_past c.loop-b.invariant c.loop-b-test.false c.if-value-le-ATOMS.false

@@ -1,5 +1,6 @@
 use native.Mathlib.Omega.{arith}
-use mathlib.Core.Path.{◌∙◌}
+use mathlib.Core.Path.{sym, ◌∙◌}
+use Rattle.rules.proofs.Booleans.{or_assoc}
 use lib.ListN.{length}
 use Rattle.kinds.specs.Words.{head_word, body_word, not_word}
 use Rattle.name_store.specs.NameStore.{decode_names}
@@ -85,4 +86,4 @@ pub shape_of-out : goal.shape_of-out
 shape_of-out c = c.numbers_at-3.auto.out ∙ c.numbers_at-2.auto.out ∙ c.numbers_at.auto.out
 
 pub returns : goal.returns
-returns c = three_lists (decode_names (length c.args.starts.now) c.args.bytes.now) c.args.line.now c.args.from c.args.stamp c.args.out.now c.args.at c.opened_at.ensures c.in_ok-head.was (list_numbered c.numbers_at.ensures c.in_ok-heads.was) c.opened_at-2.ensures c.in_ok-body.was (list_numbered c.numbers_at-2.ensures c.in_ok-bodies.was) c.opened_at-3.ensures c.in_ok-not.was (list_numbered c.numbers_at-3.ensures c.in_ok-nots.was) c.any-twice.ensures
+returns c = three_lists (decode_names (length c.args.starts.now) c.args.bytes.now) c.args.line.now c.args.from c.args.stamp c.args.out.now c.args.at c.opened_at.ensures c.in_ok-head.was (list_numbered c.numbers_at.ensures c.in_ok-heads.was) c.opened_at-2.ensures c.in_ok-body.was (list_numbered c.numbers_at-2.ensures c.in_ok-bodies.was) c.opened_at-3.ensures c.in_ok-not.was (list_numbered c.numbers_at-3.ensures c.in_ok-nots.was) (sym (or_assoc c.in_ok-heads.heads.twice c.in_ok-bodies.bodies.twice c.in_ok-nots.nots.twice))
