@@ -4,7 +4,7 @@ use native.Mathlib.Numerals.{add-one}
 use native.Mathlib.Omega.{arith}
 use mathlib.Core.Path.{◌≡◌, refl, sym, ap, ap₂, ◌∙◌}
 use mathlib.Core.Bool.{Bool, true, false, cond}
-use mathlib.Core.Logic.{⊎_elim}
+use mathlib.Core.Logic.{◌⊎◌, inl, inr, ⊎_elim}
 use mathlib.Core.List.{List, [], ◌∷◌, ◌++◌, append_assoc}
 use lib.Dec.{T, leb}
 use lib.ListN.{length, get_or, take, drop, length-append}
@@ -122,7 +122,7 @@ other_lines n (Spent u) more c k = refl
 other_lines n (Refused f) more c k = refl
 
 module _ {found : NextState} (c : ℕ) where
-  pub last_state : {s u : ℕ} → found ≡ State s u → [] ≡ last_line found c
+  last_state : {s u : ℕ} → found ≡ State s u → [] ≡ last_line found c
   unfolding last_line
   last_state e = rw e
 
@@ -134,9 +134,13 @@ module _ {found : NextState} (c : ℕ) where
   unfolding last_line
   last_spent e = rw e
 
-  pub last_refused : {f : Refusal} → found ≡ Refused f → [] ≡ last_line found c
+  last_refused : {f : Refusal} → found ≡ Refused f → [] ≡ last_line found c
   unfolding last_line
   last_refused e = rw e
+
+  pub last_none : ((s : ℕ) × (u : ℕ) × (found ≡ State s u)) ⊎ ((f : Refusal) × (found ≡ Refused f)) → [] ≡ last_line found c
+  last_none (inl (s, u, e)) = last_state e
+  last_none (inr (f, e)) = last_refused e
 
 last_short : (found : NextState) (c : ℕ) → length (last_line found c) ≤ 29
 unfolding last_line

@@ -27,10 +27,9 @@ fn emit_last(found: NextState, count: u64, out: &mut [u8], at: usize) -> usize
     ensures { Emitted out.old at (last_line found count) out.new result }
 {
     match found {
-        NextState::State { set, units } => at,
-        NextState::Nothing { units } => emit_total(count, out, at),
-        NextState::Spent { units } => emit(b"(spent)\n", out, at),
-        NextState::Refused { refusal } => at,
+        NextState::Nothing { .. } => emit_total(count, out, at),
+        NextState::Spent { .. } => emit(b"(spent)\n", out, at),
+        NextState::State { .. } | NextState::Refused { .. } => at,
     }
 }
 
@@ -51,7 +50,7 @@ fn emit_listing(
     let mut count: u64 = 0;
     while next <= Kind::STREAM {
         let found = next_masks(plan, fixed, atoms, start, Walk::BUDGET);
-        let NextState::State { set: place, units } = found else {
+        let NextState::State { set: place, .. } = found else {
             return emit_last(found, count, out, next);
         };
         let set = turned(place, atoms);

@@ -1,4 +1,4 @@
-use Rattle.listing.proofs.ListedStates.{last_state, last_total, last_spent, last_refused}
+use Rattle.listing.proofs.ListedStates.{last_total, last_spent, last_none}
 use Rattle.output.proofs.Emitting.{none, renamed, range_renamed}
 use mathlib.Core.Path.{sym}
 use Rattle.listing.proofs.listing.emit_last.Goals as goal
@@ -9,14 +9,11 @@ emit_total-requires c = range_renamed c.requires (sym (last_total _ c.in-Nothing
 pub emit-requires : goal.emit-requires
 emit-requires c = range_renamed c.requires (sym (last_spent c.args.count c.in-Spent.is))
 
-pub returns-in-State : goal.returns-in-State
-returns-in-State c = renamed none (last_state c.args.count c.in-State.is)
-
 pub returns-in-Nothing : goal.returns-in-Nothing
 returns-in-Nothing c = renamed c.emit_total.ensures (last_total _ c.in-Nothing.is)
 
 pub returns-in-Spent : goal.returns-in-Spent
 returns-in-Spent c = renamed c.emit.ensures (last_spent c.args.count c.in-Spent.is)
 
-pub returns-in-Refused : goal.returns-in-Refused
-returns-in-Refused c = renamed none (last_refused c.args.count c.in-Refused.is)
+pub returns-in-State : goal.returns-in-State
+returns-in-State c = renamed none (last_none c.args.count c.in-State.is)
