@@ -15,8 +15,8 @@ pub fn header_of(words: &[u16], kind: Kind) -> Header
     let rules = words[3] as usize;
     let start = 4 + word_count(kind, atoms);
     Header {
-        atoms: atoms,
-        rules: rules,
-        start: start,
+        atoms,
+        rules,
+        start,
     }
 }
