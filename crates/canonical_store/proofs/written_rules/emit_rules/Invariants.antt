@@ -1,6 +1,3 @@
-use Prim.Native.Nat.{◌≤◌}
-use lib.ListN.{length}
-use Rattle.entry_sort.specs.EqualKeys.{KeyedEntries}
 use Rattle.canonical_store.proofs.KeptLoop.{Keeping}
 use Rattle.canonical_store.proofs.written_rules.emit_rules.Given as goal
 
