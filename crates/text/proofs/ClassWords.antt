@@ -1,8 +1,7 @@
 -- For class words that never fall, the atoms of a class word are the run between two counts.
 use Prim.Native.Nat.{ℕ, zero, suc, ◌+◌, ◌-◌, ◌≤◌, ◌<◌}
 use native.Mathlib.Omega.{arith}
-use native.Mathlib.Decide.{dec_lt}
-use mathlib.Core.Path.{◌≡◌, refl, sym, ap, ap₂, ◌∙◌, subst}
+use mathlib.Core.Path.{◌≡◌, refl, sym, ap, ap₂, ◌∙◌}
 use mathlib.Core.Bool.{Bool, true, false, cond}
 use mathlib.Core.List.{List, [], ◌∷◌, ◌++◌, append-nil}
 use lib.Dec.{leb, eqb}
@@ -131,24 +130,3 @@ up_to_from w (x ∷ ws) (suc first) l = go (leb x w) (up_to_from w ws first) l
     go : (b : Bool) → (first ≤ up_to w ws → first + prefix_len (λ x. leb x w) (drop first ws) ≡ up_to w ws) → suc first ≤ count_if b (up_to w ws) → suc first + prefix_len (λ x. leb x w) (drop first ws) ≡ count_if b (up_to w ws)
     go true f h = omega (arith, f (omega arith))
     go false f h = absurd (omega arith)
-
--- the count, word by word
-module _ (w : ℕ) (ws : List ℕ) (i : ℕ) (l : i ≤ up_to w ws) where
-  pub up_to_more : i < length ws → get_or ws i 0 ≤ w → i + 1 ≤ up_to w ws
-  up_to_more u h = go (dec_lt i (up_to w ws))
-    where
-      go : Dec (i < up_to w ws) → i + 1 ≤ up_to w ws
-      go (yes k) = omega arith
-      go (no k) =
-          let e : i ≡ up_to w ws = omega arith in
-          absurd (omega (arith, subst (λ (j : ℕ). j < length ws → w < get_or ws j 0) (sym e) (stops w ws) u))
-
-  pub up_to_stop : i < length ws → w < get_or ws i 0 → i ≡ up_to w ws
-  up_to_stop u h = go (dec_lt i (up_to w ws))
-    where
-      go : Dec (i < up_to w ws) → i ≡ up_to w ws
-      go (yes k) = absurd (omega (arith, within w ws i k))
-      go (no k) = omega arith
-
-  pub up_to_end : length ws ≤ i → i ≡ up_to w ws
-  up_to_end u = omega (arith, up_to_le w ws)
