@@ -7,11 +7,10 @@ use mathlib.Core.Path.{◌≡◌, refl, sym, ap, ◌∙◌, subst}
 use mathlib.Core.Bool.{Bool, true, false, ◌&&◌, ◌||◌, cond}
 use mathlib.Core.List.{List, [], ◌∷◌}
 use lib.Dec.{eqb, leb, ltb}
-use lib.ListN.{length, get_or, drop, length-drop, drop_of_length-le, get_or-eq_default}
+use lib.ListN.{length, get_or, drop, length-drop}
 use lib.Seq.{drop-drop, get_or-drop}
 use borrow.Author.Tests.{leb-true, ltb-true, lt-ltb, le-leb, eq-eqb, ne_eqb}
 use Rattle.rules.proofs.Booleans.{T_of, both_true, or-false}
-use Rattle.output.proofs.Emitting.{byte_next}
 use Rattle.restriction.specs.Atoms.{is_member}
 use Rattle.rule_index.specs.Flip.{is_rising}
 use Rattle.flipping.specs.Joined.{is_leading, behind}

@@ -1,20 +1,16 @@
 -- Whether a rule is kept, and what the loop over the marks keeps.
-use Prim.Native.Nat.{ℕ, suc, ◌+◌, ◌-◌, ◌^◌, ◌≤◌, ◌<◌}
+use Prim.Native.Nat.{ℕ, suc, ◌+◌, ◌-◌, ◌≤◌, ◌<◌}
 use mathlib.Core.Path.{◌≡◌, sym, ap, ◌∙◌}
-use mathlib.Core.Bool.{Bool, true, false, not, ◌||◌}
+use mathlib.Core.Bool.{Bool, true, false, not}
 use mathlib.Core.List.{List, [], ◌∷◌}
 use native.Mathlib.Numerals.{add-one}
 use native.Mathlib.Omega.{arith}
-use lib.Dec.{eqb}
-use lib.Bits.{bit_and}
 use lib.ListN.{length, get_or, take, drop, drop_of_length-le}
 use lib.Seq.{drop-cons}
-use borrow.Author.Tests.{eq-eqb, ne_eqb, not-true, not-false}
 use Rattle.kinds.specs.Limits.{walk_atoms}
 use Rattle.rules.specs.Lists.{All, some}
 use Rattle.rules.specs.Sets.{has}
 use Rattle.stores.specs.RuleStore.{rule_at}
-use Rattle.masks.proofs.MaskBits.{bit_test}
 use Rattle.stable_verdict.specs.ReductMarks.{is_keeping, marked_at}
 
 -- whether the reduct keeps the rule at the front

@@ -7,7 +7,6 @@ use Rattle.flipping.proofs.FlipFaults.{no_store}
 use native.Mathlib.Omega.{arith}
 use Rattle.stores.proofs.RuleStores.{of_kind_lem}
 use mathlib.Core.Path.{◌≡◌, ap, sym, ◌∙◌}
-use borrow.Author.Rules.{rules}
 use Rattle.flipping.proofs.flip.Goals as goal
 
 pub returns-in_err-kind : goal.returns-in_err-kind

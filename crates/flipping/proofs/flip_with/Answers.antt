@@ -1,6 +1,5 @@
 use Rattle.flipping.proofs.FlipFaults.{no_index, not_rising, too_many_lem, outside, checked, answered}
 use native.Mathlib.Omega.{arith}
-use borrow.Author.Rules.{rules}
 use mathlib.Core.Path.{ap}
 use mathlib.Core.Bool.{not}
 use Rattle.flipping.proofs.flip_with.Goals as goal

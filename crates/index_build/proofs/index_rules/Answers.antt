@@ -6,7 +6,6 @@ use Rattle.kinds.specs.declared.limits.Kind.{Kind}
 use Rattle.kinds.specs.declared.refusals.Refusal.TheVariants.{RuleStore}
 use Rattle.stores.proofs.RuleStores.{of_kind_lem}
 use Rattle.index_build.proofs.StoreIndex.{no_store, rules_ready, answered}
-use borrow.Author.Rules.{rules}
 use Rattle.index_build.proofs.index_rules.Goals as goal
 
 pub returns-in_err-kind : goal.returns-in_err-kind

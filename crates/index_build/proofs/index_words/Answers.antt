@@ -8,7 +8,6 @@ use Rattle.stores.specs.StoredRules.{StoredRules}
 use Rattle.rule_index.specs.Answers.{fitted, filled_words}
 use Rattle.rule_index.specs.Index.{index}
 use Rattle.index_build.proofs.FittedIndex.{unset_part, part_length}
-use borrow.Author.Rules.{rules}
 use Rattle.index_build.proofs.index_words.Goals as goal
 
 pub slice_bounds-index_with-end : goal.slice_bounds-index_with-end

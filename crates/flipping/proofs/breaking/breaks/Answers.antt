@@ -1,4 +1,3 @@
-use Prim.Native.Nat.{◌-◌}
 use Rattle.flipping.proofs.RuleBroken.{begins, ended, atom_below, again}
 use native.Mathlib.Omega.{arith}
 use Rattle.flipping.proofs.breaking.breaks.Goals as goal

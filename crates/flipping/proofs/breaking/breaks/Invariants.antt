@@ -1,4 +1,3 @@
-use Prim.Native.Nat.{◌-◌}
 use Rattle.stores.specs.RuleStore.{rule_at}
 use Rattle.rule_index.specs.Flip.{is_broken}
 use Rattle.flipping.proofs.RuleBroken.{Passing}

@@ -1,7 +1,6 @@
 use Rattle.flipping.proofs.JoinLoop.{begins, not_before, reached, ended, put_ready, goes_past}
 use Rattle.stores.proofs.RuleStores.{rules_count}
 use Rattle.output.proofs.Emitting.{length_kept}
-use Prim.Native.Nat.{◌-◌}
 use native.Mathlib.Omega.{arith}
 use Rattle.flipping.proofs.joining.join.Goals as goal
 

@@ -1,6 +1,5 @@
 use Rattle.flipping.proofs.IndexCounts.{counts_begin, count_inside, counts_again, counts_end}
 use native.Mathlib.Omega.{arith}
-use Prim.Native.Nat.{◌-◌}
 use Rattle.flipping.proofs.own_rules.own_start.Goals as goal
 
 pub loop-i-init : goal.loop-i-init

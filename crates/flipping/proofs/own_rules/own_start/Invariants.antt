@@ -1,5 +1,4 @@
 use Rattle.flipping.proofs.IndexCounts.{Counting}
-use Prim.Native.Nat.{◌-◌}
 use Rattle.flipping.proofs.own_rules.own_start.Given as goal
 
 abbrev pub invariant-loop-i : goal.invariant-loop-i

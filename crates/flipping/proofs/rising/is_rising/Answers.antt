@@ -1,6 +1,5 @@
 use Rattle.flipping.proofs.RisingLoop.{begins, ended, falls, beyond, again}
 use native.Mathlib.Omega.{arith}
-use Prim.Native.Nat.{◌-◌}
 use Rattle.flipping.proofs.rising.is_rising.Goals as goal
 
 pub loop-number-init : goal.loop-number-init

@@ -1,6 +1,5 @@
 use Rattle.index_check.proofs.Finding.{find_begin, find_end, find_none, find_cut, find_again}
 use native.Mathlib.Omega.{arith}
-use Prim.Native.Nat.{◌-◌}
 use Rattle.index_check.proofs.lists.find_lists.Goals as goal
 
 pub loop-a-init : goal.loop-a-init

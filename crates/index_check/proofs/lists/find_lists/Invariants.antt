@@ -1,6 +1,4 @@
 use Rattle.index_check.proofs.Finding.{Finding}
-use lib.ListN.{length}
-use Prim.Native.Nat.{◌-◌}
 use Rattle.index_check.proofs.lists.find_lists.Given as goal
 
 abbrev pub invariant-loop-a : goal.invariant-loop-a

@@ -1,6 +1,5 @@
 use Rattle.index_check.proofs.Reading.{read_begin, read_end, atom_next, atom_end, atom_mark, end_inside, marks_sized, read_before, no_entry, other_entry, read_entry}
 use native.Mathlib.Omega.{arith}
-use Prim.Native.Nat.{◌-◌}
 use Rattle.index_check.proofs.lists.rule_listed.Goals as goal
 use Rattle.index_check.proofs.lists.rule_listed.Goals.{else-first, then-first+else-ends-a+else-index-at}
 

@@ -1,6 +1,4 @@
 use Rattle.index_check.proofs.Reading.{Reading}
-use lib.ListN.{length}
-use Prim.Native.Nat.{◌-◌}
 use Rattle.index_check.proofs.lists.rule_listed.Given as goal
 
 abbrev pub invariant-loop-atom : goal.invariant-loop-atom

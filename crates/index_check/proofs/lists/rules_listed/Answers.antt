@@ -1,7 +1,6 @@
 use Rattle.index_check.proofs.Passing.{pass_begin, pass_end, rule_tables, not_listed, pass_again, start_inside}
 use Rattle.rule_index.proofs.RuleWalk.{rule_inside, place_inside}
 use native.Mathlib.Omega.{arith}
-use Prim.Native.Nat.{◌-◌}
 use mathlib.Core.Path.{ap}
 use mathlib.Core.Bool.{not}
 use Rattle.index_check.proofs.lists.rules_listed.Goals as goal

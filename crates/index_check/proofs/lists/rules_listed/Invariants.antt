@@ -1,5 +1,4 @@
 use Rattle.index_check.proofs.Passing.{Passing}
-use Prim.Native.Nat.{◌-◌}
 use Rattle.index_check.proofs.lists.rules_listed.Given as goal
 
 abbrev pub invariant-loop-i : goal.invariant-loop-i

@@ -6,7 +6,6 @@ use Rattle.walks.specs.Walk.{next_verdict}
 use Rattle.walks.specs.Answers.{next_answer}
 use Rattle.walks.specs.declared.answers.NextState.TheVariants.{Refused}
 use Rattle.masks.proofs.Guarding.{call_passes, answer_told, refusal_told, up_to_top}
-use borrow.Author.Rules.{rules}
 use Rattle.lister.proofs.next.next_state.Goals as goal
 
 pub next_of-requires : goal.next_of-requires

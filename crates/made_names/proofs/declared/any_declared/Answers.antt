@@ -12,9 +12,6 @@ last_named-last-requires c = c.requires.made_bound
 pub loop-number-init : goal.loop-number-init
 loop-number-init c = (omega (arith, c.last_named-last.ensures), look_first c.last_named-last.ensures c.requires.made_bound.0 (past_limit (names_of c.args.names.now) c.requires.all c.requires.made_bound.0 c.requires.made_bound.1))
 
-pub is_declared-requires : goal.is_declared-requires
-is_declared-requires c = c.args.names.now.indexed
-
 pub returns-then-is_declared : goal.returns-then-is_declared
 returns-then-is_declared c = one_found c.loop-number.invariant.1 (omega arith) (sym c.is_declared.ensures ∙ c.if-is_declared.true)
 

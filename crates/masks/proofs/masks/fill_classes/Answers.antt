@@ -1,5 +1,4 @@
 use mathlib.Core.Path.{sym, ap, ◌∙◌}
-use Prim.Native.Nat.{◌-◌}
 use lib.ListN.{length}
 use Rattle.masks.proofs.ClassFill.{notes_begin, notes_length, notes_go_on, notes_end}
 use Rattle.masks.proofs.masks.fill_classes.Goals as goal

@@ -1,5 +1,3 @@
-use Prim.Native.Nat.{◌-◌}
-use lib.ListN.{length}
 use Rattle.masks.proofs.ClassFill.{Noting}
 use Rattle.masks.proofs.masks.fill_classes.Given as goal
 

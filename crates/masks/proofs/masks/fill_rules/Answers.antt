@@ -1,4 +1,3 @@
-use Prim.Native.Nat.{◌-◌}
 use native.Mathlib.Omega.{arith}
 use Rattle.masks.proofs.RulesFill.{fill_begins, fill_rule, fill_place, fill_room, fill_more, fill_ends}
 use Rattle.masks.proofs.masks.fill_rules.Goals as goal

@@ -1,6 +1,4 @@
-use Prim.Native.Nat.{◌-◌}
 use Rattle.masks.proofs.RulesFill.{Filling}
-use borrow.Author.Rules.{rules}
 use Rattle.masks.proofs.masks.fill_rules.Given as goal
 
 abbrev pub invariant-loop-j : goal.invariant-loop-j

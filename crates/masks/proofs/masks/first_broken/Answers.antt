@@ -1,5 +1,4 @@
 use mathlib.Core.Path.{sym}
-use Prim.Native.Nat.{◌-◌}
 use native.Mathlib.Nat.{zero-add}
 use Rattle.masks.proofs.MaskLoops.{first_none, first_found_lem, first_more}
 use native.Mathlib.Omega.{arith}

@@ -1,9 +1,6 @@
-use mathlib.Core.Path.{refl, ap, ◌∙◌}
-use Prim.Native.Nat.{ℕ, ◌-◌, ◌^◌}
+use mathlib.Core.Path.{refl}
 use native.Mathlib.Omega.{arith}
-use Rattle.places.specs.Places.{mirror}
 use Rattle.masks.proofs.MaskLoops.{atom_below, mask_first, mask_more, mask_last}
-use borrow.Author.Rules.{rules}
 use Rattle.masks.proofs.masks.mask_of.Goals as goal
 
 pub loop-atom-init : goal.loop-atom-init

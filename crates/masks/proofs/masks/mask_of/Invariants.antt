@@ -1,6 +1,5 @@
 use mathlib.Core.Path.{◌≡◌}
-use Prim.Native.Nat.{◌-◌, ◌≤◌}
-use lib.ListN.{length, drop}
+use lib.ListN.{drop}
 use lib.Bits.{bit_or}
 use Rattle.masks.specs.Masks.{place_mask}
 use Rattle.masks.proofs.masks.mask_of.Given as goal

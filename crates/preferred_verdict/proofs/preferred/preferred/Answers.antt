@@ -6,7 +6,6 @@ use Rattle.walks.specs.Walk.{preferred_verdict}
 use Rattle.walks.specs.Answers.{preferred_answer}
 use Rattle.walks.specs.declared.answers.Verdict.TheVariants.{Refused}
 use Rattle.masks.proofs.Guarding.{call_passes, answer_told, refusal_told, below_top}
-use borrow.Author.Rules.{rules}
 use Rattle.preferred_verdict.proofs.preferred.preferred.Goals as goal
 
 pub preferred_of-requires : goal.preferred_of-requires

@@ -2,7 +2,6 @@ use Rattle.rule_adding.proofs.WritingStore.{header_range, count_range, others_ra
 use native.Mathlib.Omega.{arith}
 use mathlib.Core.Path.{sym}
 use lib.Seq.{length-take-le}
-use borrow.Author.Rules.{rules}
 use Rattle.rule_adding.proofs.delivering.emit_store.Goals as goal
 
 pub slice_bounds-emit-end : goal.slice_bounds-emit-end

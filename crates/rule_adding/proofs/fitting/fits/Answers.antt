@@ -1,6 +1,5 @@
 use Rattle.rule_adding.proofs.RuleFits.{rule_ready, no_rule_more, rule_broken, rule_passed}
 use native.Mathlib.Omega.{arith}
-use borrow.Author.Rules.{rules}
 use Rattle.rule_adding.proofs.fitting.fits.Goals as goal
 
 pub returns-then-rules-count : goal.returns-then-rules-count

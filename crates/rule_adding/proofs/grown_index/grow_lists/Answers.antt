@@ -1,6 +1,5 @@
 use Rattle.rule_adding.proofs.GrowingLists.{begins, ended, same_size, list_inside, front_list, again}
 use native.Mathlib.Omega.{arith}
-use Prim.Native.Nat.{◌-◌}
 use Rattle.rule_adding.proofs.grown_index.grow_lists.Goals as goal
 
 pub loop-mark-init : goal.loop-mark-init

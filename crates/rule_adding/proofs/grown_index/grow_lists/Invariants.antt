@@ -1,6 +1,4 @@
 use Rattle.rule_adding.proofs.GrowingLists.{Growing}
-use Prim.Native.Nat.{◌-◌}
-use lib.ListN.{length}
 use Rattle.rule_adding.proofs.grown_index.grow_lists.Given as goal
 
 abbrev pub invariant-loop-mark : goal.invariant-loop-mark

@@ -1,6 +1,4 @@
-use Prim.Native.Nat.{◌-◌}
 use Rattle.stable_verdict.proofs.ReductFill.{Reducing}
-use borrow.Author.Rules.{rules}
 use Rattle.stable_verdict.proofs.reduct.fill_reduct.Given as goal
 
 abbrev pub invariant-loop-j : goal.invariant-loop-j

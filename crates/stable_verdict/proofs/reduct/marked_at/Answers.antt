@@ -1,5 +1,4 @@
 use native.Mathlib.Omega.{arith}
-use Prim.Native.Nat.{◌-◌}
 use Rattle.stable_verdict.proofs.MarkLoops.{marked_found, marked_more, marked_skips, marked_none}
 use Rattle.stable_verdict.proofs.reduct.marked_at.Goals as goal
 use Rattle.stable_verdict.proofs.reduct.marked_at.Goals.{else-mark, then-mark+else-left-eq0}

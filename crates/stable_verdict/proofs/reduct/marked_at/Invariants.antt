@@ -1,6 +1,6 @@
-use Prim.Native.Nat.{◌+◌, ◌-◌}
+use Prim.Native.Nat.{◌+◌}
 use mathlib.Core.Path.{◌≡◌}
-use lib.ListN.{length, drop}
+use lib.ListN.{drop}
 use Rattle.stable_verdict.specs.ReductMarks.{marked_at}
 use Rattle.stable_verdict.proofs.reduct.marked_at.Given as goal
 

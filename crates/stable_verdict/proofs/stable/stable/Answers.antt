@@ -6,7 +6,6 @@ use Rattle.walks.specs.Walk.{stable_verdict}
 use Rattle.walks.specs.Answers.{stable_answer}
 use Rattle.walks.specs.declared.answers.Verdict.TheVariants.{Refused}
 use Rattle.masks.proofs.Guarding.{call_passes, answer_told, refusal_told, below_top, set_inside}
-use borrow.Author.Rules.{rules}
 use Rattle.stable_verdict.proofs.stable.stable.Goals as goal
 
 pub stable_of-requires : goal.stable_of-requires

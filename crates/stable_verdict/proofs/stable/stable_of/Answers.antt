@@ -10,7 +10,7 @@ use native.Mathlib.Omega.{arith}
 use Rattle.stores.proofs.StoredRules.{has_header}
 use Rattle.masks.proofs.CheckedStore.{PlainHeader, plain_few, plain_stored, plain_rules}
 use Rattle.masks.proofs.FilledMasks.{taken_fits}
-use Rattle.stable_verdict.proofs.KeptRules.{ReductReady, reduct_ready, kept_care_length, kept_want_length, kept_same, kept_fit, kept_small, marks_length, marks_fit, broken_ready, walk_ready}
+use Rattle.stable_verdict.proofs.KeptRules.{reduct_ready, kept_care_length, kept_want_length, kept_same, kept_fit, kept_small, marks_length, marks_fit, broken_ready, walk_ready}
 use Rattle.stable_verdict.proofs.stable.stable_of.Goals as goal
 
 header : (ws : List ℕ) (n r : ℕ) → StoreOf ws (decode ws) → (decode ws).atoms ≤ walk_atoms → (decode ws).kind ≡ Plain → n ≡ get_or ws 1 0 → r ≡ get_or ws 3 0 → PlainHeader ws n r
