@@ -14,7 +14,6 @@ use Rattle.clauses.specs.Literals.{signed}
 use Rattle.clauses.specs.Tokens.{Token, ends, wrong, valued, numbered, token_of}
 use Rattle.clause_items.specs.Found.{capped, gap, front, token_item, item_here, item_at}
 use Rattle.clause_items.specs.declared.items.Item.{Item}
-use Rattle.clause_items.specs.declared.items.Item.TheVariants as Item
 use Rattle.clause_items.proofs.CappedLaws.{capped_same}
 use Rattle.clause_items.proofs.FoundNumbers.{NumberAt}
 use Rattle.clause_items.proofs.Gaps.{run_goes_on, front_goes_on, behind_gap, item_byte}

@@ -12,7 +12,6 @@ use Rattle.clauses.specs.Gathered.{nothing}
 use Rattle.clauses.specs.Faults.{headed, Step, next, fault, header_with}
 use Rattle.clause_items.specs.declared.numbers.Number.{Number}
 use Rattle.clause_items.specs.declared.items.Item.{Item}
-use Rattle.clause_items.specs.declared.items.Item.TheVariants as Item
 use Rattle.clause_items.specs.declared.header.Header.{Header}
 
 -- past every limit: "Numbers may be longer than any word"

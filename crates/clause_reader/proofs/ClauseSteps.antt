@@ -14,13 +14,12 @@ use Rattle.kinds.specs.declared.refusals.Refusal.TheVariants.{BrokenClauses}
 use Rattle.rules.specs.Lists.{is_empty}
 use Rattle.rules.proofs.Booleans.{both_true, and_comm}
 use Rattle.clauses.specs.Literals.{Literal, signed, atom_of}
-use Rattle.clauses.specs.Tokens.{literal, ends, is_wrong, line_tokens}
+use Rattle.clauses.specs.Tokens.{literal, ends, line_tokens}
 use Rattle.clauses.specs.Gathered.{Gathered, with_literal, with_end, is_closed, begun, occurrences_in}
 use Rattle.clauses.specs.Faults.{fault, clause_line}
 use Rattle.std.specs.Prelude.{Option, Some, None, Result, Ok, Err}
-use Rattle.clause_items.specs.Found.{capped, item_at, TokenAt, ItemSays}
+use Rattle.clause_items.specs.Found.{capped, item_at, ItemSays}
 use Rattle.clause_items.specs.declared.items.Item.{Item}
-use Rattle.clause_items.specs.declared.items.Item.TheVariants as Item
 use Rattle.clause_items.proofs.ItemLaws.{item_says}
 use Rattle.clause_items.proofs.CappedLaws.{capped_same, capped_over}
 use Rattle.clause_rules.specs.declared.clause.ClauseCounts.{ClauseCounts}
@@ -29,7 +28,7 @@ use Rattle.clause_rules.proofs.HeldGathered.{held_clauses_is}
 use Rattle.clause_rules.proofs.LiteralMarks.{marked_end}
 use Rattle.clause_reader.specs.declared.clause_line.Progress.{Progress}
 use Rattle.clause_reader.specs.Later.{later_refusal}
-use Rattle.clause_reader.specs.Reading.{Gathers, InClauses, is_full, ProgressSays, ProgressIs, LiteralSays, LiteralIs}
+use Rattle.clause_reader.specs.Reading.{Gathers, InClauses, is_full, ProgressIs, LiteralSays, LiteralIs}
 use Rattle.clause_reader.proofs.TokenSteps.{begun_literal, begun_end, literal_unended, token_passed, token_surplus, token_beyond, token_full, line_wrong}
 use Rattle.clause_reader.proofs.LaterSteps.{none_left, atom_signed, over_beyond}
 
@@ -56,9 +55,6 @@ module _ {g : Gathered} {c : ClauseCounts} {words bodies marks : List ℕ} (k : 
 -- what an item gives
 abbrev progress : ClauseCounts → ℕ → Result Progress Refusal
 progress d to = Ok (record { counts = d; at = to })
-
-literal_right : (l : Literal) → is_wrong (literal l) ≡ false
-literal_right l = refl
 
 -- an item at `at`
 module _ (line : List ℕ) (at : ℕ) (inside : at < length line) {c : ClauseCounts} {words bodies marks : List ℕ} (k : InClauses c words bodies marks) {item : Item} (found : item ≡ item_at at (drop at line)) where

@@ -18,7 +18,6 @@ use Rattle.clauses.specs.Literals.{Literal, atom_of, signed}
 use Rattle.clauses.specs.Tokens.{Token, literal, ends, is_wrong, is_beyond, line_tokens}
 use Rattle.clause_items.specs.Found.{capped, item_at, TokenAt, ItemSays}
 use Rattle.clause_items.specs.declared.items.Item.{Item}
-use Rattle.clause_items.specs.declared.items.Item.TheVariants as Item
 use Rattle.clause_items.proofs.CappedLaws.{capped_over}
 use Rattle.clause_items.proofs.ItemLaws.{item_says}
 use Rattle.clause_reader.specs.declared.later.Pending.{Pending}

@@ -8,7 +8,6 @@ use borrow.Author.Tests.{lt-leb, le-leb, ne_eqb}
 use Rattle.kinds.specs.Limits.{atom_limit, occurrence_limit, text_limit}
 use Rattle.kinds.specs.Sizes.{store_words, store_bytes}
 use Rattle.kinds.specs.declared.limits.Kind.TheVariants.{Preference}
-use Rattle.kinds.specs.declared.refusals.Refusal.{Refusal}
 use Rattle.kinds.specs.declared.refusals.Refusal.TheVariants.{TextTooLong}
 use Rattle.stores.specs.Checking.{Below}
 use Rattle.stores.specs.Program.{Program, ProgramForm}
@@ -27,7 +26,6 @@ use Rattle.answers.specs.Reading.{read_refusal}
 use Rattle.answers.specs.ReadingClauses.{clauses_answer, clauses_rules, clauses_names}
 use Rattle.delivery.specs.Delivered.{Delivered}
 use Rattle.delivery.proofs.Outcomes.{refused_as, delivered_as}
-use Rattle.clauses.specs.Gathered.{nothing}
 use Rattle.clauses.specs.Faults.{unheaded}
 use Rattle.clauses.specs.Written.{clause_names, clause_program}
 use Rattle.clauses.specs.ClausesSaid.{read_lines, clauses_typed, clauses_said}

@@ -3,20 +3,19 @@ use Prim.Native.Nat.{ℕ, suc, ◌+◌, ◌≤◌, ◌<◌}
 use native.Mathlib.Numerals.{add-one}
 use native.Mathlib.Omega.{arith}
 use mathlib.Core.Path.{◌≡◌, refl, sym, ap, ap₂, ◌∙◌, subst}
-use mathlib.Core.Bool.{Bool, true, false}
 use mathlib.Core.List.{List, [], ◌∷◌, ◌++◌}
 use lib.ListN.{length, get_or, take, drop, set, length-append, length-drop, length-set, take-append-drop}
 use lib.Seq.{take_at, take-set-le, take-suc-set, drop-set-add}
-use Rattle.std.specs.Prelude.{Option, Some, None}
+use Rattle.std.specs.Prelude.{Some, None}
 use Rattle.kinds.specs.Limits.{atom_limit, occurrence_limit}
 use Rattle.kinds.specs.declared.limits.Kind.TheVariants.{Preference}
 use Rattle.gathering.specs.Gathered.{Filled}
-use Rattle.clauses.specs.Literals.{Literal, positive, negative, signed}
+use Rattle.clauses.specs.Literals.{Literal, positive}
 use Rattle.clauses.specs.Gathered.{Gathered, with_literal}
 use Rattle.clause_rules.specs.declared.clause.ClauseCounts.{ClauseCounts}
 use Rattle.clause_rules.specs.HeldClauses.{HeldClauses, Marked, SameHeader, TakenIs}
 use Rattle.clause_rules.proofs.HeldGathered.{words_used}
-use Rattle.clause_rules.proofs.LiteralMarks.{with_head, with_body, head_there, body_there, head_new, body_new, mark_head, mark_body}
+use Rattle.clause_rules.proofs.LiteralMarks.{with_head, head_there, head_new, mark_head}
 
 -- a word written behind what is filled
 fill_past : {d : List ℕ} {skipped used : ℕ} {list : List ℕ} → Filled d skipped used list → (p x : ℕ) → used ≤ p → Filled (set d p x) skipped used list
@@ -51,17 +50,6 @@ head_counts c = record {
   occurrences = c.occurrences + 1;
 }
 
-abbrev body_counts : ClauseCounts → ClauseCounts
-body_counts c = record {
-  atoms = c.atoms;
-  clauses = c.clauses;
-  rules = c.rules;
-  words = c.words;
-  heads = c.heads;
-  bodies = c.bodies + 1;
-  occurrences = c.occurrences + 1;
-}
-
 taken : {g s : Gathered} {c d : ClauseCounts} {l : Literal} {words bodies marks : List ℕ} → with_literal g l ≡ s → SameHeader c d → HeldClauses s d words bodies → Marked s marks
     → TakenIs g c l words bodies marks (Some d)
 taken {d} {words} {bodies} {marks} e same h m = record { says = (same, subst (λ s. HeldClauses s d words bodies) (sym e) h, subst (λ s. Marked s marks) (sym e) m) }
@@ -71,9 +59,6 @@ module _ {g : Gathered} {c : ClauseCounts} {words bodies : List ℕ} (h : HeldCl
   head_room = omega (arith, words_used h, h.words_room, h.atoms_fit, h.clauses_fit, h.rules_fit_lem, h.occurrences_fit)
 
   module _ (few : c.occurrences ≡ occurrence_limit Preference → ⊥) where
-    body_room : c.bodies < length bodies
-    body_room = omega (arith, h.bodies_room, h.bodies_are, h.occurrences_are, h.occurrences_fit)
-
     one_more : c.occurrences + 1 ≤ occurrence_limit Preference
     one_more = omega (arith, h.occurrences_fit)
 
@@ -96,25 +81,6 @@ module _ {g : Gathered} {c : ClauseCounts} {words bodies : List ℕ} (h : HeldCl
           bodies_room = h.bodies_room;
         }
 
-    hold_body : (a : ℕ) → HeldClauses (with_body g a) (body_counts c) words (set bodies c.bodies a)
-    hold_body a =
-        let longer = length-append g.bodies (a ∷ []) in
-        record {
-          stored = h.stored;
-          rules_are = h.rules_are;
-          heads_stored = h.heads_stored;
-          heads_are = h.heads_are;
-          bodies_stored = ap (λ n. take n (set bodies c.bodies a)) (add-one c.bodies) ∙ take-suc-set bodies c.bodies a body_room ∙ ap (λ y. y ++ (a ∷ [])) h.bodies_stored;
-          bodies_are = omega (arith, h.bodies_are, longer);
-          occurrences_are = omega (arith, h.occurrences_are, longer);
-          atoms_fit = h.atoms_fit;
-          clauses_fit = h.clauses_fit;
-          rules_fit_lem = h.rules_fit_lem;
-          occurrences_fit = one_more;
-          words_room = h.words_room;
-          bodies_room = length-set bodies c.bodies a ∙ h.bodies_room;
-        }
-
   module _ {marks : List ℕ} (m : Marked g marks) {a stamp : ℕ} (p : (a < c.atoms) × (stamp ≡ c.rules + 1)) where
     below_limit : a < atom_limit Preference
     below_limit = omega (arith, p.0, h.atoms_fit)
@@ -124,9 +90,6 @@ module _ {g : Gathered} {c : ClauseCounts} {words bodies : List ℕ} (h : HeldCl
 
     pub head_repeated : get_or marks a 0 ≡ stamp → TakenIs g c (positive a) words bodies marks (Some c)
     head_repeated e = taken (head_there m a below_limit (e ∙ stamp_is)) (record { atoms = refl; clauses = refl }) h m
-
-    pub body_repeated : get_or marks (atom_limit Preference + a) 0 ≡ stamp → TakenIs g c (negative a) words bodies marks (Some c)
-    body_repeated e = taken (body_there m a below_limit (e ∙ stamp_is)) (record { atoms = refl; clauses = refl }) h m
 
     module _ (new : get_or marks a 0 ≡ stamp → ⊥) where
       head_is : with_literal g (positive a) ≡ with_head g a
@@ -138,22 +101,3 @@ module _ {g : Gathered} {c : ClauseCounts} {words bodies : List ℕ} (h : HeldCl
       pub head_taken : (c.occurrences ≡ occurrence_limit Preference → ⊥)
           → TakenIs g c (positive a) (set words (c.words + 3 + c.heads) a) bodies (set marks a stamp) (Some (head_counts c))
       head_taken few = taken head_is (record { atoms = refl; clauses = refl }) (hold_head few a) (subst (λ n. Marked (with_head g a) (set marks a n)) (sym stamp_is) (mark_head m a below_limit))
-
-    module _ (new : get_or marks (atom_limit Preference + a) 0 ≡ stamp → ⊥) where
-      body_is : with_literal g (negative a) ≡ with_body g a
-      body_is = body_new m a below_limit (λ e. new (e ∙ sym stamp_is))
-
-      pub body_full : c.occurrences ≡ occurrence_limit Preference → TakenIs g c (negative a) words bodies marks None
-      body_full e = record { says = omega (arith, h.occurrences_are, length-append g.bodies (a ∷ []), ap (λ s. length s.bodies) body_is) }
-
-      pub body_taken : (c.occurrences ≡ occurrence_limit Preference → ⊥)
-          → TakenIs g c (negative a) words (set bodies c.bodies a) (set marks (atom_limit Preference + a) stamp) (Some (body_counts c))
-      body_taken few = taken body_is (record { atoms = refl; clauses = refl }) (hold_body few a) (subst (λ n. Marked (with_body g a) (set marks (atom_limit Preference + a) n)) (sym stamp_is) (mark_body m a below_limit))
-
--- by its sign
-module _ {g : Gathered} {c : ClauseCounts} {a : ℕ} {words bodies marks : List ℕ} {r : Option ClauseCounts} {sign : Bool} where
-  pub as_positive : sign ≡ true → TakenIs g c (positive a) words bodies marks r → TakenIs g c (signed sign a) words bodies marks r
-  as_positive e t = subst (λ s. TakenIs g c (signed s a) words bodies marks r) (sym e) t
-
-  pub as_negative : sign ≡ false → TakenIs g c (negative a) words bodies marks r → TakenIs g c (signed sign a) words bodies marks r
-  as_negative e t = subst (λ s. TakenIs g c (signed s a) words bodies marks r) (sym e) t

@@ -1,13 +1,11 @@
 use Prim.Native.Nat.{ℕ, ◌*◌}
-use mathlib.Core.Path.{refl, sym}
 use lib.ListN.{length-replicate}
 use Rattle.kinds.specs.Limits.{atom_limit, occurrence_limit}
 use Rattle.kinds.specs.Sizes.{store_words, store_bytes}
 use Rattle.kinds.specs.declared.limits.Kind.TheVariants.{Preference}
 use Rattle.std.proofs.lemmas.Result.{err_from_is_err_and}
 use Rattle.stores.proofs.StoreHeader.{unmarked}
-use Rattle.clause_reader.proofs.WholeFile.{empty_scratch, too_long, lines_refused, atoms_fit, lines_held, delivered}
-use borrow.Author.Rules.{rules}
+use Rattle.clause_reader.proofs.WholeFile.{empty_scratch, too_long, lines_refused, lines_held, delivered}
 use Rattle.clause_reader.proofs.read_clauses.Goals as goal
 
 pub returns-then-text-gt-TEXT : goal.returns-then-text-gt-TEXT

@@ -1,7 +1,6 @@
-use Prim.Native.Nat.{ℕ, zero-le}
+use Prim.Native.Nat.{zero-le}
 use native.Mathlib.Omega.{arith}
 use mathlib.Core.Path.{refl, sym, ap, ◌∙◌}
-use mathlib.Core.List.{List, ◌∷◌}
 use Rattle.kinds.specs.Words.{bytes}
 use Rattle.name_store.specs.NameStore.{same_bytes}
 use Rattle.clauses.specs.Faults.{header_line}

@@ -1,6 +1,5 @@
-use native.Mathlib.Omega.{arith}
 use mathlib.Core.Path.{refl, sym, ◌∙◌}
-use Rattle.clause_reader.proofs.ClauseSteps.{no_surplus, progress_stop, progress_broken, progress_surplus, progress_ended, progress_literal, progress_refused, literal_found}
+use Rattle.clause_reader.proofs.ClauseSteps.{progress_stop, progress_broken, progress_surplus, progress_ended, progress_literal, progress_refused, literal_found}
 use Rattle.std.proofs.lemmas.Result.{err_from_is_err_and}
 use Rattle.clause_reader.proofs.clause_line.read_item.Goals as goal
 

@@ -1,7 +1,7 @@
 use Prim.Native.Nat.{◌-◌}
 use native.Mathlib.Omega.{arith}
 use mathlib.Core.Path.{sym, ◌∙◌}
-use Rattle.clause_reader.proofs.ClauseSteps.{no_surplus, literal_surplus, literal_beyond, literal_taken, literal_full}
+use Rattle.clause_reader.proofs.ClauseSteps.{literal_surplus, literal_beyond, literal_taken, literal_full}
 use Rattle.clause_reader.proofs.clause_line.read_literal.Goals as goal
 
 pub returns-then-is_full : goal.returns-then-is_full

@@ -1,7 +1,4 @@
-use mathlib.Core.Path.{refl}
-use native.Mathlib.Omega.{arith}
-use Prim.Native.Nat.{◌-◌}
-use Rattle.clause_reader.proofs.LaterSteps.{walked_on, walk_broken, walk_ended}
+use Rattle.clause_reader.proofs.LaterSteps.{walk_ended}
 use Rattle.clause_reader.proofs.later.later_refusal.Goals as goal
 
 pub returns-then-state : goal.returns-then-state

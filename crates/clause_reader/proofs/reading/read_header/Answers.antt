@@ -1,5 +1,4 @@
-use Rattle.std.proofs.lemmas.Result.{err_from_is_err_and}
-use Rattle.clause_reader.proofs.FileLines.{header_fits, header_taken, header_refused}
+use Rattle.clause_reader.proofs.FileLines.{header_fits, header_taken}
 use Rattle.clause_reader.proofs.reading.read_header.Goals as goal
 
 pub start-requires : goal.start-requires

@@ -1,9 +1,9 @@
 use mathlib.Core.Bool.{true}
 use Rattle.lines.specs.Lines.{is_ended}
 use Rattle.clauses.specs.Faults.{next, step_line}
-use mathlib.Core.Path.{◌≡◌, sym, ap, ◌∙◌, subst}
-use Rattle.clause_reader.specs.Reading.{state_of, HeldReading}
-use Rattle.clause_reader.proofs.FileLines.{ended_filled, line_unended, line_comment, line_blank, line_unheaded, line_headed, step_is}
+use mathlib.Core.Path.{◌≡◌, sym, ap, ◌∙◌}
+use Rattle.clause_reader.specs.Reading.{state_of}
+use Rattle.clause_reader.proofs.FileLines.{line_unended, line_comment, line_blank, line_unheaded, line_headed, step_is}
 use Rattle.clause_reader.proofs.reading.read_line.Goals as goal
 use Rattle.clause_reader.proofs.reading.read_line.Goals.{then-line-eq99-via-then-line-eq99, then-line-eq99-via-else-line-eq99+then-skip-line}
 

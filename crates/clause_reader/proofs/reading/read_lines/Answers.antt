@@ -1,9 +1,8 @@
-use Prim.Native.Nat.{◌-◌}
 use native.Mathlib.Omega.{arith}
-use mathlib.Core.Path.{refl, sym, ◌∙◌}
+use mathlib.Core.Path.{sym, ◌∙◌}
 use Rattle.std.proofs.lemmas.Result.{err_from_is_err_and}
 use Rattle.lines.proofs.LinePlaces.{line_inside}
-use Rattle.clause_reader.proofs.TextWalk.{text_begun, line_read, line_refused, text_read}
+use Rattle.clause_reader.proofs.TextWalk.{line_read, line_refused, text_read}
 use Rattle.clause_reader.proofs.reading.read_lines.Goals as goal
 
 pub overflow_add-to : goal.overflow_add-to

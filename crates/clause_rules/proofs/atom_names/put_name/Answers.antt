@@ -1,5 +1,5 @@
 use native.Mathlib.Omega.{arith}
-use Rattle.clause_rules.proofs.ClauseNames.{digits_range, size_small, named}
+use Rattle.clause_rules.proofs.ClauseNames.{size_small, named}
 use Rattle.clause_rules.proofs.atom_names.put_name.Goals as goal
 
 pub overflow_cast-end : goal.overflow_cast-end

@@ -1,6 +1,5 @@
-use Prim.Native.Nat.{◌-◌}
 use native.Mathlib.Omega.{arith}
-use Rattle.output.proofs.Emitting.{turn, finish, range_here, length_kept}
+use Rattle.output.proofs.Emitting.{turn, finish, range_here}
 use Rattle.name_store.proofs.NumberedNames.{numbered_none}
 use Rattle.clause_rules.proofs.ClauseNames.{names_begin, names_next}
 use Rattle.clause_rules.proofs.atom_names.put_names.Goals as goal

@@ -1,4 +1,3 @@
-use Prim.Native.Nat.{◌-◌}
 use Rattle.name_store.specs.NameStore.{encode_names}
 use Rattle.output.proofs.Emitting.{Emitting}
 use Rattle.name_store.proofs.NumberedNames.{numbered_names}

@@ -1,5 +1,4 @@
-use native.Mathlib.Omega.{arith}
-use Rattle.clause_rules.proofs.ClauseSteps.{counts_range, body_part_lem, behind_range, ended}
+use Rattle.clause_rules.proofs.ClauseSteps.{ended}
 use Rattle.clause_rules.proofs.clause.end_clause.Goals as goal
 
 pub returns : goal.returns

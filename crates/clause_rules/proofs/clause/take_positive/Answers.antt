@@ -1,5 +1,4 @@
-use native.Mathlib.Omega.{arith}
-use Rattle.clause_rules.proofs.LiteralSteps.{head_room, head_repeated, head_full, head_taken}
+use Rattle.clause_rules.proofs.LiteralSteps.{head_room, head_taken}
 use Rattle.clause_rules.proofs.clause.take_positive.Goals as goal
 
 pub bounds-words-place : goal.bounds-words-place
