@@ -14,7 +14,6 @@ use Rattle.kinds.specs.Sizes.{longest_name, longest_entry}
 use Rattle.kinds.specs.declared.limits.Kind.{Kind}
 use Rattle.kinds.specs.declared.limits.Kind.TheVariants.{Plain, Preference}
 use Rattle.rules.specs.Lists.{All, Distinct, some}
-use lib.Pointwise.{pointwise}
 use Rattle.rules.proofs.Booleans.{bool_ext, T_and, T-and-l, T-and-r, T-or, T-or-out, T_of, T-not-in, T-not-out}
 use Rattle.rules.proofs.Lists.{all_app, all_app_l, all_app_r, all_imp}
 use Rattle.names.specs.declared.forms.NameClass.{NameClass}
@@ -43,14 +42,6 @@ same_law x y = (same_equal x y, λ e. subst (λ z. T (same_bytes x z)) e (same_s
 
 pub same_sym : (x y : List ℕ) → same_bytes x y ≡ same_bytes y x
 same_sym x y = bool_ext (same_bytes x y) (same_bytes y x) (λ h. (same_law y x).1 (sym (same_equal x y h))) (λ h. (same_law x y).1 (sym (same_equal y x h)))
-
--- the test that slices are equal
-pub same_pairs : (x y : List ℕ) → pointwise eqb x y ≡ same_bytes x y
-unfolding same_bytes
-same_pairs [] [] = refl
-same_pairs [] (b ∷ y) = refl
-same_pairs (a ∷ x) [] = refl
-same_pairs (a ∷ x) (b ∷ y) = ap (λ t. eqb a b && t) (same_pairs x y)
 
 -- no allowed name is longer than the longest
 

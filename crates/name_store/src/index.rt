@@ -9,20 +9,7 @@ use crate::indexed::NameIndex;
 // The values of the hash.
 pub const BUCKETS: usize = 4096;
 
-// Whether the bytes from `from` on are the same.
-fn same_from(a: &[u8], b: &[u8], from: usize) -> bool
-    requires { (length a.now ≡ length b.now) × (from ≤ length a.now) }
-    ensures { result ≡ same_bytes (drop from a.now) (drop from b.now) }
-{
-    for i in from..a.len() {
-        if a[i] != b[i] {
-            return false;
-        }
-    }
-    true
-}
-
-// The same of all bytes. No byte ends the walk, so that many are compared at once.
+// Whether the bytes are the same. No byte ends the walk, so that many are compared at once.
 fn same_block(a: &[u8], b: &[u8]) -> bool
     requires { length a.now ≡ length b.now }
     ensures { result ≡ same_bytes a.now b.now }
@@ -45,13 +32,12 @@ pub fn same_bytes(a: &[u8], b: &[u8]) -> bool
     let mut i: usize = 0;
     while 8 <= a.len() - i {
         let to = i + 8;
-        let same = same_block(&a[i..to], &b[i..to]);
-        if !same {
+        if !same_block(&a[i..to], &b[i..to]) {
             return false;
         }
         i = to;
     }
-    same_from(a, b, i)
+    a[i..] == b[i..]
 }
 
 // The hash with one byte more.

@@ -1,7 +1,8 @@
 use mathlib.Core.Path.{ap, ◌∙◌}
 use lib.ListN.{length, take}
 use Rattle.name_store.specs.NameStore.{same_bytes}
-use Rattle.name_store.proofs.NameStores.{same_sym, same_pairs}
+use Rattle.name_store.proofs.NameStores.{same_sym}
+use Rattle.name_store.proofs.ByteLoops.{same_pairs}
 use Rattle.lines.proofs.Scanning.{rest_is}
 use Rattle.lines.proofs.scan.begins_at.Goals as goal
 
