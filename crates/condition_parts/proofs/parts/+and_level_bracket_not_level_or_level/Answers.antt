@@ -7,9 +7,6 @@ use native.Mathlib.Omega.{arith}
 use mathlib.Core.Path.{sym}
 use Rattle.condition_parts.proofs.parts.+and_level_bracket_not_level_or_level.Goals as goal
 
-pub and_level-not_level-requires : goal.and_level-not_level-requires
-and_level-not_level-requires t c = (omega arith, (c.requires.readable, c.requires.indexed))
-
 pub and_level-returns-in_err-part : goal.and_level-returns-in_err-part
 and_level-returns-in_err-part t c = rw c.from_residual.ensures (first_faulty conj c.in_err-part.ensures _)
 
@@ -46,9 +43,6 @@ and_level-loop-to-preserved t c = (
   part_behind c.in_ok-right.ensures,
 )
 
-pub bracket-opening_at-requires : goal.bracket-opening_at-requires
-bracket-opening_at-requires t c = c.requires.readable.inside
-
 pub bracket-name_at-requires : goal.bracket-name_at-requires
 bracket-name_at-requires t c =
     record {
@@ -75,17 +69,8 @@ bracket-returns-in_err-place t c = rw c.from_residual-in_err-place.ensures (uncl
 pub bracket-returns : goal.bracket-returns
 bracket-returns t c = bracketed_part _ _ _ _ _ c.in-Some.ensures (part_read c.in_ok-part.ensures) c.in_ok-place.ensures
 
-pub not_level-word_at-requires : goal.not_level-word_at-requires
-not_level-word_at-requires t c = c.requires.readable.inside
-
 pub not_level-bracket-requires : goal.not_level-bracket-requires
 not_level-bracket-requires t c = (omega arith, (c.requires.readable, (c.requires.indexed, c.in_default.ensures.says)))
-
-pub not_level-returns-in_default : goal.not_level-returns-in_default
-not_level-returns-in_default t c = c.bracket.ensures
-
-pub not_level-overflow_add-next : goal.not_level-overflow_add-next
-not_level-overflow_add-next t c = omega (arith, c.requires.readable.numbers)
 
 pub not_level-not_level-requires : goal.not_level-not_level-requires
 not_level-not_level-requires t c = (omega (arith, (word_past c.in-Some.ensures).onward, (word_past c.in-Some.ensures).inside), (behind_word c.requires.readable is_not_lem c.in-Some.ensures, c.requires.indexed))
@@ -104,9 +89,6 @@ not_level-overflow_add-result-2 t c = omega (arith, c.requires.readable.numbers,
 
 pub not_level-returns : goal.not_level-returns
 not_level-returns t c = negated_part _ _ _ _ _ c.in-Some.ensures (part_read c.in_ok-part.ensures) c.put_row.ensures (sym (length_decode (length c.args.starts.now) c.args.bytes.now))
-
-pub or_level-and_level-requires : goal.or_level-and_level-requires
-or_level-and_level-requires t c = (omega arith, (c.requires.readable, c.requires.indexed))
 
 pub or_level-returns-in_err-part : goal.or_level-returns-in_err-part
 or_level-returns-in_err-part t c = rw c.from_residual.ensures (first_faulty disj c.in_err-part.ensures _)
