@@ -9,9 +9,6 @@ loop-i-init c = putting _ _ _ _
 pub overflow_add-rules : goal.overflow_add-rules
 overflow_add-rules c = omega (arith, (rows_fit c.loop-i.invariant c.loop-i-test.true _ c.put_row-put.ensures).0, c.loop-i.invariant.few_rules, c.requires.1)
 
-pub put_row-put-requires : goal.put_row-put-requires
-put_row-put-requires c = omega (arith, c.loop-i.invariant.short, c.requires.1)
-
 pub loop-i-preserved : goal.loop-i-preserved
 loop-i-preserved c = put_again c.loop-i.invariant c.loop-i-test.true _ c.put_row-put.ensures
 

@@ -5,9 +5,6 @@ use Rattle.condition_form.proofs.condition.form_from.Goals as goal
 pub loop-place-init : goal.loop-place-init
 loop-place-init c = walking _ _ _ c.requires
 
-pub standing_at-requires : goal.standing_at-requires
-standing_at-requires c = c.loop-place.invariant.inside
-
 pub overflow_add-depth : goal.overflow_add-depth
 overflow_add-depth c = omega (arith, c.loop-place.invariant.few, c.loop-place.invariant.inside, open_inside c.loop-place.invariant c.in_ok-place.ensures c.in-Opening.is, open_onward c.loop-place.invariant c.in_ok-place.ensures c.in-Opening.is)
 
@@ -28,9 +25,6 @@ nothing_at-requires c = close_inside c.loop-place.invariant c.in_ok-place.ensure
 
 pub returns-then-depth-eq0 : goal.returns-then-depth-eq0
 returns-then-depth-eq0 c = rw c.then_some.ensures (form_closes c.loop-place.invariant c.in_ok-place.ensures c.in-Closing.is c.if-depth-eq0.true c.nothing_at.ensures)
-
-pub overflow_sub-depth : goal.overflow_sub-depth
-overflow_sub-depth c = omega (arith, c.if-depth-eq0.false)
 
 pub loop-place-smaller-in-Closing : goal.loop-place-smaller-in-Closing
 loop-place-smaller-in-Closing c = omega (arith, close_inside c.loop-place.invariant c.in_ok-place.ensures c.in-Closing.is, close_onward c.loop-place.invariant c.in_ok-place.ensures c.in-Closing.is)

@@ -5,11 +5,7 @@ use Rattle.name_store.proofs.NamePlaces.{length_decode}
 use Rattle.condition_parts.proofs.ConditionLaws.{is_and, is_not_lem, is_or}
 use native.Mathlib.Omega.{arith}
 use mathlib.Core.Path.{sym}
-use Rattle.name_store.specs.IndexedNames.{names_of}
 use Rattle.condition_parts.proofs.parts.+and_level_bracket_not_level_or_level.Goals as goal
-
-pub and_level-not_level-requires : goal.and_level-not_level-requires
-and_level-not_level-requires t c = (omega arith, c.requires)
 
 pub and_level-returns-in_err-part : goal.and_level-returns-in_err-part
 and_level-returns-in_err-part t c = rw c.from_residual.ensures (first_faulty conj c.in_err-part.ensures _)
@@ -47,9 +43,6 @@ and_level-loop-to-preserved t c = (
   part_behind c.in_ok-right.ensures,
 )
 
-pub bracket-opening_at-requires : goal.bracket-opening_at-requires
-bracket-opening_at-requires t c = c.requires.readable.inside
-
 pub bracket-name_at-requires : goal.bracket-name_at-requires
 bracket-name_at-requires t c =
     record {
@@ -75,17 +68,8 @@ bracket-returns-in_err-place t c = rw c.from_residual-in_err-place.ensures (uncl
 pub bracket-returns : goal.bracket-returns
 bracket-returns t c = bracketed_part _ _ _ _ _ c.in-Some.ensures (part_read c.in_ok-part.ensures) c.in_ok-place.ensures
 
-pub not_level-word_at-requires : goal.not_level-word_at-requires
-not_level-word_at-requires t c = c.requires.inside
-
 pub not_level-bracket-requires : goal.not_level-bracket-requires
 not_level-bracket-requires t c = (omega arith, (c.requires, c.in_default.ensures.says))
-
-pub not_level-returns-in_default : goal.not_level-returns-in_default
-not_level-returns-in_default t c = c.bracket.ensures
-
-pub not_level-overflow_add-next : goal.not_level-overflow_add-next
-not_level-overflow_add-next t c = omega (arith, c.requires.numbers)
 
 pub not_level-not_level-requires : goal.not_level-not_level-requires
 not_level-not_level-requires t c = (omega (arith, (word_past c.in-Some.ensures).onward, (word_past c.in-Some.ensures).inside), behind_word c.requires is_not_lem c.in-Some.ensures)
@@ -104,9 +88,6 @@ not_level-overflow_add-result-2 t c = omega (arith, c.requires.numbers, (behind_
 
 pub not_level-returns : goal.not_level-returns
 not_level-returns t c = negated_part _ _ _ _ _ c.in-Some.ensures (part_read c.in_ok-part.ensures) c.put_row.ensures (sym (length_decode (length c.args.names.now.starts.now) c.args.names.now.bytes.now))
-
-pub or_level-and_level-requires : goal.or_level-and_level-requires
-or_level-and_level-requires t c = (omega arith, c.requires)
 
 pub or_level-returns-in_err-part : goal.or_level-returns-in_err-part
 or_level-returns-in_err-part t c = rw c.from_residual.ensures (first_faulty disj c.in_err-part.ensures _)

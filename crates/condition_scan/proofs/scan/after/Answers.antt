@@ -4,9 +4,6 @@ use Rattle.condition_scan.specs.Scans.{after_of}
 use Rattle.condition_scan.proofs.Passing.{opened_deep, opened_shallow}
 use Rattle.condition_scan.proofs.scan.after.Goals as goal
 
-pub overflow_sub-next : goal.overflow_sub-next
-overflow_sub-next c = c.requires.opened c.in-Closing.is
-
 pub returns-then-next-gt-BRACKETS : goal.returns-then-next-gt-BRACKETS
 returns-then-next-gt-BRACKETS c = opened_deep c.args.seen c.if-next-gt-BRACKETS.true ∙ sym (ap (after_of c.args.seen) c.in-Opening.is)
 

@@ -7,9 +7,6 @@ use Rattle.condition_scan.proofs.scan.scan_condition.Goals as goal
 pub loop-step-init : goal.loop-step-init
 loop-step-init c = scanning _ _ c.requires
 
-pub step_at-requires : goal.step_at-requires
-step_at-requires c = c.loop-step.invariant.inside
-
 pub returns-then-seen : goal.returns-then-seen
 returns-then-seen c = part_missing c.loop-step.invariant c.in_default.ensures c.if-seen.true
 

@@ -10,9 +10,6 @@ loop-number-init c = names_begin _ _ _ c.requires.1
 pub put_name-next-requires : goal.put_name-next-requires
 put_name-next-requires c = range_here c.loop-number.invariant (names_next _ _ (omega arith))
 
-pub loop-number-smaller : goal.loop-number-smaller
-loop-number-smaller c = omega arith
-
 pub loop-number-preserved : goal.loop-number-preserved
 loop-number-preserved c = turn c.loop-number.invariant (names_next _ _ (omega arith)) c.put_name-next.ensures
 
