@@ -15,7 +15,7 @@ use Rattle.rules.proofs.Booleans.{T-or, is_true_lem, is_false}
 use Rattle.rules.proofs.Lists.{all_at}
 use Rattle.name_store.specs.NameStore.{decode_names, same_bytes}
 use Rattle.name_store.specs.NameIndex.{found_from, found, name_hash, hashes, last_with, Indexed}
-use Rattle.std.specs.Prelude.{Option, Some, None}
+use Rattle.std.specs.Prelude.{Some, None}
 use Rattle.name_store.proofs.NameStores.{same_law, same_equal}
 use Rattle.name_store.proofs.ByteLoops.{hash_small}
 use Rattle.name_store.proofs.NamePlaces.{length_decode}

@@ -7,7 +7,7 @@ use lib.ListN.{replicate}
 use Rattle.kinds.specs.Words.{bytes}
 use Rattle.kinds.specs.declared.limits.Kind.TheVariants.{Plain, Preference}
 use Rattle.names.specs.declared.forms.NameClass.TheVariants.{Common, Generated, TooLong, Wrong}
-use Rattle.std.specs.Prelude.{Option, Some, None}
+use Rattle.std.specs.Prelude.{Some, None}
 use Rattle.names.specs.Numerals.{value}
 use Rattle.names.specs.Names.{is_house, is_atom_number, is_made_name, is_common_name, is_class_number, name_class, allowed}
 use Rattle.name_store.specs.NameStore.{same_bytes, decode_names, are_names_from, are_names}

@@ -11,7 +11,7 @@ use lib.Dec.{leb}
 use mathlib.Core.Bool.{true, false}
 use borrow.Author.Tests.{le-leb, lt-leb}
 use Rattle.name_store.specs.NameIndex.{name_start, Placed, name_end}
-use Rattle.std.specs.Prelude.{Option, Some, None}
+use Rattle.std.specs.Prelude.{Some, None}
 
 pub length_decode : (n : ℕ) (bs : List ℕ) → length (decode_names n bs) ≡ n
 unfolding decode_names

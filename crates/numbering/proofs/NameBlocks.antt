@@ -1,12 +1,12 @@
 -- Names that stand twice, found block by block: each block is entered into an empty index, and the later names are looked up in it.
-use Prim.Native.Nat.{ℕ, ◌+◌, ◌≤◌, ◌<◌, zero-le}
+use Prim.Native.Nat.{ℕ, ◌≤◌, ◌<◌, zero-le}
 use native.Mathlib.Omega.{arith}
-use mathlib.Core.Path.{◌≡◌, refl, sym, ap, ap₂, ◌∙◌, subst}
+use mathlib.Core.Path.{◌≡◌, refl, sym, ap, ◌∙◌, subst}
 use mathlib.Core.Bool.{Bool, true, false, ◌||◌}
-use mathlib.Core.List.{List, [], ◌++◌, append-nil}
-use lib.ListN.{length, get_or, drop, set, replicate, length-set, length-replicate, get_or-replicate, drop_of_length-le}
+use mathlib.Core.List.{List, [], append-nil}
+use lib.ListN.{length, get_or, drop, replicate, length-replicate, get_or-replicate}
 use Rattle.kinds.specs.Sizes.{longest_name}
-use Rattle.rules.specs.Lists.{All, some}
+use Rattle.rules.specs.Lists.{some}
 use Rattle.rules.proofs.Lists.{all_app_r}
 use Rattle.name_store.specs.NameStore.{encode_names, decode_names, among}
 use Rattle.name_store.specs.NameIndex.{buckets, last_with, Indexed}

@@ -1,9 +1,6 @@
 use mathlib.Core.Path.{◌∙◌}
 use native.Mathlib.Omega.{arith}
-use Prim.Native.Nat.{◌-◌}
 use Rattle.name_check.proofs.NameChecks.{check_begins, check_passed, check_short, check_room, check_part, check_wrong, check_twice, check_again, never}
-use mathlib.Core.Path.{ap}
-use mathlib.Core.Bool.{not}
 use Rattle.name_check.proofs.index_names.Goals as goal
 
 pub loop-atom-init : goal.loop-atom-init

@@ -1,4 +1,3 @@
-use Prim.Native.Nat.{◌-◌}
 use Rattle.name_check.proofs.NameChecks.{Checking}
 use Rattle.name_check.proofs.index_names.Given as goal
 

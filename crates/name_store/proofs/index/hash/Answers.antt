@@ -1,4 +1,3 @@
-use Prim.Native.Nat.{◌-◌}
 use Rattle.name_store.proofs.ByteLoops.{hash_begins, hash_passed, hash_again}
 use Rattle.name_store.proofs.index.hash.Goals as goal
 

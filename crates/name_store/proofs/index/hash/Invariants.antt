@@ -1,5 +1,3 @@
-use Prim.Native.Nat.{◌-◌}
-use lib.ListN.{length}
 use Rattle.name_store.proofs.ByteLoops.{Hashing}
 use Rattle.name_store.proofs.index.hash.Given as goal
 

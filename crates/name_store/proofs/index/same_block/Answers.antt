@@ -1,4 +1,4 @@
-use Prim.Native.Nat.{◌-◌, zero-le}
+use Prim.Native.Nat.{zero-le}
 use native.Mathlib.Omega.{arith}
 use Rattle.name_store.proofs.ByteLoops.{same_begins, same_passed, same_not, same_again}
 use Rattle.name_store.proofs.index.same_block.Goals as goal

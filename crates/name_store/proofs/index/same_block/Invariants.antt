@@ -1,5 +1,3 @@
-use Prim.Native.Nat.{◌-◌}
-use lib.ListN.{length}
 use Rattle.name_store.proofs.ByteLoops.{Same}
 use Rattle.name_store.proofs.index.same_block.Given as goal
 

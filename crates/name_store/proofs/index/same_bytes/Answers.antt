@@ -1,6 +1,5 @@
-use Prim.Native.Nat.{◌-◌, zero-le}
+use Prim.Native.Nat.{zero-le}
 use mathlib.Core.Path.{◌∙◌}
-use mathlib.Core.Bool.{true}
 use native.Mathlib.Omega.{arith}
 use Rattle.name_store.proofs.ByteLoops.{other_length, same_begins, block_same, block_differs, blocks_as_long, rest_same}
 use mathlib.Core.Path.{ap}

@@ -1,4 +1,3 @@
-use Prim.Native.Nat.{◌-◌}
 use Rattle.name_store.proofs.NameEntries.{is_found, not_found}
 use Rattle.numbering.proofs.Entering.{looking, none_known, look_inside, look_long, one_known, look_again}
 use native.Mathlib.Omega.{arith}

@@ -1,4 +1,3 @@
-use Prim.Native.Nat.{◌-◌}
 use mathlib.Core.Path.{refl, ap, ◌∙◌}
 use Rattle.std.specs.Prelude.{Err}
 use Rattle.numbering.proofs.NameBlocks.{blocks_begin, block_stored, block_all, block_twice, rest_inside, rest_onward, rest_index, rest_known, next_block}

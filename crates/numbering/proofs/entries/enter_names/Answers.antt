@@ -1,4 +1,3 @@
-use Prim.Native.Nat.{◌-◌}
 use mathlib.Core.Path.{refl, ◌∙◌}
 use Rattle.numbering.proofs.Entering.{entering, names_entered, entry_inside, entry_long, entry_short, store_full, entry_index, entry_room, entered_twice, entered_again}
 use native.Mathlib.Omega.{arith}

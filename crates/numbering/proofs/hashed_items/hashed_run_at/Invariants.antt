@@ -1,5 +1,3 @@
-use Prim.Native.Nat.{◌-◌}
-use lib.ListN.{length}
 use Rattle.numbering.proofs.HashedNames.{Hashing}
 use Rattle.numbering.proofs.hashed_items.hashed_run_at.Given as goal
 

@@ -1,4 +1,3 @@
-use Prim.Native.Nat.{◌-◌}
 use Rattle.name_store.proofs.NameChains.{Search}
 use Rattle.name_store.proofs.indexed.NameIndex.find_hashed.Given as goal
 
