@@ -1,5 +1,5 @@
 -- Parts put together: what one level's part, a word and another part give.
-use Prim.Native.Nat.{ℕ, suc, ◌+◌, ◌*◌, ◌<◌, ◌≤◌}
+use Prim.Native.Nat.{ℕ, suc, ◌+◌, ◌<◌}
 use native.Mathlib.Omega.{arith}
 use mathlib.Core.Path.{◌≡◌, refl, sym, ap, ap₂, ◌∙◌, subst}
 use mathlib.Core.Bool.{Bool, true, false, not, ◌||◌}
@@ -7,7 +7,7 @@ use mathlib.Core.List.{List, [], ◌∷◌, ◌++◌, map, append_assoc}
 use lib.ListN.{length, set, drop, length-append}
 use lib.Seq.{sets, length-sets}
 use Rattle.kinds.specs.Words.{not_word, and_word, or_word}
-use Rattle.rules.specs.Lists.{All, some, flat, from}
+use Rattle.rules.specs.Lists.{All, some, from}
 use Rattle.rules.proofs.Lists.{all_app, some_app, from_append}
 use Rattle.name_store.specs.NameStore.{among}
 use Rattle.conditions.specs.Conditions.{Atom, made, Cond, NOT, AND, OR, connectives, names_of}

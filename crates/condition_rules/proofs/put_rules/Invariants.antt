@@ -1,4 +1,3 @@
-use Prim.Native.Nat.{◌-◌}
 use Rattle.condition_rules.proofs.RowRules.{Putting}
 use Rattle.condition_rules.proofs.put_rules.Given as goal
 

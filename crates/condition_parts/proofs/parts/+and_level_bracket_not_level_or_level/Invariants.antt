@@ -1,6 +1,6 @@
 use Rattle.conditions.specs.declared.table.TableRow.{TableRow}
 use Rattle.lines.specs.Tokens.{tokens}
-use Prim.Native.Nat.{ℕ, ◌-◌, ◌+◌, ◌*◌}
+use Prim.Native.Nat.{◌-◌, ◌+◌, ◌*◌}
 use lib.ListN.{length, drop}
 use mathlib.Core.List.{List}
 use Rattle.condition_parts.specs.Parts.{Behind, PartAt}
