@@ -1,7 +1,6 @@
 use mathlib.Core.Path.{ap}
 use mathlib.Core.List.{[], ◌∷◌}
 use Rattle.output.proofs.Emitting.{then, renamed}
-use borrow.Author.Rules.{rules}
 use Rattle.delivery.proofs.delivery.put_header.Goals as goal
 
 pub returns : goal.returns

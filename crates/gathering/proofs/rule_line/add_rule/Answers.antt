@@ -4,7 +4,6 @@ use lib.ListN.{length, take}
 use native.Mathlib.Omega.{arith}
 use Rattle.gathering.proofs.HeldState.{held_small, known_starts, known_index, known_names}
 use Rattle.gathering.proofs.RuleSteps.{no_rule, line_numbered, line_otherwise, twice_in_list, rule_line_lem, rule_marks}
-use borrow.Author.Rules.{rules}
 use Rattle.gathering.proofs.rule_line.add_rule.Goals as goal
 
 pub overflow_add-at : goal.overflow_add-at
