@@ -2,22 +2,19 @@
 // Each level leaves the next word to the level above it. Unread bytes, and between two words the level, fall at each call.
 ghost use Rattle.std.specs.Prelude.{◌≡◌, false, List, ℕ, ◌≤◌, length, drop};
 ghost use Rattle.kinds.specs.Words.{not_word};
-ghost use Rattle.name_store.specs.NameStore.{decode_names};
-ghost use Rattle.name_store.specs.NameIndex.{Indexed};
+ghost use Rattle.name_store.specs.IndexedNames.{names_of};
 ghost use Rattle.conditions.specs.declared.table.TableRow.{TableRow};
 ghost use Rattle.lines.specs.Tokens.{tokens};
 ghost use Rattle.lines.specs.Conditions.{names_in};
 ghost use Rattle.numbering.specs.Numbers.{undeclared};
 ghost use Rattle.condition_parts.specs.Places.{is_opening, is_leading};
 ghost use Rattle.condition_parts.specs.Parts.{disjunctions, conjunctions, single, Readable, PartIs, ParseIs};
-ghost use Rattle.name_store.specs.IndexedNames.{names_of};
 
 use crate::places::{opening_at, word_at};
 use crate::rows::put_row;
 use conditions::table::{Connective, TableRow};
 use lines::scan;
 use lines::scan::Item;
-use name_store::index;
 use name_store::indexed::NameIndex;
 
 // The place behind a part, its atom, and the row of the connective that comes next.

@@ -1,18 +1,16 @@
 // With brackets that pair, tokens are a condition exactly when parts and connectives take turns: no recursion is needed to tell.
 ghost use Rattle.std.specs.Prelude.{true, ◌≡◌, ◌≤◌, length};
-ghost use Rattle.name_store.specs.NameStore.{decode_names};
-ghost use Rattle.name_store.specs.NameIndex.{name_hash, Indexed};
+ghost use Rattle.name_store.specs.NameIndex.{name_hash};
+ghost use Rattle.name_store.specs.IndexedNames.{names_of};
 ghost use Rattle.lines.specs.Tokens.{tokens};
 ghost use Rattle.lines.specs.Conditions.{pairs};
 ghost use Rattle.condition_scan.specs.Scans.{word_symbol, is_fitting, after_of, Countable, StepIs, ScanIs};
-ghost use Rattle.name_store.specs.IndexedNames.{names_of};
 
 use crate::sorts::{Sort, sort_of};
 use kinds::limits::Preference;
 use lines::scan::{Bracket, bracket_at};
-use name_store::index;
-use numbering::hashed_items::{HashedItem, hashed_item_at};
 use name_store::indexed::NameIndex;
+use numbering::hashed_items::{HashedItem, hashed_item_at};
 
 // A token as the scan tells it from others: `and` and `or` are joints.
 #[derive(Clone, Copy)]

@@ -1,10 +1,9 @@
 // Whether names of made atoms are declared.
-ghost use Rattle.std.specs.Prelude.{suc, ◌+◌, ◌^◌, ◌≤◌, ◌<◌, min, ◌≡◌, T, length};
+ghost use Rattle.std.specs.Prelude.{suc, ◌+◌, ◌^◌, ◌≤◌, ◌<◌, min, ◌≡◌, T};
 ghost use Rattle.kinds.specs.Limits.{atom_limit};
 ghost use Rattle.rules.specs.Lists.{All, some, from};
 ghost use Rattle.names.specs.Names.{made_name, allowed};
-ghost use Rattle.name_store.specs.NameStore.{decode_names, among};
-ghost use Rattle.name_store.specs.NameIndex.{Indexed};
+ghost use Rattle.name_store.specs.NameStore.{among};
 ghost use Rattle.name_store.specs.IndexedNames.{names_of};
 
 use crate::writing::emit_made;

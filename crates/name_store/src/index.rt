@@ -1,5 +1,5 @@
 // The index of a name store: an atom's name by its number, and its number by the name.
-ghost use Rattle.std.specs.Prelude.{cond, not, ◌≡◌, ◌+◌, ◌*◌, ◌%◌, ◌≤◌, ◌<◌, [], length, get_or, drop, set};
+ghost use Rattle.std.specs.Prelude.{cond, not, ◌≡◌, ◌+◌, ◌*◌, ◌%◌, ◌≤◌, ◌<◌, [], length, get_or, set};
 ghost use Rattle.name_store.specs.NameStore.{decode_names, same_bytes, among};
 ghost use Rattle.name_store.specs.NameIndex.{found, name_end, name_hash, buckets, Placed, Indexed};
 ghost use Rattle.name_store.specs.IndexedNames.{names_of};

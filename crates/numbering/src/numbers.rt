@@ -1,7 +1,5 @@
 // The names of a rule's lists to atom numbers, in one walk over its line.
 ghost use Rattle.std.specs.Prelude.{◌≡◌, ◌+◌, ◌*◌, ◌^◌, ◌≤◌, ◌<◌, eqb, length, get_or, set};
-ghost use Rattle.name_store.specs.NameStore.{decode_names};
-ghost use Rattle.name_store.specs.NameIndex.{Indexed};
 ghost use Rattle.name_store.specs.IndexedNames.{names_of};
 ghost use Rattle.stores.specs.Checking.{Below};
 ghost use Rattle.numbering.specs.Numbers.{NumbersAre, ListsAre, RuleIs};

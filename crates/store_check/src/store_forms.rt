@@ -1,5 +1,5 @@
 // The check of a rule store (document 01, "The rule store is a slice of u16"; refusal 10).
-ghost use Rattle.std.specs.Prelude.{◌≡◌, ◌+◌, ◌≤◌, length, take, drop, get_or};
+ghost use Rattle.std.specs.Prelude.{◌≡◌, ◌+◌, ◌≤◌, length, drop, get_or};
 ghost use Rattle.kinds.specs.declared.limits.Kind.TheVariants.{Preference as KindPreference};
 ghost use Rattle.stores.specs.RuleStore.{kind_said, word_count, is_role, are_words, are_classes, is_program, rule_store};
 
