@@ -1,5 +1,4 @@
 use native.Mathlib.Omega.{arith}
-use Prim.Native.Nat.{◌-◌}
 use Rattle.name_store.proofs.ByteLoops.{hash_small}
 use Rattle.name_store.proofs.NameChains.{search_begins, search_ends, search_inside, search_less, search_hit, search_again}
 use Rattle.name_store.proofs.indexed.NameIndex.find_hashed.Goals as goal
