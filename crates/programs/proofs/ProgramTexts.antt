@@ -3,7 +3,7 @@ use Prim.Native.Nat.{ℕ, ◌-◌, ◌*◌, ◌≤◌, ◌<◌}
 use native.Mathlib.Omega.{arith}
 use mathlib.Core.Path.{◌≡◌, refl, sym, ap, ap₂, ◌∙◌, subst}
 use mathlib.Core.Bool.{Bool, true, false, cond}
-use mathlib.Core.List.{List, []}
+use mathlib.Core.List.{List}
 use lib.Dec.{T, leb}
 use lib.ListN.{length, get_or, take, drop, length-append}
 use borrow.Author.Tests.{le-leb, lt-leb, leb-true, leb-false, eq-eqb, ne_eqb}
@@ -30,7 +30,7 @@ use Rattle.answers.specs.Reading.{read_refusal, read_answer, read_rules, read_na
 use Rattle.reader.proofs.RoundTrip.{accepted_form}
 use Rattle.translated.specs.PreferenceStore.{PreferenceStore}
 use Rattle.answers.specs.Translating.{translation_text, stores_translation}
-use Rattle.answers.specs.Printed.{refused_text, shown}
+use Rattle.answers.specs.Printed.{refused_text}
 use Rattle.answers.specs.Listed.{whole_listing, streamed, states_of}
 use Rattle.answers.specs.Programs.{of_kind, on_said, printed, translation_of, translate_printed, states_printed}
 use Rattle.programs.specs.ReadStores.{ReadStores, on_stores, printer}
@@ -215,15 +215,6 @@ module _ (f : Program → List (List ℕ) → List ℕ) (text : List ℕ) where
             let y : ◌≡◌ {A = Result ReadSizes ReadRefusal} (Err r) (Err (read_refusal g k)) = sym e ∙ a ∙ said_refused g k said-so in
             let z : r ≡ read_refusal g k = cc in
             ap (λ (x : ReadRefusal). refused_text x.refusal x.line) z ∙ sym (printed_refused g k said-so)
-
--- what is shown stands in the output
-pub shown_inside : (text before : List ℕ) → length (shown text before) ≤ length before
-unfolding shown
-shown_inside text before = go (leb (length text) (length before)) refl
-  where
-    go : (b : Bool) → leb (length text) (length before) ≡ b → length (cond b text []) ≤ length before
-    go true e = leb-true _ _ e
-    go false e = omega arith
 
 -- what is printed is never longer than an output of the programs
 

@@ -1,14 +1,21 @@
+use mathlib.Core.Path.{sym}
+use lib.Seq.{length-take-le}
 use Rattle.programs.proofs.ProgramTexts.{rules_part, names_part, read_stores, refused_text_lem, accepted_text}
 use Rattle.printing.proofs.PrintedLines.{shown_renamed}
-use native.Mathlib.Omega.{arith}
 use borrow.Author.Rules.{rules}
 use Rattle.programs.proofs.texts.print_by.Goals as goal
 
 pub slice_bounds-show_stores-end : goal.slice_bounds-show_stores-end
-slice_bounds-show_stores-end c = omega (arith, rules_part c.args.text.now c.args.rules.now c.args.names.now c.read.ensures.answer c.in-Ok.is c.read.ensures.rules c.read.ensures.names)
+slice_bounds-show_stores-end c = rules_part c.args.text.now c.args.rules.now c.args.names.now c.read.ensures.answer c.in-Ok.is c.read.ensures.rules c.read.ensures.names
 
 pub slice_bounds-show_stores-end-in-Ok : goal.slice_bounds-show_stores-end-in-Ok
-slice_bounds-show_stores-end-in-Ok c = omega (arith, names_part c.args.text.now c.args.rules.now c.args.names.now c.read.ensures.answer c.in-Ok.is c.read.ensures.rules c.read.ensures.names)
+slice_bounds-show_stores-end-in-Ok c = sym (length-take-le _ _ (rules_part c.args.text.now c.args.rules.now c.args.names.now c.read.ensures.answer c.in-Ok.is c.read.ensures.rules c.read.ensures.names))
+
+pub slice_bounds-show_stores-end-in-Ok-2 : goal.slice_bounds-show_stores-end-in-Ok-2
+slice_bounds-show_stores-end-in-Ok-2 c = names_part c.args.text.now c.args.rules.now c.args.names.now c.read.ensures.answer c.in-Ok.is c.read.ensures.rules c.read.ensures.names
+
+pub slice_bounds-show_stores-end-in-Ok-3 : goal.slice_bounds-show_stores-end-in-Ok-3
+slice_bounds-show_stores-end-in-Ok-3 c = sym (length-take-le _ _ (names_part c.args.text.now c.args.rules.now c.args.names.now c.read.ensures.answer c.in-Ok.is c.read.ensures.rules c.read.ensures.names))
 
 pub show_stores-requires : goal.show_stores-requires
 show_stores-requires c = read_stores c.args.text.now c.args.rules.now c.args.names.now c.read.ensures.answer c.in-Ok.is c.read.ensures.rules c.read.ensures.names
