@@ -12,28 +12,35 @@ use groups::grouping::Group;
 use groups::plan::Plan;
 use walks::answers::{NextState, Verdict};
 
+// What a walk over the candidates is asked: the fixed atoms, how many atoms there are, the place to start from, the budget.
+#[derive(Clone, Copy)]
+struct Terms {
+    fixed: u64,
+    atoms: usize,
+    start: u64,
+    budget: u64,
+    ghost atoms_le_walk_atoms: { atoms ≤ walk_atoms },
+    ghost budget_le_budget_limit: { budget ≤ budget_limit },
+}
+
 // An open final choice, its unit counted: a state, or the units so far with those of its verdict.
 fn candidate(
     plan: &mut [u64; Plan::WORDS],
-    fixed: u64,
-    atoms: usize,
-    budget: u64,
+    terms: &Terms,
     set: u64,
     units: u64,
     found: &mut u64,
 ) -> u64
     requires has_tables { HasTables plan.old }
-    requires budget_le_budget_limit { budget ≤ budget_limit }
-    requires atoms_le_walk_atoms { atoms ≤ walk_atoms }
-    requires units_bound { units ≤ budget + walk_atoms + 1 }
-    ensures told_by { ToldBy budget (candidate_by (preferred_m (care_in plan.old) (want_in plan.old) (starts_in plan.old) (classes_in plan.old) fixed atoms set) set units) found.old result found.new }
+    requires units_bound { units ≤ terms.now.budget + walk_atoms + 1 }
+    ensures told_by { ToldBy terms.now.budget (candidate_by (preferred_m (care_in plan.old) (want_in plan.old) (starts_in plan.old) (classes_in plan.old) terms.now.fixed terms.now.atoms set) set units) found.old result found.new }
     ensures has_tables_2 { HasTables plan.new × SameTables plan.new plan.old }
 {
-    if budget < units {
+    if terms.budget < units {
         return units;
     }
-    let left = budget - units;
-    let verdict = preferred_search(plan, fixed, atoms, set, left);
+    let left = terms.budget - units;
+    let verdict = preferred_search(plan, terms.fixed, terms.atoms, set, left);
     match verdict {
         Verdict::Yes { units: more } => {
             *found = set;
@@ -44,8 +51,8 @@ fn candidate(
             set: _,
             units: more,
         } => units + more,
-        Verdict::Spent { units: _ } => budget + 1,
-        Verdict::Refused { refusal: _ } => budget + 1,
+        Verdict::Spent { units: _ } => terms.budget + 1,
+        Verdict::Refused { refusal: _ } => terms.budget + 1,
     }
 }
 
@@ -65,10 +72,7 @@ fn is_before(start: u64, rest: usize, value: bool, set: u64) -> bool
 #[cycle(descend_visit)]
 fn visit(
     plan: &mut [u64; Plan::WORDS],
-    fixed: u64,
-    atoms: usize,
-    start: u64,
-    budget: u64,
+    terms: &Terms,
     rest: usize,
     value: bool,
     set: u64,
@@ -76,15 +80,13 @@ fn visit(
     found: &mut u64,
 ) -> u64
     requires has_tables { HasTables plan.old }
-    requires budget_le_budget_limit { budget ≤ budget_limit }
-    requires atoms_le_walk_atoms { atoms ≤ walk_atoms }
     requires rest_lt_walk_atoms { rest < walk_atoms }
     requires rest_bound { set + 2 ^ rest ≤ 2 ^ walk_atoms }
-    requires rest_bound_2 { units + rest ≤ budget + walk_atoms }
-    ensures told_by { ToldBy budget (visit_by (listed plan.old fixed atoms start) rest value (λ s u. descend_by (listed plan.old fixed atoms start) rest s u) set units) found.old result found.new }
+    requires rest_bound_2 { units + rest ≤ terms.now.budget + walk_atoms }
+    ensures told_by { ToldBy terms.now.budget (visit_by (listed plan.old terms.now.fixed terms.now.atoms terms.now.start) rest value (λ s u. descend_by (listed plan.old terms.now.fixed terms.now.atoms terms.now.start) rest s u) set units) found.old result found.new }
     ensures has_tables_2 { HasTables plan.new × SameTables plan.new plan.old }
 {
-    if is_before(start, rest, value, set) {
+    if is_before(terms.start, rest, value, set) {
         return units;
     }
     let used = units + 1;
@@ -92,62 +94,44 @@ fn visit(
         return used;
     }
     if rest == 0 {
-        return candidate(plan, fixed, atoms, budget, set, used, found);
+        return candidate(plan, terms, set, used, found);
     }
-    descend(plan, fixed, atoms, start, budget, rest, set, used, found)
+    descend(plan, terms, rest, set, used, found)
 }
 
 // What lies below an open choice with `left` atoms to be decided, its unit counted: the next atom is out, then in.
 #[cycle(descend_visit)]
 fn descend(
     plan: &mut [u64; Plan::WORDS],
-    fixed: u64,
-    atoms: usize,
-    start: u64,
-    budget: u64,
+    terms: &Terms,
     left: usize,
     set: u64,
     units: u64,
     found: &mut u64,
 ) -> u64
     requires has_tables { HasTables plan.old }
-    requires budget_le_budget_limit { budget ≤ budget_limit }
-    requires atoms_le_walk_atoms { atoms ≤ walk_atoms }
     requires left_nonzero { (0 < left) × (left ≤ walk_atoms) }
     requires left_bound { set + 2 ^ left ≤ 2 ^ walk_atoms }
-    requires left_bound_2 { units + left ≤ budget + walk_atoms + 1 }
-    ensures told_by { ToldBy budget (descend_by (listed plan.old fixed atoms start) left set units) found.old result found.new }
+    requires left_bound_2 { units + left ≤ terms.now.budget + walk_atoms + 1 }
+    ensures told_by { ToldBy terms.now.budget (descend_by (listed plan.old terms.now.fixed terms.now.atoms terms.now.start) left set units) found.old result found.new }
     ensures has_tables_2 { HasTables plan.new × SameTables plan.new plan.old }
 {
     let rest = left - 1;
     let with = set + (1u64 << rest);
-    let after = visit(
-        plan, fixed, atoms, start, budget, rest, false, set, units, found,
-    );
-    if budget < after {
+    let after = visit(plan, terms, rest, false, set, units, found);
+    if terms.budget < after {
         return after;
     }
-    visit(
-        plan, fixed, atoms, start, budget, rest, true, with, after, found,
-    )
+    visit(plan, terms, rest, true, with, after, found)
 }
 
 // The walk from the empty choice, which too may lie before the start, or be closed.
-fn search_from(
-    plan: &mut [u64; Plan::WORDS],
-    fixed: u64,
-    atoms: usize,
-    start: u64,
-    budget: u64,
-    found: &mut u64,
-) -> u64
+fn search_from(plan: &mut [u64; Plan::WORDS], terms: &Terms, found: &mut u64) -> u64
     requires has_tables { HasTables plan.old }
-    requires budget_le_budget_limit { budget ≤ budget_limit }
-    requires atoms_le_walk_atoms { atoms ≤ walk_atoms }
-    ensures told_by { ToldBy budget (next_outcome (care_in plan.old) (want_in plan.old) (starts_in plan.old) (classes_in plan.old) fixed atoms start) found.old result found.new }
+    ensures told_by { ToldBy terms.now.budget (next_outcome (care_in plan.old) (want_in plan.old) (starts_in plan.old) (classes_in plan.old) terms.now.fixed terms.now.atoms terms.now.start) found.old result found.new }
     ensures has_tables_2 { HasTables plan.new × SameTables plan.new plan.old }
 {
-    if (1u64 << atoms) <= start {
+    if (1u64 << terms.atoms) <= terms.start {
         return 0;
     }
     let used: u64 = 1;
@@ -156,10 +140,10 @@ fn search_from(
     if breaks(plan, from, to, 0) {
         return used;
     }
-    if atoms == 0 {
-        return candidate(plan, fixed, atoms, budget, 0, used, found);
+    if terms.atoms == 0 {
+        return candidate(plan, terms, 0, used, found);
     }
-    descend(plan, fixed, atoms, start, budget, atoms, 0, used, found)
+    descend(plan, terms, terms.atoms, 0, used, found)
 }
 
 // The next state over masks: the first candidate from the start on that no set beats.
@@ -176,8 +160,14 @@ pub fn next_masks(
     ensures value { result ≡ next_m (care_in plan.old) (want_in plan.old) (starts_in plan.old) (classes_in plan.old) fixed atoms start budget }
     ensures has_tables_2 { HasTables plan.new × SameTables plan.new plan.old }
 {
+    let terms = Terms {
+        fixed,
+        atoms,
+        start,
+        budget,
+    };
     let mut found: u64 = 0;
-    let number = search_from(plan, fixed, atoms, start, budget, &mut found);
+    let number = search_from(plan, &terms, &mut found);
     if number <= budget {
         return NextState::Nothing { units: number };
     }

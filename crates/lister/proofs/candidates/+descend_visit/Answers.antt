@@ -16,22 +16,22 @@ pub descend-overflow_add-with : goal.descend-overflow_add-with
 descend-overflow_add-with t c = omega (arith, room_in _ _ c.requires.left_nonzero.0 c.requires.left_nonzero.1 c.requires.left_bound refl)
 
 pub descend-visit-after-requires : goal.descend-visit-after-requires
-descend-visit-after-requires t c = (omega (arith, c.decreases, c.requires.left_nonzero.0), (c.requires.has_tables, (c.requires.budget_le_budget_limit, (c.requires.atoms_le_walk_atoms, (omega (arith, c.requires.left_nonzero), (room_out _ _ c.requires.left_nonzero.0 c.requires.left_nonzero.1 c.requires.left_bound, omega (arith, c.requires.left_nonzero.0, c.requires.left_bound_2)))))))
+descend-visit-after-requires t c = (omega (arith, c.decreases, c.requires.left_nonzero.0), (c.requires.has_tables, (omega (arith, c.requires.left_nonzero), (room_out _ _ c.requires.left_nonzero.0 c.requires.left_nonzero.1 c.requires.left_bound, omega (arith, c.requires.left_nonzero.0, c.requires.left_bound_2)))))
 
-pub descend-returns-then-budget-after : goal.descend-returns-then-budget-after
-descend-returns-then-budget-after t c =
+pub descend-returns-then-terms-after : goal.descend-returns-then-terms-after
+descend-returns-then-terms-after t c =
     record {
-      told_by = descend_over _ (ends_rise _ _ _ _ _ _) _ _ _ _ _ _ (one_less _ _ c.requires.left_nonzero.0 c.requires.left_nonzero.1 c.requires.left_bound) c.if-budget-after.true c.visit-after.ensures.told_by;
+      told_by = descend_over _ (ends_rise _ _ _ _ _ _) _ _ _ _ _ _ (one_less _ _ c.requires.left_nonzero.0 c.requires.left_nonzero.1 c.requires.left_bound) c.if-terms-after.true c.visit-after.ensures.told_by;
       has_tables_2 = c.visit-after.ensures.has_tables_2;
     }
 
 pub descend-visit-requires : goal.descend-visit-requires
-descend-visit-requires t c = (omega (arith, c.decreases, c.requires.left_nonzero.0), (c.visit-after.ensures.has_tables_2.0, (c.requires.budget_le_budget_limit, (c.requires.atoms_le_walk_atoms, (omega (arith, c.requires.left_nonzero), (room_in _ _ c.requires.left_nonzero.0 c.requires.left_nonzero.1 c.requires.left_bound refl, omega (arith, c.requires.left_nonzero, c.if-budget-after.false)))))))
+descend-visit-requires t c = (omega (arith, c.decreases, c.requires.left_nonzero.0), (c.visit-after.ensures.has_tables_2.0, (omega (arith, c.requires.left_nonzero), (room_in _ _ c.requires.left_nonzero.0 c.requires.left_nonzero.1 c.requires.left_bound refl, omega (arith, c.requires.left_nonzero, c.if-terms-after.false)))))
 
 pub descend-returns : goal.descend-returns
 descend-returns t c =
     record {
-      told_by = descend_on _ (ends_rise _ _ _ _ _ _) _ _ _ _ _ _ (one_less _ _ c.requires.left_nonzero.0 c.requires.left_nonzero.1 c.requires.left_bound) _ (bit_is _ _ c.requires.left_nonzero.0 c.requires.left_nonzero.1 c.requires.left_bound refl) (omega (arith, c.requires.budget_le_budget_limit)) c.if-budget-after.false c.visit-after.ensures.told_by (told_listed _ _ c.visit-after.ensures.has_tables_2.1 _ _ _ _ _ _ _ c.visit.ensures.told_by);
+      told_by = descend_on _ (ends_rise _ _ _ _ _ _) _ _ _ _ _ _ (one_less _ _ c.requires.left_nonzero.0 c.requires.left_nonzero.1 c.requires.left_bound) _ (bit_is _ _ c.requires.left_nonzero.0 c.requires.left_nonzero.1 c.requires.left_bound refl) (omega (arith, c.args.terms.now.budget_le_budget_limit)) c.if-terms-after.false c.visit-after.ensures.told_by (told_listed _ _ c.visit-after.ensures.has_tables_2.1 _ _ _ _ _ _ _ c.visit.ensures.told_by);
       has_tables_2 = (c.visit.ensures.has_tables_2.0, c.visit.ensures.has_tables_2.1 ∙ c.visit-after.ensures.has_tables_2.1);
     }
 
@@ -45,12 +45,12 @@ visit-is_before-requires t c =
 pub visit-returns-then-is_before : goal.visit-returns-then-is_before
 visit-returns-then-is_before t c =
     record {
-      told_by = visit_passed _ (ends_rise _ _ _ _ _ _) _ _ _ _ _ _ (not-true _ (sym c.is_before.ensures ∙ c.if-is_before.true)) (omega (arith, c.requires.budget_le_budget_limit, c.requires.rest_bound_2));
+      told_by = visit_passed _ (ends_rise _ _ _ _ _ _) _ _ _ _ _ _ (not-true _ (sym c.is_before.ensures ∙ c.if-is_before.true)) (omega (arith, c.args.terms.now.budget_le_budget_limit, c.requires.rest_bound_2));
       has_tables_2 = (c.requires.has_tables, refl);
     }
 
 pub visit-overflow_add-used : goal.visit-overflow_add-used
-visit-overflow_add-used t c = omega (arith, c.requires.budget_le_budget_limit, c.requires.rest_bound_2)
+visit-overflow_add-used t c = omega (arith, c.args.terms.now.budget_le_budget_limit, c.requires.rest_bound_2)
 
 pub visit-closes-requires : goal.visit-closes-requires
 visit-closes-requires t c =
@@ -63,7 +63,7 @@ visit-closes-requires t c =
 pub visit-returns-then-closes : goal.visit-returns-then-closes
 visit-returns-then-closes t c =
     record {
-      told_by = visit_closed _ (ends_rise _ _ _ _ _ _) _ _ _ _ _ _ (not-false _ (sym c.is_before.ensures ∙ c.if-is_before.false)) (sym c.closes.ensures ∙ c.if-closes.true) (omega (arith, c.requires.budget_le_budget_limit, c.requires.rest_bound_2));
+      told_by = visit_closed _ (ends_rise _ _ _ _ _ _) _ _ _ _ _ _ (not-false _ (sym c.is_before.ensures ∙ c.if-is_before.false)) (sym c.closes.ensures ∙ c.if-closes.true) (omega (arith, c.args.terms.now.budget_le_budget_limit, c.requires.rest_bound_2));
       has_tables_2 = (c.requires.has_tables, refl);
     }
 
@@ -71,8 +71,6 @@ pub visit-candidate-requires : goal.visit-candidate-requires
 visit-candidate-requires t c =
     record {
       has_tables = c.requires.has_tables;
-      budget_le_budget_limit = c.requires.budget_le_budget_limit;
-      atoms_le_walk_atoms = c.requires.atoms_le_walk_atoms;
       units_bound = omega (arith, c.requires.rest_bound_2);
     }
 
@@ -84,7 +82,7 @@ visit-returns-then-rest-eq0 t c =
     }
 
 pub visit-descend-requires : goal.visit-descend-requires
-visit-descend-requires t c = (omega (arith, c.decreases), (c.requires.has_tables, (c.requires.budget_le_budget_limit, (c.requires.atoms_le_walk_atoms, ((omega (arith, c.if-rest-eq0.false), omega (arith, c.requires.rest_lt_walk_atoms)), (c.requires.rest_bound, omega (arith, c.requires.rest_bound_2)))))))
+visit-descend-requires t c = (omega (arith, c.decreases), (c.requires.has_tables, ((omega (arith, c.if-rest-eq0.false), omega (arith, c.requires.rest_lt_walk_atoms)), (c.requires.rest_bound, omega (arith, c.requires.rest_bound_2)))))
 
 pub visit-returns : goal.visit-returns
 visit-returns t c =
