@@ -14,8 +14,8 @@ use Rattle.stores.specs.RuleStore.{rule_at}
 use Rattle.stable_verdict.specs.ReductMarks.{is_keeping, marked_at}
 
 -- whether the reduct keeps the rule at the front
-pub kept_read : {ws nots : List ℕ} → nots ≡ (rule_at ws).nots → (m : ℕ) (b : Bool) → b ≡ some (has m) nots → not b ≡ is_keeping m (rule_at ws)
-kept_read e m b is = ap not (is ∙ ap (some (has m)) e)
+pub kept_read : (ws : List ℕ) {nots : List ℕ} → nots ≡ (rule_at ws).nots → (m : ℕ) (b : Bool) → b ≡ some (has m) nots → not b ≡ is_keeping m (rule_at ws)
+kept_read ws e m b is = ap not (is ∙ ap (some (has m)) e)
 
 -- the set mark with so many before it, one mark further
 module _ (before : ℕ) (ms : List Bool) (left j : ℕ) (e : marked_at before ms ≡ j + marked_at left (drop j ms)) where

@@ -6,4 +6,4 @@ pub some_in-requires : goal.some_in-requires
 some_in-requires c = nots_below c.requires c.rule_lists.ensures.nots
 
 pub returns : goal.returns
-returns c = kept_read c.rule_lists.ensures.nots _ _ c.some_in.ensures
+returns c = kept_read _ c.rule_lists.ensures.nots _ _ c.some_in.ensures
