@@ -30,8 +30,8 @@ rule_numbers-requires c =
     let s = held_small h in
     let n = known_starts x in
     let range : c.args.gathered.words + 3 + 3 * length c.args.line.now < 2 ^ 63 = omega (arith, c.requires.line_len_bound.0) in
-    let few : length (take c.args.gathered.counts.atoms c.args.starts.now) ≤ 65535 = omega arith in
-    let marked : length (take c.args.gathered.counts.atoms c.args.starts.now) ≤ length c.args.marks.now = omega (arith, m.room) in
+    let few : length (take c.args.gathered.counts.atoms c.args.scratch.now.starts) ≤ 65535 = omega arith in
+    let marked : length (take c.args.gathered.counts.atoms c.args.scratch.now.starts) ≤ length c.args.scratch.now.marks = omega (arith, m.room) in
     let stamps : 3 * c.args.gathered.counts.rules + 1 + 2 < 65536 = omega arith in
     record {
       starts_len_bound = (few, marked, range, stamps);
@@ -43,6 +43,7 @@ returns-in_default c =
     record {
       line_is = record { says = no_rule c.requires.held c.requires.line_len_bound.1 c.args.line.now c.requires.line_len_bound.2 c.requires.line_len_bound.3 (known_names c.requires.held_index c.requires.held) (line_otherwise c.rule_numbers.ensures c.in_default.is) c.rule_refusal.ensures };
       marks_are = record { says = tt };
+      rest_kept = refl;
     }
 
 pub returns-then-rule : goal.returns-then-rule
@@ -50,6 +51,7 @@ returns-then-rule c =
     record {
       line_is = record { says = twice_in_list c.requires.held c.requires.line_len_bound.1 c.args.line.now (known_names c.requires.held_index c.requires.held) (line_numbered c.rule_numbers.ensures c.in-Some.is) c.if-rule.true };
       marks_are = record { says = tt };
+      rest_kept = refl;
     }
 
 pub keep_rule-requires : goal.keep_rule-requires
@@ -63,4 +65,5 @@ returns c =
     record {
       line_is = rule_line_lem c.requires.held c.requires.line_len_bound.1 c.args.line.now (known_names c.requires.held_index c.requires.held) w c.if-rule.false refl c.keep_rule.ensures c.requires.held_index;
       marks_are = rule_marks c.requires.held c.requires.line_len_bound.1 c.args.line.now (known_names c.requires.held_index c.requires.held) w c.if-rule.false refl c.keep_rule.ensures c.rule_numbers.auto.marks c.requires.held_marks;
+      rest_kept = refl;
     }

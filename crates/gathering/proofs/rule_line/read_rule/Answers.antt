@@ -1,4 +1,4 @@
-use mathlib.Core.Path.{sym, ◌∙◌}
+use mathlib.Core.Path.{refl, sym, ◌∙◌}
 use Rattle.gathering.proofs.RuleSteps.{blank_passed, blank_marks}
 use Rattle.gathering.proofs.rule_line.read_rule.Goals as goal
 
@@ -7,6 +7,7 @@ returns-then-nothing_at c =
     record {
       line_is = blank_passed c.requires.held c.requires.held_index c.args.line.now c.nothing_at.ensures c.if-nothing_at.true c.pass_blank.ensures;
       marks_are = blank_marks c.requires.held c.requires.held_index c.args.line.now c.nothing_at.ensures c.if-nothing_at.true c.pass_blank.ensures c.requires.held_marks;
+      rest_kept = refl;
     }
 
 pub add_rule-requires : goal.add_rule-requires

@@ -1,4 +1,5 @@
-use mathlib.Core.Path.{sym, ◌∙◌}
+use mathlib.Core.Path.{sym, ◌∙◌, subst}
+use Rattle.gathering.specs.Gathered.{HeldMarks}
 use Rattle.reader.proofs.LineByLine.{later_marks}
 use Rattle.reader.proofs.reading.read_line.Goals as goal
 
@@ -22,6 +23,6 @@ read_declared-requires c =
 pub returns : goal.returns
 returns c =
     record {
-      line_is = c.read_declared.ensures;
-      marks_are = later_marks c.requires.held c.read_declared.ensures c.requires.held_marks;
+      line_is = c.read_declared.ensures.line_is;
+      marks_are = later_marks c.requires.held c.read_declared.ensures.line_is (subst (HeldMarks c.args.gathered) (sym c.read_declared.ensures.marks_kept) c.requires.held_marks);
     }

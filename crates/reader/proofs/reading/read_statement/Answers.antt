@@ -1,5 +1,6 @@
-use mathlib.Core.Path.{sym, ap, ◌∙◌}
-use Rattle.gathering.specs.Gathered.{opens_condition}
+use mathlib.Core.Path.{sym, ap, ◌∙◌, subst}
+use Rattle.gathering.specs.declared.scratch.Scratch.{Scratch}
+use Rattle.gathering.specs.Gathered.{HeldMarks, opens_condition}
 use Rattle.reader.proofs.Delivering.{condition_preference, held_preference, line_preference}
 use Rattle.reader.proofs.LineByLine.{later_marks}
 use Rattle.condition_line.proofs.condition_line.opens_condition.Reads as opens-condition-reads
@@ -17,10 +18,13 @@ read_condition-requires c =
 
 pub returns-then-opens_condition : goal.returns-then-opens_condition
 returns-then-opens_condition c =
-    let line = line_preference c.requires.held (condition_preference c.args.kind c.args.line.now (sym c.opens_condition.ensures ∙ c.if-opens_condition.true)) c.read_condition.ensures in
+    let kept = c.read_condition.ensures.rest_kept in
+    let marks = ap (λ (s : Scratch). s.marks) kept in
+    let line = line_preference c.requires.held (condition_preference c.args.kind c.args.line.now (sym c.opens_condition.ensures ∙ c.if-opens_condition.true)) c.read_condition.ensures.line_is in
     record {
       line_is = line;
-      marks_are = later_marks c.requires.held line c.requires.held_marks;
+      marks_are = later_marks c.requires.held line (subst (HeldMarks c.args.gathered) (sym marks) c.requires.held_marks);
+      rest_kept = kept ∙ ap (λ m. record c.args.scratch.now { words = c.read_condition.new.scratch.words; marks = m }) (sym marks);
     }
 
 pub read_rule-requires : goal.read_rule-requires
