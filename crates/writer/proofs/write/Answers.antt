@@ -37,8 +37,11 @@ returns-then-not-index_names c =
 pub slice_bounds-starts-end : goal.slice_bounds-starts-end
 slice_bounds-starts-end c = found_inside c.args.rules.now c.args.names.now c.args.out.now _ (sym c.check_rules.ensures ∙ c.in_ok-kind.ensures.ok_part) _ c.index_names.ensures.value c.if-not-index_names.false (c.index_names.ensures.indexed c.if-not-index_names.false)
 
-pub slice_bounds-write_text-end : goal.slice_bounds-write_text-end
-slice_bounds-write_text-end c = sym (found_length c.args.rules.now c.args.names.now c.args.out.now _ (sym c.check_rules.ensures ∙ c.in_ok-kind.ensures.ok_part) _ c.index_names.ensures.value c.if-not-index_names.false (c.index_names.ensures.indexed c.if-not-index_names.false))
+pub slice_bounds-placed-end : goal.slice_bounds-placed-end
+slice_bounds-placed-end c = sym (found_length c.args.rules.now c.args.names.now c.args.out.now _ (sym c.check_rules.ensures ∙ c.in_ok-kind.ensures.ok_part) _ c.index_names.ensures.value c.if-not-index_names.false (c.index_names.ensures.indexed c.if-not-index_names.false))
+
+pub invariant_of-placed : goal.invariant_of-placed
+invariant_of-placed c = record { placed = (found_sources c.args.rules.now c.args.names.now c.args.out.now _ (sym c.check_rules.ensures ∙ c.in_ok-kind.ensures.ok_part) _ c.index_names.ensures.value c.if-not-index_names.false (c.index_names.ensures.indexed c.if-not-index_names.false)).placed }
 
 pub write_text-requires : goal.write_text-requires
 write_text-requires c = found_sources c.args.rules.now c.args.names.now c.args.out.now _ (sym c.check_rules.ensures ∙ c.in_ok-kind.ensures.ok_part) _ c.index_names.ensures.value c.if-not-index_names.false (c.index_names.ensures.indexed c.if-not-index_names.false)

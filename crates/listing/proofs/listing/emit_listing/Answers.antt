@@ -31,7 +31,7 @@ pub turned-set-requires : goal.turned-set-requires
 turned-set-requires c = c.requires.named.few
 
 pub emit_state-next-requires : goal.emit_state-next-requires
-emit_state-next-requires c = (c.requires.named.placed, few_starts c.requires.named, state_range c.requires.named _ _ c.loop-next-test.true)
+emit_state-next-requires c = (few_starts c.requires.named, state_range c.requires.named _ _ c.loop-next-test.true)
 
 pub overflow_add-start : goal.overflow_add-start
 overflow_add-start c = omega (arith, state_small c.loop-next.invariant.1 (c.next_masks-found.ensures.value ∙ next_same _ _ c.loop-next.invariant.0.1 _ _ _ _) (between _ _ _ _ _ _) c.in-State.is (few_sets c.requires.named))

@@ -22,8 +22,8 @@ place_names-requires c = names_stored c.requires.0 c.requires.1 c.requires.2 c.i
 pub slice_bounds-starts-end-2 : goal.slice_bounds-starts-end-2
 slice_bounds-starts-end-2 c = filled_inside c.requires.0 c.requires.1 c.requires.2 c.if-atoms-gt-ATOMS.false _ refl c.place_names.new.starts c.place_names.auto.starts
 
-pub slice_bounds-show_store-end : goal.slice_bounds-show_store-end
-slice_bounds-show_store-end c = sym (handed_sized c.requires.0 c.requires.1 c.requires.2 c.if-atoms-gt-ATOMS.false _ refl c.place_names.new.starts c.place_names.auto.starts)
+pub slice_bounds-placed-end : goal.slice_bounds-placed-end
+slice_bounds-placed-end c = sym (handed_sized c.requires.0 c.requires.1 c.requires.2 c.if-atoms-gt-ATOMS.false _ refl c.place_names.new.starts c.place_names.auto.starts)
 
 pub show_store-requires : goal.show_store-requires
 show_store-requires c = stores_listed c.requires.0 c.requires.1 c.requires.2 c.if-atoms-gt-ATOMS.false _ refl c.place_names.new.starts c.place_names.auto.starts c.place_names.ensures

@@ -4,10 +4,10 @@ use borrow.Author.Rules.{rules}
 use Rattle.text.proofs.atoms.emit_run.Goals as goal
 
 pub loop-i-init : goal.loop-i-init
-loop-i-init c = start c.requires.2
+loop-i-init c = start c.requires.1
 
 pub emit_atom-next-requires : goal.emit_atom-next-requires
-emit_atom-next-requires c = (c.requires.0, search rules, range_here c.loop-i.invariant (run_next _ _ _ c.loop-i-test.true))
+emit_atom-next-requires c = (search rules, range_here c.loop-i.invariant (run_next _ _ _ c.loop-i-test.true))
 
 pub loop-i-preserved : goal.loop-i-preserved
 loop-i-preserved c = turn c.loop-i.invariant (run_next _ _ _ c.loop-i-test.true) c.emit_atom-next.ensures

@@ -6,7 +6,7 @@ use Rattle.text.proofs.rule_lines.emit_rules.Goals as goal
 
 pub loop-init : goal.loop-init
 unfolding rule_item rule_items
-loop-init c = rules_begin c.requires.1 c.requires.2
+loop-init c = rules_begin c.requires.0 c.requires.1
 
 pub offset_bounds-words-from : goal.offset_bounds-words-from
 offset_bounds-words-from c = omega (arith, place_inside c.loop.invariant c.loop-test.true)
@@ -30,7 +30,7 @@ pub slice_bounds-emit_rule-start : goal.slice_bounds-emit_rule-start
 slice_bounds-emit_rule-start c = omega (arith, place_inside c.loop.invariant c.loop-test.true)
 
 pub emit_rule-next-requires : goal.emit_rule-next-requires
-emit_rule-next-requires c = (c.requires.0, rule_stored c.loop.invariant c.loop-test.true, rule_range c.loop.invariant c.loop-test.true)
+emit_rule-next-requires c = (rule_stored c.loop.invariant c.loop-test.true, rule_range c.loop.invariant c.loop-test.true)
 
 pub overflow_add-from : goal.overflow_add-from
 overflow_add-from c = omega (arith, place_inside c.loop.invariant c.loop-test.true, c.rule_size-size.ensures)
