@@ -4,7 +4,6 @@ use Rattle.writer.proofs.Writing.{no_store, no_names, found_length, found_inside
 use Rattle.text.proofs.TextParts.{store_header}
 use mathlib.Core.Path.{refl, sym, ◌∙◌}
 use native.Mathlib.Omega.{arith}
-use borrow.Author.Rules.{rules}
 use Rattle.writer.proofs.write.Goals as goal
 
 pub returns-in_err-kind : goal.returns-in_err-kind
@@ -19,9 +18,6 @@ returns-in_err-kind c =
 
 pub bounds-rules-1 : goal.bounds-rules-1
 bounds-rules-1 c = omega (arith, store_header (store_here c.args.rules.now _ (sym c.check_rules.ensures ∙ c.in_ok-kind.ensures.ok_part)))
-
-pub overflow_cast-atoms : goal.overflow_cast-atoms
-overflow_cast-atoms c = omega (arith, atoms_fit c.args.rules.now _ (sym c.check_rules.ensures ∙ c.in_ok-kind.ensures.ok_part))
 
 pub index_names-requires : goal.index_names-requires
 index_names-requires c = (atoms_fit c.args.rules.now _ (sym c.check_rules.ensures ∙ c.in_ok-kind.ensures.ok_part), atoms_fit c.args.rules.now _ (sym c.check_rules.ensures ∙ c.in_ok-kind.ensures.ok_part), refl, atoms_fit c.args.rules.now _ (sym c.check_rules.ensures ∙ c.in_ok-kind.ensures.ok_part))

@@ -1,5 +1,4 @@
 use Rattle.text.proofs.ClassItems.{mins_begin, mins_end, next_class, end_inside, min_range, mins_again}
-use Rattle.output.proofs.Emitting.{length_kept}
 use native.Mathlib.Omega.{arith}
 use Rattle.text.proofs.classes.emit_min_lines.Goals as goal
 
@@ -14,9 +13,6 @@ emit_min_line-next-requires c = (end_inside c.loop-class.invariant c.loop-class-
 
 pub loop-class-preserved : goal.loop-class-preserved
 loop-class-preserved c = mins_again c.loop-class.invariant c.loop-class-test.true c.class_end-end.ensures c.emit_min_line-next.ensures
-
-pub shape_of-out : goal.shape_of-out
-shape_of-out c = length_kept c.loop-class.invariant.so
 
 pub returns : goal.returns
 returns c = mins_end c.loop-class.invariant c.loop-class-test.false

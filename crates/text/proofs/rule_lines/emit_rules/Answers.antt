@@ -1,5 +1,4 @@
 use Rattle.text.proofs.RuleLoop.{rules_begin, rules_end, rule_stored, place_inside, rule_range, rules_again}
-use Rattle.output.proofs.Emitting.{length_kept}
 use Rattle.text.specs.Items.{rule_item, rule_items}
 use native.Mathlib.Omega.{arith}
 use Rattle.text.proofs.rule_lines.emit_rules.Goals as goal
@@ -37,9 +36,6 @@ overflow_add-from c = omega (arith, place_inside c.loop.invariant c.loop-test.tr
 
 pub loop-preserved : goal.loop-preserved
 loop-preserved c = rules_again c.loop.invariant c.loop-test.true c.rule_size-size.ensures c.emit_rule-next.ensures
-
-pub shape_of-out : goal.shape_of-out
-shape_of-out c = length_kept c.loop.invariant.so
 
 pub returns : goal.returns
 unfolding rule_item rule_items

@@ -8,9 +8,6 @@ use Rattle.text.proofs.text.emit_plain.Goals as goal
 pub bounds-rules-3 : goal.bounds-rules-3
 bounds-rules-3 c = omega (arith, header c.requires.0)
 
-pub overflow_cast-count : goal.overflow_cast-count
-overflow_cast-count c = omega (arith, c.type_inv.rules 3)
-
 pub emit_line-declared-requires : goal.emit_line-declared-requires
 emit_line-declared-requires c = (omega arith, range_begin c.requires.0.range (atoms_ahead c.requires.0 c.requires.1))
 
