@@ -4,7 +4,7 @@ ghost use Rattle.kinds.specs.declared.limits.Kind.TheVariants.{Preference as Kin
 ghost use Rattle.stores.specs.RuleStore.{StoreOf, decode};
 ghost use Rattle.name_store.specs.NameStore.{NamesOf, decode_names};
 ghost use Rattle.output.specs.Emitted.{Emitted, InRange};
-ghost use Rattle.text.specs.Items.{stored_names};
+ghost use Rattle.text.specs.PlacedNames.{names_in};
 ghost use Rattle.printing.specs.Parts.{Shown};
 ghost use Rattle.answers.specs.Listed.{whole_listing, streamed, states_of};
 ghost use Rattle.listing.specs.ListedMasks.{ListedNames, ListedStores, ListedMasks, SortableMasks, SortedListing, Limited, last_line, plan_listing};
@@ -19,6 +19,7 @@ use output::bytes::emit;
 use places::turning::turned;
 use printing::printing::{emit_state, emit_total, show, show_refused};
 use text::atoms::place_names;
+use text::placed::PlacedNames;
 use walks::answers::NextState;
 
 // What stands after the states.
@@ -38,12 +39,11 @@ fn emit_listing(
     plan: &mut [u64; Plan::WORDS],
     fixed: u64,
     atoms: usize,
-    names: &[u8],
-    starts: &[u16],
+    names: &PlacedNames,
     out: &mut [u8],
 ) -> usize
-    requires { ListedMasks plan.old atoms names.now starts.now }
-    ensures { Limited (plan_listing plan.old fixed atoms (stored_names names.now starts.now)) out.old out.new result }
+    requires { ListedMasks plan.old atoms names.now.bytes.now names.now.starts.now }
+    ensures { Limited (plan_listing plan.old fixed atoms (names_in names.now)) out.old out.new result }
 {
     let mut next: usize = 0;
     let mut start: u64 = 0;
@@ -54,7 +54,7 @@ fn emit_listing(
             return emit_last(found, count, out, next);
         };
         let set = turned(place, atoms);
-        next = emit_state(set, names, starts, out, next);
+        next = emit_state(set, names, out, next);
         start = place + 1;
         count += 1;
     }
@@ -66,15 +66,14 @@ fn show_listing(
     plan: &mut [u64; Plan::WORDS],
     fixed: u64,
     atoms: usize,
-    names: &[u8],
-    starts: &[u16],
+    names: &PlacedNames,
     out: &mut [u8],
 ) -> usize
-    requires { ListedMasks plan.old atoms names.now starts.now }
-    ensures { Shown (streamed (plan_listing plan.old fixed atoms (stored_names names.now starts.now))) out.old out.new result }
+    requires { ListedMasks plan.old atoms names.now.bytes.now names.now.starts.now }
+    ensures { Shown (streamed (plan_listing plan.old fixed atoms (names_in names.now))) out.old out.new result }
 {
     let mut scratch = [0u8; Kind::STREAM];
-    let size = emit_listing(plan, fixed, atoms, names, starts, &mut scratch);
+    let size = emit_listing(plan, fixed, atoms, names, &mut scratch);
     if Kind::STREAM < size {
         return show_refused(Refusal::Output, 0, out);
     }
@@ -88,23 +87,22 @@ fn show_sorted(
     classes: &[u64; Preference::CLASSES],
     fixed: u64,
     atoms: usize,
-    names: &[u8],
-    starts: &[u16],
+    names: &PlacedNames,
     out: &mut [u8],
 ) -> usize
     requires sortable_masks { SortableMasks care.now want.now }
-    requires listed_names { ListedNames atoms names.now starts.now }
-    ensures { SortedListing care.now want.now classes.now fixed atoms (stored_names names.now starts.now) out.old out.new result }
+    requires listed_names { ListedNames atoms names.now.bytes.now names.now.starts.now }
+    ensures { SortedListing care.now want.now classes.now fixed atoms (names_in names.now) out.old out.new result }
 {
     let mut plan = [0u64; Plan::WORDS];
     fill_tables(care, want, classes, &mut plan);
-    show_listing(&mut plan, fixed, atoms, names, starts, out)
+    show_listing(&mut plan, fixed, atoms, names, out)
 }
 
-// The listing of a preference store; its masks are filled once. `starts` has the place of each name.
-fn show_store(rules: &[u16], names: &[u8], starts: &[u16], out: &mut [u8]) -> usize
-    requires { ListedStores rules.now names.now starts.now }
-    ensures { Shown (streamed (whole_listing (decode rules.now) (stored_names names.now starts.now))) out.old out.new result }
+// The listing of a preference store; its masks are filled once.
+fn show_store(rules: &[u16], names: &PlacedNames, out: &mut [u8]) -> usize
+    requires { ListedStores rules.now names.now.bytes.now names.now.starts.now }
+    ensures { Shown (streamed (whole_listing (decode rules.now) (names_in names.now))) out.old out.new result }
 {
     let mut care = [0u64; Preference::RULES];
     let mut want = [0u64; Preference::RULES];
@@ -120,7 +118,6 @@ fn show_store(rules: &[u16], names: &[u8], starts: &[u16], out: &mut [u8]) -> us
         fixed,
         atoms,
         names,
-        starts,
         out,
     )
 }
@@ -136,5 +133,9 @@ pub fn show_states(rules: &[u16], names: &[u8], out: &mut [u8]) -> usize
     }
     let mut starts = [0u16; Walk::ATOMS];
     place_names(names, &mut starts[..atoms]);
-    show_store(rules, names, &starts[..atoms], out)
+    let placed = PlacedNames {
+        bytes: names,
+        starts: &starts[..atoms],
+    };
+    show_store(rules, &placed, out)
 }

@@ -2,15 +2,15 @@
 ghost use Rattle.std.specs.Prelude.{◌≡◌, ◌≤◌, ◌<◌, length};
 ghost use Rattle.kinds.specs.Words.{decimal};
 ghost use Rattle.rules.specs.Sets.{has};
-ghost use Rattle.name_store.specs.NameIndex.{Placed};
 ghost use Rattle.output.specs.Emitted.{Emitted, InRange};
-ghost use Rattle.text.specs.Items.{stored_names};
 ghost use Rattle.answers.specs.Printed.{refused_text, state_line, total_line};
 ghost use Rattle.printing.specs.Parts.{member, members, Shown};
+ghost use Rattle.text.specs.PlacedNames.{names_in};
 
 use kinds::refusals::Refusal;
 use name_store::index::name_at;
 use output::bytes::{emit, push};
+use text::placed::PlacedNames;
 
 pub fn emit_decimal(x: u64, out: &mut [u8], at: usize) -> usize
     requires { InRange at (decimal x) }
@@ -42,44 +42,37 @@ fn has_atom(set: u64, atom: usize) -> bool
     (set >> atom) % 2 == 1
 }
 
-// An atom's name, if the set has it; `starts` has the place of each name.
-fn emit_member(
-    set: u64,
-    atom: usize,
-    names: &[u8],
-    starts: &[u16],
-    out: &mut [u8],
-    at: usize,
-) -> usize
-    requires { Placed (stored_names names.now starts.now) names.now starts.now × (length starts.now ≤ 60) × (atom < length starts.now) × InRange at (member (stored_names names.now starts.now) set atom) }
-    ensures { Emitted out.old at (member (stored_names names.now starts.now) set atom) out.new result }
+// An atom's name, if the set has it.
+fn emit_member(set: u64, atom: usize, names: &PlacedNames, out: &mut [u8], at: usize) -> usize
+    requires { (length names.now.starts.now ≤ 60) × (atom < length names.now.starts.now) × InRange at (member (names_in names.now) set atom) }
+    ensures { Emitted out.old at (member (names_in names.now) set atom) out.new result }
 {
     if has_atom(set, atom) {
         let next = push(b' ', out, at);
-        return emit(name_at(names, starts, atom), out, next);
+        return emit(name_at(names.bytes, names.starts, atom), out, next);
     }
     at
 }
 
 // The atoms of a set in declared order.
-fn emit_members(set: u64, names: &[u8], starts: &[u16], out: &mut [u8], at: usize) -> usize
-    requires { Placed (stored_names names.now starts.now) names.now starts.now × (length starts.now ≤ 60) × InRange at (members (stored_names names.now starts.now) set 0 (length starts.now)) }
-    ensures { Emitted out.old at (members (stored_names names.now starts.now) set 0 (length starts.now)) out.new result }
+fn emit_members(set: u64, names: &PlacedNames, out: &mut [u8], at: usize) -> usize
+    requires { (length names.now.starts.now ≤ 60) × InRange at (members (names_in names.now) set 0 (length names.now.starts.now)) }
+    ensures { Emitted out.old at (members (names_in names.now) set 0 (length names.now.starts.now)) out.new result }
 {
     let mut next = at;
-    for atom in 0..starts.len() {
-        next = emit_member(set, atom, names, starts, out, next);
+    for atom in 0..names.starts.len() {
+        next = emit_member(set, atom, names, out, next);
     }
     next
 }
 
 // `(state a b)`
-pub fn emit_state(set: u64, names: &[u8], starts: &[u16], out: &mut [u8], at: usize) -> usize
-    requires { Placed (stored_names names.now starts.now) names.now starts.now × (length starts.now ≤ 60) × InRange at (state_line (stored_names names.now starts.now) set) }
-    ensures { Emitted out.old at (state_line (stored_names names.now starts.now) set) out.new result }
+pub fn emit_state(set: u64, names: &PlacedNames, out: &mut [u8], at: usize) -> usize
+    requires { (length names.now.starts.now ≤ 60) × InRange at (state_line (names_in names.now) set) }
+    ensures { Emitted out.old at (state_line (names_in names.now) set) out.new result }
 {
     let opened = emit(b"(state", out, at);
-    let listed = emit_members(set, names, starts, out, opened);
+    let listed = emit_members(set, names, out, opened);
     emit(b")\n", out, listed)
 }
 

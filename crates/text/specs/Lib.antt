@@ -2,4 +2,5 @@
 pub mod Text
 pub mod ClassRuns
 pub mod Items
+pub mod PlacedNames
 pub mod Sources

@@ -1,13 +1,14 @@
 // The lines of a preference file's classes: the class words never fall, so each line's atoms are the next run of atoms.
 ghost use Rattle.std.specs.Prelude.{◌≡◌, ◌∷◌, ◌-◌, ◌≤◌, length};
 ghost use Rattle.rules.specs.Lists.{from};
-ghost use Rattle.name_store.specs.NameIndex.{Placed};
 ghost use Rattle.text.specs.ClassRuns.{ClassWordsOf, up_to};
 ghost use Rattle.output.specs.Emitted.{Emitted, InRange};
 ghost use Rattle.kinds.specs.Words.{open_bracket, min_word};
-ghost use Rattle.text.specs.Items.{stored_names, atom_line, min_items, class_items};
+ghost use Rattle.text.specs.Items.{atom_line, min_items, class_items};
+ghost use Rattle.text.specs.PlacedNames.{names_in};
 
 use crate::atoms::emit_line;
+use crate::placed::PlacedNames;
 use kinds::limits::ClassWord;
 
 // The first atom from `first` on whose class word is above `word`.
@@ -20,37 +21,29 @@ pub fn class_end(words: &[u16], first: usize, word: u16) -> usize
 }
 
 // The `min` line of the atoms from `first` up to `end`.
-fn emit_min_line(
-    first: usize,
-    end: usize,
-    names: &[u8],
-    starts: &[u16],
-    out: &mut [u8],
-    at: usize,
-) -> usize
-    requires { Placed (stored_names names.now starts.now) names.now starts.now × (end ≤ length starts.now) × InRange at (atom_line (stored_names names.now starts.now) (open_bracket ∷ min_word) (from first (end - first))) }
-    ensures { Emitted out.old at (atom_line (stored_names names.now starts.now) (open_bracket ∷ min_word) (from first (end - first))) out.new result }
+fn emit_min_line(first: usize, end: usize, names: &PlacedNames, out: &mut [u8], at: usize) -> usize
+    requires { (end ≤ length names.now.starts.now) × InRange at (atom_line (names_in names.now) (open_bracket ∷ min_word) (from first (end - first))) }
+    ensures { Emitted out.old at (atom_line (names_in names.now) (open_bracket ∷ min_word) (from first (end - first))) out.new result }
 {
-    emit_line(b"(min", first, end, names, starts, out, at)
+    emit_line(b"(min", first, end, names, out, at)
 }
 
 // The `min` lines, class 1 first.
 fn emit_min_lines(
     words: &[u16],
     classes: u16,
-    names: &[u8],
-    starts: &[u16],
+    names: &PlacedNames,
     out: &mut [u8],
     at: usize,
 ) -> usize
-    requires { Placed (stored_names names.now starts.now) names.now starts.now × ClassWordsOf (length starts.now) classes words.now × InRange at (min_items (stored_names names.now starts.now) words.now 1 classes) }
-    ensures { Emitted out.old at (min_items (stored_names names.now starts.now) words.now 1 classes) out.new result }
+    requires { ClassWordsOf (length names.now.starts.now) classes words.now × InRange at (min_items (names_in names.now) words.now 1 classes) }
+    ensures { Emitted out.old at (min_items (names_in names.now) words.now 1 classes) out.new result }
 {
     let mut next = at;
     let mut first: usize = 0;
     for class in 1..=classes {
         let end = class_end(words, first, class);
-        next = emit_min_line(first, end, names, starts, out, next);
+        next = emit_min_line(first, end, names, out, next);
         first = end;
     }
     next
@@ -60,17 +53,16 @@ fn emit_min_lines(
 pub fn emit_classes(
     words: &[u16],
     classes: u16,
-    names: &[u8],
-    starts: &[u16],
+    names: &PlacedNames,
     out: &mut [u8],
     at: usize,
 ) -> usize
-    requires { Placed (stored_names names.now starts.now) names.now starts.now × ClassWordsOf (length starts.now) classes words.now × InRange at (class_items (stored_names names.now starts.now) words.now classes) }
-    ensures { Emitted out.old at (class_items (stored_names names.now starts.now) words.now classes) out.new result }
+    requires { ClassWordsOf (length names.now.starts.now) classes words.now × InRange at (class_items (names_in names.now) words.now classes) }
+    ensures { Emitted out.old at (class_items (names_in names.now) words.now classes) out.new result }
 {
-    let listed = emit_min_lines(words, classes, names, starts, out, at);
+    let listed = emit_min_lines(words, classes, names, out, at);
     let vary = class_end(words, 0, classes);
     let fix = class_end(words, vary, ClassWord::VARYING);
-    let varied = emit_line(b"(vary", vary, fix, names, starts, out, listed);
-    emit_line(b"(fix", fix, words.len(), names, starts, out, varied)
+    let varied = emit_line(b"(vary", vary, fix, names, out, listed);
+    emit_line(b"(fix", fix, words.len(), names, out, varied)
 }

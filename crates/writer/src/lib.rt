@@ -16,20 +16,21 @@ use name_check::index_names;
 use name_store::index::BUCKETS;
 use store_check::store_forms::check_rules;
 use text::atoms::place_names;
+use text::placed::PlacedNames;
 use text::text::emit_text;
 
 // The text, if the output has room for it: counted first, then written.
-fn write_text(rules: &[u16], names: &[u8], starts: &[u16], out: &mut [u8]) -> Written
-    requires { Sources rules.now names.now starts.now }
-    ensures answer { result ≡ fitted (source_text rules.now names.now starts.now) (length out.old) }
-    ensures output { out.new ≡ fitted_output (source_text rules.now names.now starts.now) out.old }
+fn write_text(rules: &[u16], names: &PlacedNames, out: &mut [u8]) -> Written
+    requires { Sources rules.now names.now.bytes.now names.now.starts.now }
+    ensures answer { result ≡ fitted (source_text rules.now names.now.bytes.now names.now.starts.now) (length out.old) }
+    ensures output { out.new ≡ fitted_output (source_text rules.now names.now.bytes.now names.now.starts.now) out.old }
 {
     let mut none = [0u8; 0];
-    let bytes = emit_text(rules, names, starts, &mut none);
+    let bytes = emit_text(rules, names, &mut none);
     if out.len() < bytes {
         return Err(Refusal::Output);
     }
-    emit_text(rules, names, starts, out);
+    emit_text(rules, names, out);
     Ok(bytes)
 }
 
@@ -41,7 +42,11 @@ fn write_by(rules: &[u16], names: &[u8], table: &mut [u16], out: &mut [u8]) -> W
 {
     let atoms = rules[1] as usize;
     place_names(names, &mut table[..atoms]);
-    write_text(rules, names, &table[..atoms], out)
+    let placed = PlacedNames {
+        bytes: names,
+        starts: &table[..atoms],
+    };
+    write_text(rules, &placed, out)
 }
 
 // Writes the text of two stores that are known to be of the form.
@@ -67,5 +72,9 @@ pub fn write(rules: &[u16], names: &[u8], out: &mut [u8]) -> Written
     if !index_names(names, kind, atoms, &mut starts, &mut heads, &mut next) {
         return Err(Refusal::NameStore);
     }
-    write_text(rules, names, &starts[..atoms], out)
+    let placed = PlacedNames {
+        bytes: names,
+        starts: &starts[..atoms],
+    };
+    write_text(rules, &placed, out)
 }

@@ -4,7 +4,6 @@ use Rattle.writer.proofs.Writing.{no_store, no_names, found_length, found_inside
 use Rattle.text.proofs.TextParts.{store_header}
 use mathlib.Core.Path.{refl, sym, ◌∙◌}
 use native.Mathlib.Omega.{arith}
-use borrow.Author.Rules.{rules}
 use Rattle.writer.proofs.write.Goals as goal
 
 pub returns-in_err-kind : goal.returns-in_err-kind
@@ -20,9 +19,6 @@ returns-in_err-kind c =
 pub bounds-rules-1 : goal.bounds-rules-1
 bounds-rules-1 c = omega (arith, store_header (store_here c.args.rules.now _ (sym c.check_rules.ensures ∙ c.in_ok-kind.ensures.ok_part)))
 
-pub overflow_cast-atoms : goal.overflow_cast-atoms
-overflow_cast-atoms c = omega (arith, atoms_fit c.args.rules.now _ (sym c.check_rules.ensures ∙ c.in_ok-kind.ensures.ok_part))
-
 pub index_names-requires : goal.index_names-requires
 index_names-requires c = (atoms_fit c.args.rules.now _ (sym c.check_rules.ensures ∙ c.in_ok-kind.ensures.ok_part), atoms_fit c.args.rules.now _ (sym c.check_rules.ensures ∙ c.in_ok-kind.ensures.ok_part), refl, atoms_fit c.args.rules.now _ (sym c.check_rules.ensures ∙ c.in_ok-kind.ensures.ok_part))
 
@@ -37,8 +33,11 @@ returns-then-not-index_names c =
 pub slice_bounds-starts-end : goal.slice_bounds-starts-end
 slice_bounds-starts-end c = found_inside c.args.rules.now c.args.names.now c.args.out.now _ (sym c.check_rules.ensures ∙ c.in_ok-kind.ensures.ok_part) _ c.index_names.ensures.value c.if-not-index_names.false (c.index_names.ensures.indexed c.if-not-index_names.false)
 
-pub slice_bounds-write_text-end : goal.slice_bounds-write_text-end
-slice_bounds-write_text-end c = sym (found_length c.args.rules.now c.args.names.now c.args.out.now _ (sym c.check_rules.ensures ∙ c.in_ok-kind.ensures.ok_part) _ c.index_names.ensures.value c.if-not-index_names.false (c.index_names.ensures.indexed c.if-not-index_names.false))
+pub slice_bounds-placed-end : goal.slice_bounds-placed-end
+slice_bounds-placed-end c = sym (found_length c.args.rules.now c.args.names.now c.args.out.now _ (sym c.check_rules.ensures ∙ c.in_ok-kind.ensures.ok_part) _ c.index_names.ensures.value c.if-not-index_names.false (c.index_names.ensures.indexed c.if-not-index_names.false))
+
+pub invariant_of-placed : goal.invariant_of-placed
+invariant_of-placed c = record { placed = (found_sources c.args.rules.now c.args.names.now c.args.out.now _ (sym c.check_rules.ensures ∙ c.in_ok-kind.ensures.ok_part) _ c.index_names.ensures.value c.if-not-index_names.false (c.index_names.ensures.indexed c.if-not-index_names.false)).placed }
 
 pub write_text-requires : goal.write_text-requires
 write_text-requires c = found_sources c.args.rules.now c.args.names.now c.args.out.now _ (sym c.check_rules.ensures ∙ c.in_ok-kind.ensures.ok_part) _ c.index_names.ensures.value c.if-not-index_names.false (c.index_names.ensures.indexed c.if-not-index_names.false)

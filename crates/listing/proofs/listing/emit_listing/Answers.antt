@@ -10,43 +10,20 @@ use Rattle.listing.proofs.listing.emit_listing.Goals as goal
 pub loop-next-init : goal.loop-next-init
 loop-next-init c = ((c.requires.tables, refl), begins _ _ _ _)
 
-pub next_masks-found-requires : goal.next_masks-found-requires
-next_masks-found-requires c =
-    record {
-      has_tables = c.loop-next.invariant.0.0;
-      budget_le_budget_limit = search rules;
-      atoms_le_walk_atoms = c.requires.named.few;
-    }
-
 pub emit_last-requires : goal.emit_last-requires
 emit_last-requires c = last_range c.loop-next.invariant.1 _ c.loop-next-test.true
-
-pub shape_of-out-in_default : goal.shape_of-out-in_default
-shape_of-out-in_default c = emitted-length c.emit_last.ensures ∙ length_kept c.loop-next.invariant.1
 
 pub returns-in_default : goal.returns-in_default
 returns-in_default c = ended c.loop-next.invariant.1 (c.next_masks-found.ensures.value ∙ next_same _ _ c.loop-next.invariant.0.1 _ _ _ _) (opened c.in_default.in_default-own.keys2) c.emit_last.ensures
 
-pub turned-set-requires : goal.turned-set-requires
-turned-set-requires c = c.requires.named.few
-
 pub emit_state-next-requires : goal.emit_state-next-requires
-emit_state-next-requires c = (c.requires.named.placed, few_starts c.requires.named, state_range c.requires.named _ _ c.loop-next-test.true)
+emit_state-next-requires c = (few_starts c.requires.named, state_range c.requires.named _ _ c.loop-next-test.true)
 
 pub overflow_add-start : goal.overflow_add-start
 overflow_add-start c = omega (arith, state_small c.loop-next.invariant.1 (c.next_masks-found.ensures.value ∙ next_same _ _ c.loop-next.invariant.0.1 _ _ _ _) (between _ _ _ _ _ _) c.in-State.is (few_sets c.requires.named))
-
-pub overflow_add-count : goal.overflow_add-count
-overflow_add-count c = omega (arith, count_small c.loop-next.invariant.1 (c.next_masks-found.ensures.value ∙ next_same _ _ c.loop-next.invariant.0.1 _ _ _ _) (between _ _ _ _ _ _) c.in-State.is (few_sets c.requires.named))
 
 pub loop-next-smaller : goal.loop-next-smaller
 loop-next-smaller c = falls c.loop-next.invariant.1 (c.next_masks-found.ensures.value ∙ next_same _ _ c.loop-next.invariant.0.1 _ _ _ _) (between _ _ _ _ _ _) c.in-State.is
 
 pub loop-next-preserved : goal.loop-next-preserved
 loop-next-preserved c = ((c.next_masks-found.ensures.has_tables_2.0, c.next_masks-found.ensures.has_tables_2.1 ∙ c.loop-next.invariant.0.1), listed c.loop-next.invariant.1 (c.next_masks-found.ensures.value ∙ next_same _ _ c.loop-next.invariant.0.1 _ _ _ _) (between _ _ _ _ _ _) c.in-State.is c.turned-set.ensures c.emit_state-next.ensures)
-
-pub shape_of-out : goal.shape_of-out
-shape_of-out c = length_kept c.loop-next.invariant.1
-
-pub returns : goal.returns
-returns c = passed c.loop-next.invariant.1 c.loop-next-test.false

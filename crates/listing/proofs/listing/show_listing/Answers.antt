@@ -3,8 +3,5 @@ use Rattle.printing.proofs.PrintedLines.{shown_renamed}
 use Rattle.listing.proofs.ListedStates.{too_long, all_is}
 use Rattle.listing.proofs.listing.show_listing.Goals as goal
 
-pub returns-then-size-gt-STREAM : goal.returns-then-size-gt-STREAM
-returns-then-size-gt-STREAM c = shown_renamed (too_long c.emit_listing-size.ensures c.if-size-gt-STREAM.true) c.show_refused.ensures
-
 pub returns : goal.returns
 returns c = shown_renamed (all_is c.emit_listing-size.ensures c.if-size-gt-STREAM.false refl) c.show.ensures

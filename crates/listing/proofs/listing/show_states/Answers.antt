@@ -7,23 +7,11 @@ use Rattle.listing.proofs.listing.show_states.Goals as goal
 pub bounds-rules-1 : goal.bounds-rules-1
 bounds-rules-1 c = omega (arith, header c.requires.0 c.requires.1 c.requires.2)
 
-pub overflow_cast-atoms : goal.overflow_cast-atoms
-overflow_cast-atoms c = omega (arith, few_atoms c.requires.0 c.requires.1 c.requires.2)
-
 pub returns-then-atoms-gt-ATOMS : goal.returns-then-atoms-gt-ATOMS
 returns-then-atoms-gt-ATOMS c = shown_renamed (many_atoms c.requires.0 c.requires.1 c.requires.2 c.if-atoms-gt-ATOMS.true) c.show_refused.ensures
 
-pub slice_bounds-place_names-end : goal.slice_bounds-place_names-end
-slice_bounds-place_names-end c = sym (front_sized c.requires.0 c.requires.1 c.requires.2 c.if-atoms-gt-ATOMS.false _ refl)
-
 pub place_names-requires : goal.place_names-requires
 place_names-requires c = names_stored c.requires.0 c.requires.1 c.requires.2 c.if-atoms-gt-ATOMS.false _ refl
-
-pub slice_bounds-starts-end-2 : goal.slice_bounds-starts-end-2
-slice_bounds-starts-end-2 c = filled_inside c.requires.0 c.requires.1 c.requires.2 c.if-atoms-gt-ATOMS.false _ refl c.place_names.new.starts c.place_names.auto.starts
-
-pub slice_bounds-show_store-end : goal.slice_bounds-show_store-end
-slice_bounds-show_store-end c = sym (handed_sized c.requires.0 c.requires.1 c.requires.2 c.if-atoms-gt-ATOMS.false _ refl c.place_names.new.starts c.place_names.auto.starts)
 
 pub show_store-requires : goal.show_store-requires
 show_store-requires c = stores_listed c.requires.0 c.requires.1 c.requires.2 c.if-atoms-gt-ATOMS.false _ refl c.place_names.new.starts c.place_names.auto.starts c.place_names.ensures

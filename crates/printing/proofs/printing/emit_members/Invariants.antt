@@ -1,8 +1,8 @@
 use Rattle.output.proofs.Emitting.{Emitting}
-use Rattle.text.specs.Items.{stored_names}
 use Rattle.printing.specs.Parts.{members}
 use lib.ListN.{length}
+use Rattle.text.specs.PlacedNames.{names_in}
 use Rattle.printing.proofs.printing.emit_members.Given as goal
 
 abbrev pub invariant-loop-atom : goal.invariant-loop-atom
-invariant-loop-atom l = Emitting (members (stored_names l.names l.starts) l.set 0 (length l.starts)) l.initial.out l.at (members (stored_names l.names l.starts) l.set l.atom (length l.starts)) l.out l.next
+invariant-loop-atom l = Emitting (members (names_in l.names) l.set 0 (length l.names.starts.now)) l.initial.out l.at (members (names_in l.names) l.set l.atom (length l.names.starts.now)) l.out l.next

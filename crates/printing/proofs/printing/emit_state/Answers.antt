@@ -6,13 +6,13 @@ use Rattle.name_store.proofs.NamePlaces.{length_decode}
 use Rattle.printing.proofs.printing.emit_state.Goals as goal
 
 pub emit-opened-requires : goal.emit-opened-requires
-emit-opened-requires c = range_begin c.requires.2 (state_opens _ _ _ (length_decode _ _))
+emit-opened-requires c = range_begin c.requires.1 (state_opens _ _ _ (length_decode _ _))
 
 pub emit_members-listed-requires : goal.emit_members-listed-requires
-emit_members-listed-requires c = (c.requires.0, c.requires.1, range_here (turn (start c.requires.2) (state_opens _ _ _ (length_decode _ _)) c.emit-opened.ensures) (in_front_lem _ _))
+emit_members-listed-requires c = (c.requires.0, range_here (turn (start c.requires.1) (state_opens _ _ _ (length_decode _ _)) c.emit-opened.ensures) (in_front_lem _ _))
 
 pub emit-requires : goal.emit-requires
-emit-requires c = range_here (turn (turn (start c.requires.2) (state_opens _ _ _ (length_decode _ _)) c.emit-opened.ensures) (in_front_lem _ _) c.emit_members-listed.ensures) (last_run _)
+emit-requires c = range_here (turn (turn (start c.requires.1) (state_opens _ _ _ (length_decode _ _)) c.emit-opened.ensures) (in_front_lem _ _) c.emit_members-listed.ensures) (last_run _)
 
 pub returns : goal.returns
-returns c = finish (turn (turn (turn (start c.requires.2) (state_opens _ _ _ (length_decode _ _)) c.emit-opened.ensures) (in_front_lem _ _) c.emit_members-listed.ensures) (last_run _) c.emit.ensures) refl
+returns c = finish (turn (turn (turn (start c.requires.1) (state_opens _ _ _ (length_decode _ _)) c.emit-opened.ensures) (in_front_lem _ _) c.emit_members-listed.ensures) (last_run _) c.emit.ensures) refl

@@ -4,13 +4,13 @@ use mathlib.Core.Path.{refl}
 use Rattle.text.proofs.atoms.emit_line.Goals as goal
 
 pub emit-opened-requires : goal.emit-opened-requires
-emit-opened-requires c = range_begin c.requires.2 (line_opens _ _ _)
+emit-opened-requires c = range_begin c.requires.1 (line_opens _ _ _)
 
 pub emit_run-listed-requires : goal.emit_run-listed-requires
-emit_run-listed-requires c = (c.requires.0, c.requires.1, range_here (turn (start c.requires.2) (line_opens _ _ _) c.emit-opened.ensures) (line_lists _ _))
+emit_run-listed-requires c = (c.requires.0, range_here (turn (start c.requires.1) (line_opens _ _ _) c.emit-opened.ensures) (line_lists _ _))
 
 pub emit-requires : goal.emit-requires
-emit-requires c = range_here (turn (turn (start c.requires.2) (line_opens _ _ _) c.emit-opened.ensures) (line_lists _ _) c.emit_run-listed.ensures) (last_run _)
+emit-requires c = range_here (turn (turn (start c.requires.1) (line_opens _ _ _) c.emit-opened.ensures) (line_lists _ _) c.emit_run-listed.ensures) (last_run _)
 
 pub returns : goal.returns
-returns c = finish (turn (turn (turn (start c.requires.2) (line_opens _ _ _) c.emit-opened.ensures) (line_lists _ _) c.emit_run-listed.ensures) (last_run _) c.emit.ensures) refl
+returns c = finish (turn (turn (turn (start c.requires.1) (line_opens _ _ _) c.emit-opened.ensures) (line_lists _ _) c.emit_run-listed.ensures) (last_run _) c.emit.ensures) refl

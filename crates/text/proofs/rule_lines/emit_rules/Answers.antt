@@ -1,12 +1,11 @@
 use Rattle.text.proofs.RuleLoop.{rules_begin, rules_end, rule_stored, place_inside, rule_range, rules_again}
-use Rattle.output.proofs.Emitting.{length_kept}
 use Rattle.text.specs.Items.{rule_item, rule_items}
 use native.Mathlib.Omega.{arith}
 use Rattle.text.proofs.rule_lines.emit_rules.Goals as goal
 
 pub loop-init : goal.loop-init
 unfolding rule_item rule_items
-loop-init c = rules_begin c.requires.1 c.requires.2
+loop-init c = rules_begin c.requires.0 c.requires.1
 
 pub offset_bounds-words-from : goal.offset_bounds-words-from
 offset_bounds-words-from c = omega (arith, place_inside c.loop.invariant c.loop-test.true)
@@ -30,16 +29,13 @@ pub slice_bounds-emit_rule-start : goal.slice_bounds-emit_rule-start
 slice_bounds-emit_rule-start c = omega (arith, place_inside c.loop.invariant c.loop-test.true)
 
 pub emit_rule-next-requires : goal.emit_rule-next-requires
-emit_rule-next-requires c = (c.requires.0, rule_stored c.loop.invariant c.loop-test.true, rule_range c.loop.invariant c.loop-test.true)
+emit_rule-next-requires c = (rule_stored c.loop.invariant c.loop-test.true, rule_range c.loop.invariant c.loop-test.true)
 
 pub overflow_add-from : goal.overflow_add-from
 overflow_add-from c = omega (arith, place_inside c.loop.invariant c.loop-test.true, c.rule_size-size.ensures)
 
 pub loop-preserved : goal.loop-preserved
 loop-preserved c = rules_again c.loop.invariant c.loop-test.true c.rule_size-size.ensures c.emit_rule-next.ensures
-
-pub shape_of-out : goal.shape_of-out
-shape_of-out c = length_kept c.loop.invariant.so
 
 pub returns : goal.returns
 unfolding rule_item rule_items

@@ -8,29 +8,17 @@ use Rattle.text.proofs.text.emit_preference.Goals as goal
 pub bounds-rules-1 : goal.bounds-rules-1
 bounds-rules-1 c = omega (arith, header c.requires.0)
 
-pub overflow_cast-end : goal.overflow_cast-end
-overflow_cast-end c = omega (arith, words_inside c.requires.0 c.requires.1)
-
-pub overflow_add-end : goal.overflow_add-end
-overflow_add-end c = omega (arith, words_inside c.requires.0 c.requires.1)
-
 pub bounds-rules-2 : goal.bounds-rules-2
 bounds-rules-2 c = omega (arith, header c.requires.0)
 
 pub bounds-rules-3 : goal.bounds-rules-3
 bounds-rules-3 c = omega (arith, header c.requires.0)
 
-pub overflow_cast-count : goal.overflow_cast-count
-overflow_cast-count c = omega (arith, c.type_inv.rules 3)
-
 pub slice_bounds-emit_classes-end : goal.slice_bounds-emit_classes-end
 slice_bounds-emit_classes-end c = omega (arith, words_inside c.requires.0 c.requires.1)
 
 pub emit_classes-declared-requires : goal.emit_classes-declared-requires
-emit_classes-declared-requires c = (c.requires.0.placed, class_words_lem c.requires.0 c.requires.1, range_begin c.requires.0.range (classes_ahead c.requires.0 c.requires.1))
-
-pub offset_bounds-rules-end : goal.offset_bounds-rules-end
-offset_bounds-rules-end c = omega (arith, words_inside c.requires.0 c.requires.1)
+emit_classes-declared-requires c = (class_words_lem c.requires.0 c.requires.1, range_begin c.requires.0.range (classes_ahead c.requires.0 c.requires.1))
 
 pub slice_bounds-emit_rules-count : goal.slice_bounds-emit_rules-count
 slice_bounds-emit_rules-count c = omega (arith, words_inside c.requires.0 c.requires.1)
@@ -39,7 +27,7 @@ pub slice_bounds-emit_rules-start : goal.slice_bounds-emit_rules-start
 slice_bounds-emit_rules-start c = omega (arith, words_inside c.requires.0 c.requires.1)
 
 pub emit_rules-requires : goal.emit_rules-requires
-emit_rules-requires c = (c.requires.0.placed, preference_rules c.requires.0 c.requires.1, range_here (turn (start c.requires.0.range) (classes_ahead c.requires.0 c.requires.1) c.emit_classes-declared.ensures) (last_run _))
+emit_rules-requires c = (preference_rules c.requires.0 c.requires.1, range_here (turn (start c.requires.0.range) (classes_ahead c.requires.0 c.requires.1) c.emit_classes-declared.ensures) (last_run _))
 
 pub returns : goal.returns
 returns c = finish (turn (turn (start c.requires.0.range) (classes_ahead c.requires.0 c.requires.1) c.emit_classes-declared.ensures) (last_run _) c.emit_rules.ensures) refl
