@@ -33,12 +33,7 @@ pub struct Parse {
 }
 
 // The name at `at`, whose number is found through the index.
-fn name_at(
-    s: &[u8],
-    at: usize,
-    next: usize,
-    names: &NameIndex,
-) -> Option<Part>
+fn name_at(s: &[u8], at: usize, next: usize, names: &NameIndex) -> Option<Part>
     requires at_in_bounds { (at ≤ length s.now) × (undeclared (names_of names.now) (names_in (tokens (drop at s.now))) ≡ false) }
     requires s_value { (is_opening (tokens (drop at s.now)) ≡ false) × (is_leading not_word (tokens (drop at s.now)) ≡ false) }
     ensures { (made : ℕ) (table : List TableRow) → PartIs single (names_of names.now) s.now at made next table table result }
@@ -68,14 +63,7 @@ pub fn or_level(
 {
     let mut part = and_level(s, at, made, next, names, table)?;
     while let Some(to) = word_at(s, part.place, b"or") {
-        let right = and_level(
-            s,
-            to,
-            made,
-            part.next + 1,
-            names,
-            table,
-        )?;
+        let right = and_level(s, to, made, part.next + 1, names, table)?;
         put_row(table, part.next, Connective::Or, part.atom, right.atom);
         part = Part {
             atom: names.starts.len() + made + part.next,
@@ -100,14 +88,7 @@ pub fn and_level(
 {
     let mut part = not_level(s, at, made, next, names, table)?;
     while let Some(to) = word_at(s, part.place, b"and") {
-        let right = not_level(
-            s,
-            to,
-            made,
-            part.next + 1,
-            names,
-            table,
-        )?;
+        let right = not_level(s, to, made, part.next + 1, names, table)?;
         put_row(table, part.next, Connective::And, part.atom, right.atom);
         part = Part {
             atom: names.starts.len() + made + part.next,

@@ -49,11 +49,7 @@ pub struct Scan {
 }
 
 // A word with its hash.
-fn word_symbol(
-    word: &[u8],
-    hash: usize,
-    names: &NameIndex,
-) -> Symbol
+fn word_symbol(word: &[u8], hash: usize, names: &NameIndex) -> Symbol
     requires { hash ≡ name_hash word.now }
     ensures { result ≡ word_symbol (names_of names.now) word.now }
 {
@@ -67,11 +63,7 @@ fn word_symbol(
     }
 }
 
-fn step_at(
-    s: &[u8],
-    at: usize,
-    names: &NameIndex,
-) -> Option<Step>
+fn step_at(s: &[u8], at: usize, names: &NameIndex) -> Option<Step>
     requires { at ≤ length s.now }
     ensures { StepIs (names_of names.now) s.now at result }
 {
@@ -139,10 +131,7 @@ fn after(seen: Seen, symbol: Symbol) -> Seen
     }
 }
 
-pub fn scan_condition(
-    s: &[u8],
-    names: &NameIndex,
-) -> Option<Scan>
+pub fn scan_condition(s: &[u8], names: &NameIndex) -> Option<Scan>
     requires { pairs 0 (tokens s.now) ≡ true }
     ensures { ScanIs (names_of names.now) (tokens s.now) result }
 {

@@ -30,11 +30,7 @@ fn last_named(made: usize, count: usize) -> usize
 }
 
 // Whether one of the next `count` names is declared, where `made` atoms have theirs.
-pub fn any_declared(
-    made: usize,
-    count: usize,
-    names: &NameIndex,
-) -> bool
+pub fn any_declared(made: usize, count: usize, names: &NameIndex) -> bool
     requires all { All (λ x. T (allowed Kind.Preference x)) (names_of names.now) }
     requires made_bound { (made ≤ atom_limit Kind.Preference) × (count < 2 ^ 32) }
     ensures { result ≡ some (λ t. among (names_of names.now) (made_name t)) (from (suc made) count) }
