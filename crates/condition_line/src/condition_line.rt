@@ -15,7 +15,6 @@ use condition_rules::{RulesPut, put_condition};
 use condition_scan::scan::scan_condition;
 use conditions::table::{Connective, TableRow};
 use gathering::gathered::Gathered;
-use gathering::scratch::Scratch;
 use kinds::limits::{Counts, Kind, Preference};
 use kinds::refusals::Refusal;
 use lines::scan;
@@ -66,21 +65,24 @@ fn add_condition(
     name: &[u8],
     connectives: usize,
     gathered: Gathered,
-    scratch: &mut Scratch,
+    words: &mut [u16],
+    bytes: &[u8],
+    starts: &[u16],
+    firsts: &[u16],
+    links: &[u16],
 ) -> Result<Gathered, Refusal>
-    requires tested { Tested (state_of Kind.Preference gathered scratch.old.words scratch.old.bytes) (tokens spoken.now) name.now connectives }
-    requires held { Held Kind.Preference (state_of Kind.Preference gathered scratch.old.words scratch.old.bytes) gathered scratch.old.words scratch.old.bytes }
-    requires held_index { HeldIndex gathered scratch.old.bytes scratch.old.starts scratch.old.firsts scratch.old.links }
-    ensures line_is { LineIs Kind.Preference (state_of Kind.Preference gathered scratch.old.words scratch.old.bytes) (condition (tokens spoken.now) name.now) scratch.new.words scratch.new.bytes scratch.new.starts scratch.new.firsts scratch.new.links result }
-    ensures rest_kept { scratch.new ≡ record scratch.old { words = scratch.new.words } }
+    requires tested { Tested (state_of Kind.Preference gathered words.old bytes.now) (tokens spoken.now) name.now connectives }
+    requires held { Held Kind.Preference (state_of Kind.Preference gathered words.old bytes.now) gathered words.old bytes.now }
+    requires held_index { HeldIndex gathered bytes.now starts.now firsts.now links.now }
+    ensures { LineIs Kind.Preference (state_of Kind.Preference gathered words.old bytes.now) (condition (tokens spoken.now) name.now) words.new bytes.now starts.now firsts.now links.now result }
 {
     let atoms = gathered.counts.atoms;
     let made = gathered.made;
     let names = NameIndex {
-        bytes: &scratch.bytes,
-        starts: &scratch.starts[..atoms],
-        firsts: &scratch.firsts,
-        links: &scratch.links,
+        bytes,
+        starts: &starts[..atoms],
+        firsts,
+        links,
     };
     let then = names.find(name).ok_or(Refusal::Undeclared)?;
     if Preference::ATOMS < atoms + made + connectives {
@@ -92,13 +94,19 @@ fn add_condition(
         right: 0,
     };
     let mut table = [unfilled; Preference::ATOMS];
-    let parse = parse_condition(spoken, made, &names, &mut table).ok_or(Refusal::BrokenCondition)?;
+    let parse = parse_condition(
+        spoken,
+        made,
+        &names,
+        &mut table,
+    )
+    .ok_or(Refusal::BrokenCondition)?;
     let put = put_condition(
         &table[..connectives],
         atoms + made,
         parse.atom,
         then,
-        &mut scratch.words,
+        words,
         gathered.words,
     );
     keep_condition(gathered, connectives, put)
@@ -110,21 +118,24 @@ fn test_condition(
     name: &[u8],
     refused: bool,
     gathered: Gathered,
-    scratch: &mut Scratch,
+    words: &mut [u16],
+    bytes: &[u8],
+    starts: &[u16],
+    firsts: &[u16],
+    links: &[u16],
 ) -> Result<Gathered, Refusal>
     requires spoken_len_bound { (length spoken.now ≤ text_limit) × (is_ruling gathered.stage ≡ true) × (pairs 0 (tokens spoken.now) ≡ true) × (refused ≡ some (refused_name Kind.Preference) (names_in (tokens spoken.now) ++ (name.now ∷ []))) }
-    requires held { Held Kind.Preference (state_of Kind.Preference gathered scratch.old.words scratch.old.bytes) gathered scratch.old.words scratch.old.bytes }
-    requires held_index { HeldIndex gathered scratch.old.bytes scratch.old.starts scratch.old.firsts scratch.old.links }
-    ensures line_is { LineIs Kind.Preference (state_of Kind.Preference gathered scratch.old.words scratch.old.bytes) (condition (tokens spoken.now) name.now) scratch.new.words scratch.new.bytes scratch.new.starts scratch.new.firsts scratch.new.links result }
-    ensures rest_kept { scratch.new ≡ record scratch.old { words = scratch.new.words } }
+    requires held { Held Kind.Preference (state_of Kind.Preference gathered words.old bytes.now) gathered words.old bytes.now }
+    requires held_index { HeldIndex gathered bytes.now starts.now firsts.now links.now }
+    ensures { LineIs Kind.Preference (state_of Kind.Preference gathered words.old bytes.now) (condition (tokens spoken.now) name.now) words.new bytes.now starts.now firsts.now links.now result }
 {
     let atoms = gathered.counts.atoms;
     let made = gathered.made;
     let names = NameIndex {
-        bytes: &scratch.bytes,
-        starts: &scratch.starts[..atoms],
-        firsts: &scratch.firsts,
-        links: &scratch.links,
+        bytes,
+        starts: &starts[..atoms],
+        firsts,
+        links,
     };
     let scanned = scan_condition(spoken, &names).ok_or(Refusal::BrokenCondition)?;
     let connectives = scanned.connectives;
@@ -140,20 +151,33 @@ fn test_condition(
     if scanned.undeclared {
         return Err(Refusal::Undeclared);
     }
-    add_condition(spoken, name, connectives, gathered, scratch)
+    add_condition(
+        spoken,
+        name,
+        connectives,
+        gathered,
+        words,
+        bytes,
+        starts,
+        firsts,
+        links,
+    )
 }
 
 // A line that opens as a condition.
 pub fn read_condition(
     line: &[u8],
     gathered: Gathered,
-    scratch: &mut Scratch,
+    words: &mut [u16],
+    bytes: &[u8],
+    starts: &[u16],
+    firsts: &[u16],
+    links: &[u16],
 ) -> Result<Gathered, Refusal>
     requires line_len_bound { (length line.now ≤ text_limit) × (is_ruling gathered.stage ≡ true) × (opens_condition Kind.Preference line.now ≡ true) }
-    requires held { Held Kind.Preference (state_of Kind.Preference gathered scratch.old.words scratch.old.bytes) gathered scratch.old.words scratch.old.bytes }
-    requires held_index { HeldIndex gathered scratch.old.bytes scratch.old.starts scratch.old.firsts scratch.old.links }
-    ensures line_is { LineIs Kind.Preference (state_of Kind.Preference gathered scratch.old.words scratch.old.bytes) (form_of line.now) scratch.new.words scratch.new.bytes scratch.new.starts scratch.new.firsts scratch.new.links result }
-    ensures rest_kept { scratch.new ≡ record scratch.old { words = scratch.new.words } }
+    requires held { Held Kind.Preference (state_of Kind.Preference gathered words.old bytes.now) gathered words.old bytes.now }
+    requires held_index { HeldIndex gathered bytes.now starts.now firsts.now links.now }
+    ensures { LineIs Kind.Preference (state_of Kind.Preference gathered words.old bytes.now) (form_of line.now) words.new bytes.now starts.now firsts.now links.now result }
 {
     let places = condition_at(line, Kind::Preference).ok_or(Refusal::BrokenForm)?;
     test_condition(
@@ -161,6 +185,10 @@ pub fn read_condition(
         &line[places.start..places.end],
         places.refused,
         gathered,
-        scratch,
+        words,
+        bytes,
+        starts,
+        firsts,
+        links,
     )
 }

@@ -12,7 +12,6 @@ ghost use Rattle.numbering.specs.Entries.{Room, Short};
 ghost use Rattle.gathering.specs.Gathered.{state_of, Held, HeldIndex, LineIs, past_refusal};
 
 use gathering::gathered::Gathered;
-use gathering::scratch::Scratch;
 use kept_atoms::kept_atoms::keep_names;
 use kinds::limits::Kind;
 use kinds::refusals::Refusal;
@@ -72,14 +71,17 @@ fn declare_atoms(
     kind: Kind,
     gathered: Gathered,
     shape: DeclaredShape,
-    scratch: &mut Scratch,
+    words: &mut [u16],
+    bytes: &mut [u8],
+    starts: &mut [u16],
+    firsts: &mut [u16],
+    links: &mut [u16],
 ) -> Result<Gathered, Refusal>
     requires declared { Declared kind line.now (form_of line.now) shape }
     requires line_len_bound { length line.now ≤ text_limit }
-    requires held { Held kind (state_of kind gathered scratch.old.words scratch.old.bytes) gathered scratch.old.words scratch.old.bytes }
-    requires held_index { HeldIndex gathered scratch.old.bytes scratch.old.starts scratch.old.firsts scratch.old.links }
-    ensures line_is { LineIs kind (state_of kind gathered scratch.old.words scratch.old.bytes) (form_of line.now) scratch.new.words scratch.new.bytes scratch.new.starts scratch.new.firsts scratch.new.links result }
-    ensures marks_kept { scratch.new.marks ≡ scratch.old.marks }
+    requires held { Held kind (state_of kind gathered words.old bytes.old) gathered words.old bytes.old }
+    requires held_index { HeldIndex gathered bytes.old starts.old firsts.old links.old }
+    ensures { LineIs kind (state_of kind gathered words.old bytes.old) (form_of line.now) words.new bytes.new starts.new firsts.new links.new result }
 {
     let word = shape.word;
     if !is_expected(kind, gathered.stage, word) {
@@ -92,10 +94,10 @@ fn declare_atoms(
     match entries::enter_names(
         line,
         shape.from,
-        &mut scratch.bytes,
-        &mut scratch.starts,
-        &mut scratch.firsts,
-        &mut scratch.links,
+        bytes,
+        starts,
+        firsts,
+        links,
         before,
         gathered.bytes,
     ) {
@@ -106,17 +108,10 @@ fn declare_atoms(
             shape.count,
             entered.atoms,
             entered.bytes,
-            &mut scratch.words,
+            words,
         ),
         Err(unentered) => Err(match unentered {
-            Unentered::Full { at } => past_limit(
-                line,
-                at,
-                &mut scratch.bytes,
-                &mut scratch.starts,
-                &mut scratch.firsts,
-                &mut scratch.links,
-            ),
+            Unentered::Full { at } => past_limit(line, at, bytes, starts, firsts, links),
             Unentered::Twice => Refusal::DeclaredTwice,
         }),
     }
@@ -127,17 +122,22 @@ pub fn read_declared(
     line: &[u8],
     kind: Kind,
     gathered: Gathered,
-    scratch: &mut Scratch,
+    words: &mut [u16],
+    bytes: &mut [u8],
+    starts: &mut [u16],
+    firsts: &mut [u16],
+    links: &mut [u16],
 ) -> Result<Gathered, Refusal>
     requires line_len_bound { (length line.now ≤ text_limit) × (is_ruling gathered.stage ≡ false) }
-    requires held { Held kind (state_of kind gathered scratch.old.words scratch.old.bytes) gathered scratch.old.words scratch.old.bytes }
-    requires held_index { HeldIndex gathered scratch.old.bytes scratch.old.starts scratch.old.firsts scratch.old.links }
-    ensures line_is { LineIs kind (state_of kind gathered scratch.old.words scratch.old.bytes) (form_of line.now) scratch.new.words scratch.new.bytes scratch.new.starts scratch.new.firsts scratch.new.links result }
-    ensures marks_kept { scratch.new.marks ≡ scratch.old.marks }
+    requires held { Held kind (state_of kind gathered words.old bytes.old) gathered words.old bytes.old }
+    requires held_index { HeldIndex gathered bytes.old starts.old firsts.old links.old }
+    ensures { LineIs kind (state_of kind gathered words.old bytes.old) (form_of line.now) words.new bytes.new starts.new firsts.new links.new result }
 {
     match forms::shape_of(line, kind) {
         Shape::Blank => Ok(gathered),
-        Shape::Declares(shape) => declare_atoms(line, kind, gathered, shape, scratch),
+        Shape::Declares(shape) => declare_atoms(
+            line, kind, gathered, shape, words, bytes, starts, firsts, links,
+        ),
         Shape::Rule { .. } | Shape::Other => Err(Refusal::BrokenForm),
     }
 }

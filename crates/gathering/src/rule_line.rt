@@ -10,7 +10,6 @@ ghost use Rattle.lines.specs.Faults.{is_ruling};
 ghost use Rattle.gathering.specs.Gathered.{state_of, Held, HeldIndex, HeldMarks, LineIs, MarksAre, filled_count, Kept, opens_condition, refusal_of, blank_line};
 
 use crate::gathered::Gathered;
-use crate::scratch::Scratch;
 use kinds::limits::{Counts, Kind};
 use kinds::refusals::Refusal;
 use lines::forms::Shape;
@@ -101,39 +100,36 @@ fn add_rule(
     line: &[u8],
     kind: Kind,
     gathered: Gathered,
-    scratch: &mut Scratch,
+    words: &mut [u16],
+    bytes: &[u8],
+    starts: &[u16],
+    firsts: &[u16],
+    links: &[u16],
+    marks: &mut [u16],
 ) -> Result<Gathered, Refusal>
     requires line_len_bound { (length line.now ≤ text_limit) × (is_ruling gathered.stage ≡ true) × (opens_condition kind line.now ≡ false) × (is_empty (tokens line.now) ≡ false) }
-    requires held { Held kind (state_of kind gathered scratch.old.words scratch.old.bytes) gathered scratch.old.words scratch.old.bytes }
-    requires held_index { HeldIndex gathered scratch.old.bytes scratch.old.starts scratch.old.firsts scratch.old.links }
-    requires held_marks { HeldMarks gathered scratch.old.marks }
-    ensures line_is { LineIs kind (state_of kind gathered scratch.old.words scratch.old.bytes) (form_of line.now) scratch.new.words scratch.new.bytes scratch.new.starts scratch.new.firsts scratch.new.links result }
-    ensures marks_are { MarksAre scratch.new.marks result }
-    ensures rest_kept { scratch.new ≡ record scratch.old { words = scratch.new.words; marks = scratch.new.marks } }
+    requires held { Held kind (state_of kind gathered words.old bytes.now) gathered words.old bytes.now }
+    requires held_index { HeldIndex gathered bytes.now starts.now firsts.now links.now }
+    requires held_marks { HeldMarks gathered marks.old }
+    ensures line_is { LineIs kind (state_of kind gathered words.old bytes.now) (form_of line.now) words.new bytes.now starts.now firsts.now links.now result }
+    ensures marks_are { MarksAre marks.new result }
 {
     let Counts { atoms, rules, .. } = gathered.counts;
     let at = gathered.words + 3;
     let stamp = (3 * rules + 1) as u16;
     let names = NameIndex {
-        bytes: &scratch.bytes,
-        starts: &scratch.starts[..atoms],
-        firsts: &scratch.firsts,
-        links: &scratch.links,
+        bytes,
+        starts: &starts[..atoms],
+        firsts,
+        links,
     };
-    let Some(rule) = numbers::rule_numbers(
-        line,
-        &names,
-        &mut scratch.marks,
-        stamp,
-        &mut scratch.words,
-        at,
-    ) else {
+    let Some(rule) = numbers::rule_numbers(line, &names, marks, stamp, words, at) else {
         return Err(rule_refusal(line, kind));
     };
     if rule.twice {
         return Err(Refusal::TwiceInList);
     }
-    keep_rule(kind, gathered, rule, &mut scratch.words)
+    keep_rule(kind, gathered, rule, words)
 }
 
 // A blank line changes nothing.
@@ -151,18 +147,24 @@ pub fn read_rule(
     line: &[u8],
     kind: Kind,
     gathered: Gathered,
-    scratch: &mut Scratch,
+    words: &mut [u16],
+    bytes: &[u8],
+    starts: &[u16],
+    firsts: &[u16],
+    links: &[u16],
+    marks: &mut [u16],
 ) -> Result<Gathered, Refusal>
     requires line_len_bound { (length line.now ≤ text_limit) × (is_ruling gathered.stage ≡ true) × (opens_condition kind line.now ≡ false) }
-    requires held { Held kind (state_of kind gathered scratch.old.words scratch.old.bytes) gathered scratch.old.words scratch.old.bytes }
-    requires held_index { HeldIndex gathered scratch.old.bytes scratch.old.starts scratch.old.firsts scratch.old.links }
-    requires held_marks { HeldMarks gathered scratch.old.marks }
-    ensures line_is { LineIs kind (state_of kind gathered scratch.old.words scratch.old.bytes) (form_of line.now) scratch.new.words scratch.new.bytes scratch.new.starts scratch.new.firsts scratch.new.links result }
-    ensures marks_are { MarksAre scratch.new.marks result }
-    ensures rest_kept { scratch.new ≡ record scratch.old { words = scratch.new.words; marks = scratch.new.marks } }
+    requires held { Held kind (state_of kind gathered words.old bytes.now) gathered words.old bytes.now }
+    requires held_index { HeldIndex gathered bytes.now starts.now firsts.now links.now }
+    requires held_marks { HeldMarks gathered marks.old }
+    ensures line_is { LineIs kind (state_of kind gathered words.old bytes.now) (form_of line.now) words.new bytes.now starts.now firsts.now links.now result }
+    ensures marks_are { MarksAre marks.new result }
 {
     if scan::nothing_at(line, 0) {
         return pass_blank(line, gathered);
     }
-    add_rule(line, kind, gathered, scratch)
+    add_rule(
+        line, kind, gathered, words, bytes, starts, firsts, links, marks,
+    )
 }

@@ -12,7 +12,6 @@ ghost use Rattle.answers.specs.Reading.{read_answer, read_rules, read_names};
 
 use answers::{Read, ReadRefusal};
 use gathering::gathered::Gathered;
-use gathering::scratch::Scratch;
 use kinds::limits::{Kind, Plain};
 use kinds::refusals::Refusal;
 use name_store::index::BUCKETS;
@@ -73,21 +72,21 @@ pub fn read(text: &[u8], rules: &mut [u16], names: &mut [u8]) -> Read
         });
     }
     let kind = reading::kind_of(text);
-    let mut scratch = Scratch {
-        words: [0u16; Plain::WORDS],
-        bytes: [0u8; Plain::BYTES],
-        starts: [0u16; Plain::ATOMS],
-        firsts: [0u16; BUCKETS],
-        links: [0u16; Plain::ATOMS],
-        marks: [0u16; Plain::ATOMS],
-    };
-    let gathered = reading::read_lines(text, kind, &mut scratch)?;
-    deliver(
+    let mut words = [0u16; Plain::WORDS];
+    let mut bytes = [0u8; Plain::BYTES];
+    let mut starts = [0u16; Plain::ATOMS];
+    let mut firsts = [0u16; BUCKETS];
+    let mut links = [0u16; Plain::ATOMS];
+    let mut marks = [0u16; Plain::ATOMS];
+    let gathered = reading::read_lines(
+        text,
         kind,
-        gathered,
-        &mut scratch.words,
-        &scratch.bytes,
-        rules,
-        names,
-    )
+        &mut words,
+        &mut bytes,
+        &mut starts,
+        &mut firsts,
+        &mut links,
+        &mut marks,
+    )?;
+    deliver(kind, gathered, &mut words, &bytes, rules, names)
 }

@@ -14,7 +14,6 @@ use condition_line::condition_line::{opens_condition, read_condition};
 use declaring::declared_line;
 use gathering::gathered::Gathered;
 use gathering::rule_line;
-use gathering::scratch::Scratch;
 use kinds::limits::{Counts, Kind};
 use kinds::refusals::Refusal;
 use lines::scan;
@@ -66,20 +65,26 @@ fn read_statement(
     line: &[u8],
     kind: Kind,
     gathered: Gathered,
-    scratch: &mut Scratch,
+    words: &mut [u16],
+    bytes: &[u8],
+    starts: &[u16],
+    firsts: &[u16],
+    links: &[u16],
+    marks: &mut [u16],
 ) -> Result<Gathered, Refusal>
     requires line_len_bound { (length line.now ≤ text_limit) × (is_ruling gathered.stage ≡ true) }
-    requires held { Held kind (state_of kind gathered scratch.old.words scratch.old.bytes) gathered scratch.old.words scratch.old.bytes }
-    requires held_index { HeldIndex gathered scratch.old.bytes scratch.old.starts scratch.old.firsts scratch.old.links }
-    requires held_marks { HeldMarks gathered scratch.old.marks }
-    ensures line_is { LineIs kind (state_of kind gathered scratch.old.words scratch.old.bytes) (form_of line.now) scratch.new.words scratch.new.bytes scratch.new.starts scratch.new.firsts scratch.new.links result }
-    ensures marks_are { MarksAre scratch.new.marks result }
-    ensures rest_kept { scratch.new ≡ record scratch.old { words = scratch.new.words; marks = scratch.new.marks } }
+    requires held { Held kind (state_of kind gathered words.old bytes.now) gathered words.old bytes.now }
+    requires held_index { HeldIndex gathered bytes.now starts.now firsts.now links.now }
+    requires held_marks { HeldMarks gathered marks.old }
+    ensures line_is { LineIs kind (state_of kind gathered words.old bytes.now) (form_of line.now) words.new bytes.now starts.now firsts.now links.now result }
+    ensures marks_are { MarksAre marks.new result }
 {
     if opens_condition(line, kind) {
-        return read_condition(line, gathered, scratch);
+        return read_condition(line, gathered, words, bytes, starts, firsts, links);
     }
-    rule_line::read_rule(line, kind, gathered, scratch)
+    rule_line::read_rule(
+        line, kind, gathered, words, bytes, starts, firsts, links, marks,
+    )
 }
 
 // One line against what the lines before have given.
@@ -87,19 +92,26 @@ fn read_line(
     line: &[u8],
     kind: Kind,
     gathered: Gathered,
-    scratch: &mut Scratch,
+    words: &mut [u16],
+    bytes: &mut [u8],
+    starts: &mut [u16],
+    firsts: &mut [u16],
+    links: &mut [u16],
+    marks: &mut [u16],
 ) -> Result<Gathered, Refusal>
     requires line_len_bound { length line.now ≤ text_limit }
-    requires held { Held kind (state_of kind gathered scratch.old.words scratch.old.bytes) gathered scratch.old.words scratch.old.bytes }
-    requires held_index { HeldIndex gathered scratch.old.bytes scratch.old.starts scratch.old.firsts scratch.old.links }
-    requires held_marks { HeldMarks gathered scratch.old.marks }
-    ensures line_is { LineIs kind (state_of kind gathered scratch.old.words scratch.old.bytes) (form_of line.now) scratch.new.words scratch.new.bytes scratch.new.starts scratch.new.firsts scratch.new.links result }
-    ensures marks_are { MarksAre scratch.new.marks result }
+    requires held { Held kind (state_of kind gathered words.old bytes.old) gathered words.old bytes.old }
+    requires held_index { HeldIndex gathered bytes.old starts.old firsts.old links.old }
+    requires held_marks { HeldMarks gathered marks.old }
+    ensures line_is { LineIs kind (state_of kind gathered words.old bytes.old) (form_of line.now) words.new bytes.new starts.new firsts.new links.new result }
+    ensures marks_are { MarksAre marks.new result }
 {
     if rule_line::is_ruling(gathered.stage) {
-        return read_statement(line, kind, gathered, scratch);
+        return read_statement(
+            line, kind, gathered, words, bytes, starts, firsts, links, marks,
+        );
     }
-    declared_line::read_declared(line, kind, gathered, scratch)
+    declared_line::read_declared(line, kind, gathered, words, bytes, starts, firsts, links)
 }
 
 // A line's refusal, passed on with the line.
@@ -123,19 +135,38 @@ fn at_end(gathered: Gathered, number: usize) -> Result<Gathered, ReadRefusal>
 }
 
 // What the lines of a text give: the counts beside the filled scratch stores, or the earliest faulty line with its refusal.
-pub fn read_lines(text: &[u8], kind: Kind, scratch: &mut Scratch) -> Result<Gathered, ReadRefusal>
+pub fn read_lines(
+    text: &[u8],
+    kind: Kind,
+    words: &mut [u16],
+    bytes: &mut [u8],
+    starts: &mut [u16],
+    firsts: &mut [u16],
+    links: &mut [u16],
+    marks: &mut [u16],
+) -> Result<Gathered, ReadRefusal>
     requires text_len_bound { length text.now ≤ text_limit }
-    requires held { Held kind (start text.now) start_counts scratch.old.words scratch.old.bytes }
-    requires held_index { HeldIndex start_counts scratch.old.bytes scratch.old.starts scratch.old.firsts scratch.old.links }
-    requires held_marks { HeldMarks start_counts scratch.old.marks }
-    ensures { GatherIs kind (read_lines 1 (start text.now) (lines text.now)) scratch.new.words scratch.new.bytes result }
+    requires held { Held kind (start text.now) start_counts words.old bytes.old }
+    requires held_index { HeldIndex start_counts bytes.old starts.old firsts.old links.old }
+    requires held_marks { HeldMarks start_counts marks.old }
+    ensures { GatherIs kind (read_lines 1 (start text.now) (lines text.now)) words.new bytes.new result }
 {
     let mut gathered = start_counts();
     let mut at: usize = 0;
     let mut number: usize = 1;
     while at < text.len() {
         let to = at + scan::line_at(text, at);
-        let answer = read_line(&text[at..to], kind, gathered, scratch);
+        let answer = read_line(
+            &text[at..to],
+            kind,
+            gathered,
+            words,
+            bytes,
+            starts,
+            firsts,
+            links,
+            marks,
+        );
         gathered = passed_on(answer, number)?;
         number += 1;
         at = to;

@@ -2,8 +2,8 @@ use Rattle.std.proofs.lemmas.Result.{err_from_is_err_and}
 use Rattle.condition_line.proofs.ConditionSteps.{refused_line_lem, broken_line, condition_places, places_fit, line_here}
 use Rattle.condition_line.proofs.condition_line.read_condition.Goals as goal
 
-pub returns-in_err-places-clause-line_is : goal.returns-in_err-places-clause-line_is
-returns-in_err-places-clause-line_is c = refused_line_lem c.in_err-places.ensures.value c.in_err-places.ensures.ok_part (err_from_is_err_and c.from_residual.result c.from_residual.ensures.1) (broken_line c.args.line.now c.condition_at.ensures _ c.in_err-places.ensures.ok_part)
+pub returns-in_err-places : goal.returns-in_err-places
+returns-in_err-places c = refused_line_lem c.in_err-places.ensures.value c.in_err-places.ensures.ok_part (err_from_is_err_and c.from_residual.result c.from_residual.ensures.1) (broken_line c.args.line.now c.condition_at.ensures _ c.in_err-places.ensures.ok_part)
 
 pub slice_bounds-test_condition-count : goal.slice_bounds-test_condition-count
 slice_bounds-test_condition-count c = (places_fit c.args.line.now c.condition_at.ensures c.in_ok-places.ensures.ok_part).0
@@ -31,8 +31,5 @@ test_condition-requires c =
       held_index = c.requires.held_index;
     }
 
-pub returns-clause-line_is : goal.returns-clause-line_is
-returns-clause-line_is c = line_here c.args.line.now c.condition_at.ensures c.in_ok-places.ensures.ok_part c.test_condition.ensures.line_is
-
-pub returns-clause-rest_kept : goal.returns-clause-rest_kept
-returns-clause-rest_kept c = c.test_condition.ensures.rest_kept
+pub returns : goal.returns
+returns c = line_here c.args.line.now c.condition_at.ensures c.in_ok-places.ensures.ok_part c.test_condition.ensures

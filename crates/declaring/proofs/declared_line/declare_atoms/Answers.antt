@@ -7,11 +7,11 @@ use Rattle.std.specs.Prelude.{Err}
 use mathlib.Core.Bool.{not}
 use Rattle.declaring.proofs.declared_line.declare_atoms.Goals as goal
 
-pub returns-then-not-is_expected-clause-line_is : goal.returns-then-not-is_expected-clause-line_is
-returns-then-not-is_expected-clause-line_is c = record { says = not_expected c.requires.held c.requires.held_index c.requires.declared c.is_expected.ensures (ap not c.if-not-is_expected.true) }
+pub returns-then-not-is_expected : goal.returns-then-not-is_expected
+returns-then-not-is_expected c = record { says = not_expected c.requires.held c.requires.held_index c.requires.declared c.is_expected.ensures (ap not c.if-not-is_expected.true) }
 
-pub returns-then-shape-clause-line_is : goal.returns-then-shape-clause-line_is
-returns-then-shape-clause-line_is c = record { says = name_refused c.requires.held c.requires.held_index c.requires.declared c.is_expected.ensures (ap not c.if-not-is_expected.false) c.if-shape.true }
+pub returns-then-shape : goal.returns-then-shape
+returns-then-shape c = record { says = name_refused c.requires.held c.requires.held_index c.requires.declared c.is_expected.ensures (ap not c.if-not-is_expected.false) c.if-shape.true }
 
 pub enter_names-requires : goal.enter_names-requires
 unfolding state_of
@@ -39,26 +39,26 @@ past_limit-requires c =
       indexed = full_index h x p c.is_expected.ensures (ap not c.if-not-is_expected.false) c.if-shape.false s c.enter_names.auto.starts;
     }
 
-pub returns-in-Ok-clause-line_is : goal.returns-in-Ok-clause-line_is
+pub returns-in-Ok : goal.returns-in-Ok
 unfolding state_of
-returns-in-Ok-clause-line_is c =
+returns-in-Ok c =
     let h = c.requires.held in
     let x = c.requires.held_index in
     let p = c.requires.declared in
     declared_line h x p c.is_expected.ensures (ap not c.if-not-is_expected.false) c.if-shape.false (entered_all c.enter_names.ensures c.in-Ok.is) c.enter_names.auto.bytes c.enter_names.auto.starts c.enter_names.auto.links c.keep_names.ensures
 
-pub returns-in-Full-clause-line_is : goal.returns-in-Full-clause-line_is
+pub returns-in-Full : goal.returns-in-Full
 unfolding state_of
-returns-in-Full-clause-line_is c =
+returns-in-Full c =
     let h = c.requires.held in
     let x = c.requires.held_index in
     let p = c.requires.declared in
     let e : c.enter_names.result ≡ Err (Full c.in-Full.at) = c.in-Err.is ∙ ap Err c.in-Full.is in
     record { says = past_room h x p c.is_expected.ensures (ap not c.if-not-is_expected.false) c.if-shape.false (entered_some c.enter_names.ensures e) c.enter_names.auto.starts c.past_limit.ensures }
 
-pub returns-in-Twice-clause-line_is : goal.returns-in-Twice-clause-line_is
+pub returns-in-Twice : goal.returns-in-Twice
 unfolding state_of
-returns-in-Twice-clause-line_is c =
+returns-in-Twice c =
     let h = c.requires.held in
     let x = c.requires.held_index in
     let p = c.requires.declared in

@@ -29,31 +29,37 @@ rule_numbers-requires c =
     let s = held_small h in
     let n = known_starts x in
     let range : c.args.gathered.words + 3 + 3 * length c.args.line.now < 2 ^ 63 = omega (arith, c.requires.line_len_bound.0) in
-    let few : length (take c.args.gathered.counts.atoms c.args.scratch.now.starts) ≤ 65535 = omega arith in
-    let marked : length (take c.args.gathered.counts.atoms c.args.scratch.now.starts) ≤ length c.args.scratch.now.marks = omega (arith, m.room) in
+    let few : length (take c.args.gathered.counts.atoms c.args.starts.now) ≤ 65535 = omega arith in
+    let marked : length (take c.args.gathered.counts.atoms c.args.starts.now) ≤ length c.args.marks.now = omega (arith, m.room) in
     let stamps : 3 * c.args.gathered.counts.rules + 1 + 2 < 65536 = omega arith in
     record {
       starts_len_bound = (few, marked, range, stamps);
       below = m.below;
     }
 
-pub returns-in_default-clause-line_is : goal.returns-in_default-clause-line_is
-returns-in_default-clause-line_is c = record { says = no_rule c.requires.held c.requires.line_len_bound.1 c.args.line.now c.requires.line_len_bound.2 c.requires.line_len_bound.3 (known_names c.requires.held_index c.requires.held) (line_otherwise c.rule_numbers.ensures c.in_default.is) c.rule_refusal.ensures }
+pub returns-in_default : goal.returns-in_default
+returns-in_default c =
+    record {
+      line_is = record { says = no_rule c.requires.held c.requires.line_len_bound.1 c.args.line.now c.requires.line_len_bound.2 c.requires.line_len_bound.3 (known_names c.requires.held_index c.requires.held) (line_otherwise c.rule_numbers.ensures c.in_default.is) c.rule_refusal.ensures };
+      marks_are = record { says = tt };
+    }
 
-pub returns-then-rule-clause-line_is : goal.returns-then-rule-clause-line_is
-returns-then-rule-clause-line_is c = record { says = twice_in_list c.requires.held c.requires.line_len_bound.1 c.args.line.now (known_names c.requires.held_index c.requires.held) (line_numbered c.rule_numbers.ensures c.in-Some.is) c.if-rule.true }
+pub returns-then-rule : goal.returns-then-rule
+returns-then-rule c =
+    record {
+      line_is = record { says = twice_in_list c.requires.held c.requires.line_len_bound.1 c.args.line.now (known_names c.requires.held_index c.requires.held) (line_numbered c.rule_numbers.ensures c.in-Some.is) c.if-rule.true };
+      marks_are = record { says = tt };
+    }
 
 pub keep_rule-requires : goal.keep_rule-requires
 keep_rule-requires c =
     let s = held_small c.requires.held in
     (omega (arith, (line_numbered c.rule_numbers.ensures c.in-Some.is).few, c.requires.line_len_bound.0), omega (arith, s.rules), omega (arith, s.occurrences), omega (arith, s.words))
 
-pub returns-clause-line_is : goal.returns-clause-line_is
-returns-clause-line_is c =
+pub returns : goal.returns
+returns c =
     let w = (line_numbered c.rule_numbers.ensures c.in-Some.is) in
-    rule_line_lem c.requires.held c.requires.line_len_bound.1 c.args.line.now (known_names c.requires.held_index c.requires.held) w c.if-rule.false refl c.keep_rule.ensures c.requires.held_index
-
-pub returns-clause-marks_are : goal.returns-clause-marks_are
-returns-clause-marks_are c =
-    let w = (line_numbered c.rule_numbers.ensures c.in-Some.is) in
-    rule_marks c.requires.held c.requires.line_len_bound.1 c.args.line.now (known_names c.requires.held_index c.requires.held) w c.if-rule.false refl c.keep_rule.ensures c.rule_numbers.auto.marks c.requires.held_marks
+    record {
+      line_is = rule_line_lem c.requires.held c.requires.line_len_bound.1 c.args.line.now (known_names c.requires.held_index c.requires.held) w c.if-rule.false refl c.keep_rule.ensures c.requires.held_index;
+      marks_are = rule_marks c.requires.held c.requires.line_len_bound.1 c.args.line.now (known_names c.requires.held_index c.requires.held) w c.if-rule.false refl c.keep_rule.ensures c.rule_numbers.auto.marks c.requires.held_marks;
+    }

@@ -1,5 +1,4 @@
-use mathlib.Core.Path.{sym, ◌∙◌, subst}
-use Rattle.gathering.specs.Gathered.{HeldMarks}
+use mathlib.Core.Path.{sym, ◌∙◌}
 use Rattle.reader.proofs.LineByLine.{later_marks}
 use Rattle.reader.proofs.reading.read_line.Goals as goal
 
@@ -20,8 +19,9 @@ read_declared-requires c =
       held_index = c.requires.held_index;
     }
 
-pub returns-clause-line_is : goal.returns-clause-line_is
-returns-clause-line_is c = c.read_declared.ensures.line_is
-
-pub returns-clause-marks_are : goal.returns-clause-marks_are
-returns-clause-marks_are c = later_marks c.requires.held c.read_declared.ensures.line_is (subst (HeldMarks c.args.gathered) (sym c.read_declared.ensures.marks_kept) c.requires.held_marks)
+pub returns : goal.returns
+returns c =
+    record {
+      line_is = c.read_declared.ensures;
+      marks_are = later_marks c.requires.held c.read_declared.ensures c.requires.held_marks;
+    }
