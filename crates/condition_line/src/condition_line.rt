@@ -94,13 +94,7 @@ fn add_condition(
         right: 0,
     };
     let mut table = [unfilled; Preference::ATOMS];
-    let parse = parse_condition(
-        spoken,
-        made,
-        &names,
-        &mut table,
-    )
-    .ok_or(Refusal::BrokenCondition)?;
+    let parse = parse_condition(spoken, made, &names, &mut table).ok_or(Refusal::BrokenCondition)?;
     let put = put_condition(
         &table[..connectives],
         atoms + made,
