@@ -1,8 +1,8 @@
 #![tactic(auto)]
 // Runs the two programs' functions on each file of data/: every refusal that a file can meet is seen printed.
 use kinds::limits::Kind;
-use programs::answering::answer;
 use programs::reading::read_full;
+use programs::{states_text, translate_text};
 use std::fs::File;
 use std::io;
 use std::rt::{Files, Runtime};
@@ -16,7 +16,13 @@ fn print(rt: &(impl Files + Print + Eprint), path: &str, listed: bool) -> io::Re
     };
     let mut text = [0u8; Kind::STREAM + 1];
     let size = read_full(&mut file, &mut text)?;
-    answer(rt, listed, &text[..size])
+    let mut out = [0u8; Kind::STREAM];
+    let shown = if listed {
+        states_text(&text[..size], &mut out)
+    } else {
+        translate_text(&text[..size], &mut out)
+    };
+    rt.write_all(&out[..shown])
 }
 
 fn states(rt: &impl Runtime, path: &str) -> io::Result<()> {

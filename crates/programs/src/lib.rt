@@ -1,6 +1,5 @@
 #![tactic(auto)]
 // The two programs over slices: a text in, what is printed out (document 01, "Sheets of known states"). Neither asks anything of its caller.
-pub mod answering;
 pub mod reading;
 pub mod texts;
 
