@@ -71,11 +71,11 @@ fn digits_at(line: &[u8], at: usize) -> Option<Number>
 {
     let mut value: usize = 0;
     for (n, b) in line[at..].iter().enumerate() {
-        if is_separator(*b) {
-            let to = at + n;
-            return Some(Number { value, to });
-        }
         if !is_digit(*b) {
+            if is_separator(*b) {
+                let to = at + n;
+                return Some(Number { value, to });
+            }
             return None;
         }
         value = with_digit(value, *b);

@@ -1,27 +1,20 @@
 -- Lines, runs and gaps by their places.
 use Prim.Native.Nat.{ℕ, zero, suc, ◌+◌, ◌-◌, ◌<◌, ◌≤◌, zero-le}
-use native.Mathlib.Numerals.{add-one, one-add}
+use native.Mathlib.Numerals.{add-one}
 use native.Mathlib.Omega.{arith}
 use mathlib.Core.Path.{◌≡◌, refl, sym, ap, ◌∙◌, subst}
 use mathlib.Core.List.{List, [], ◌∷◌}
-use mathlib.Core.Bool.{Bool, true, false, cond, not, ◌||◌}
+use mathlib.Core.Bool.{Bool, true, false, cond, ◌||◌}
 use lib.Dec.{eqb}
 use lib.ListN.{length, get_or, take, drop, length-drop, drop_of_length-le}
 use lib.Seq.{drop-cons, take_all}
-use borrow.Author.Tests.{ne_eqb}
-use Rattle.std.specs.Prelude.{Option, Some, None, MatchOption, unwrap_or}
-use Rattle.std.specs.List.{position_or_len, AllWithin, HoldsAt}
-use Rattle.std.proofs.lemmas.List.Sums.{position_or_len_is}
-use Rattle.std.proofs.lemmas.List.Recursion.{is_position_or_len}
+use borrow.Author.Tests.{eq-eqb, ne_eqb}
+use Rattle.std.specs.Prelude.{Option, Some, None, MatchOption}
+use Rattle.std.specs.List.{AllWithin, HoldsAt}
 use Rattle.kinds.specs.Words.{space, line_end_lem, comment_mark}
 use Rattle.lines.specs.Lines.{line_length, is_ended}
 use Rattle.lines.specs.Tokens.{is_ending, is_delimiter, run}
 use Rattle.lines.specs.Shapes.{gap}
-
--- the place of the first byte that passes, or the length
-pub first_place : (p : ℕ → Bool) (s : List ℕ) (r : Option ℕ) → MatchOption r (AllWithin (λ b. p b ≡ false) s 0 (length s)) (λ i. (i < length s) × HoldsAt (λ b. p b ≡ true) s i × AllWithin (λ b. p b ≡ false) s 0 i) → unwrap_or r (length s) ≡ position_or_len p s
-first_place p s None h = sym (position_or_len_is p s (length s) 0 (omega arith) (λ k l. h k 0 zero-le l) (λ l. absurd (omega arith)))
-first_place p s (Some i) h = sym (position_or_len_is p s i 0 (omega (arith, h.0)) (λ k l. h.2 k 0 zero-le l) (λ l. h.1 0))
 
 -- what stands from a place on, as the code takes it
 pub rest_is : (s : List ℕ) (at : ℕ) → take (length s - at) (drop at s) ≡ drop at s
@@ -57,10 +50,6 @@ module _ (s : List ℕ) (i : ℕ) where
   unfolding run
   run_out h = rw (drop_of_length-le s h)
 
-pub run_is : (s : List ℕ) → run s ≡ position_or_len is_delimiter s
-unfolding run
-run_is s = is_position_or_len run is_delimiter refl (λ b t. ap (cond (is_delimiter b) 0) (sym (one-add (run t)))) s
-
 pub run_le : (s : List ℕ) → run s ≤ length s
 unfolding run
 run_le [] = zero-le
@@ -71,13 +60,18 @@ run_le (b ∷ s) = go (is_delimiter b) (run_le s)
     go false h = omega arith
 
 -- a gap
-pub gap_is : (s : List ℕ) → gap s ≡ position_or_len (λ b. not (eqb b space)) s
-unfolding gap
-gap_is s = is_position_or_len gap (λ b. not (eqb b space)) refl (λ b t. go (eqb b space) (gap t)) s
-  where
-    go : (x : Bool) (n : ℕ) → cond x (suc n) 0 ≡ cond (not x) 0 (1 + n)
-    go true n = sym (one-add n)
-    go false n = refl
+module _ (s : List ℕ) (i : ℕ) where
+  pub gap_goes_on : i < length s → get_or s i 0 ≡ space → gap (drop i s) ≡ suc (gap (drop (i + 1) s))
+  unfolding gap
+  gap_goes_on h e = rw (add-one, drop-cons s i 0, eq-eqb _ _ e)
+
+  pub gap_ends : i < length s → (get_or s i 0 ≡ space → ⊥) → gap (drop i s) ≡ 0
+  unfolding gap
+  gap_ends h e = rw (drop-cons s i 0, ne_eqb _ _ e)
+
+  pub gap_out : length s ≤ i → gap (drop i s) ≡ 0
+  unfolding gap
+  gap_out h = rw (drop_of_length-le s h)
 
 pub gap_le : (s : List ℕ) → gap s ≤ length s
 unfolding gap

@@ -80,10 +80,12 @@ pub fn run_at(s: &[u8], at: usize) -> usize
     requires { at ≤ length s.now }
     ensures { result ≡ run (drop at s.now) }
 {
-    let rest = &s[at..];
-    rest.iter()
-        .position(|b| is_delimiter(*b))
-        .unwrap_or(rest.len())
+    for i in at..s.len() {
+        if is_delimiter(s[i]) {
+            return i - at;
+        }
+    }
+    s.len() - at
 }
 
 // How many spaces stand from `at` on.
@@ -91,8 +93,12 @@ pub fn gap_at(s: &[u8], at: usize) -> usize
     requires { at ≤ length s.now }
     ensures { result ≡ gap (drop at s.now) }
 {
-    let rest = &s[at..];
-    rest.iter().position(|b| *b != b' ').unwrap_or(rest.len())
+    for i in at..s.len() {
+        if s[i] != b' ' {
+            return i - at;
+        }
+    }
+    s.len() - at
 }
 
 // The item at `at`, unless anything else stands there.

@@ -7,7 +7,7 @@ use mathlib.Core.List.{List, [], ◌∷◌}
 use mathlib.Core.Bool.{Bool, true, false, not, ◌&&◌}
 use lib.Dec.{eqb}
 use lib.ListN.{length, get_or, take, drop, length-take, length-drop, drop_of_length-le}
-use lib.Seq.{drop-cons, drop-drop, take_all}
+use lib.Seq.{drop-cons, drop-drop}
 use lib.Pointwise.{pointwise}
 use borrow.Author.Tests.{eq-eqb, ne_eqb, not-true, not-false}
 use Rattle.rules.proofs.Booleans.{and-false}
@@ -87,7 +87,7 @@ module _ {a b : List ℕ} {i : ℕ} (h : Same a b 0 i true) (l : i + 8 ≤ lengt
   pub block_differs : not q ≡ true → false ≡ same_bytes a b
   block_differs d = ap (λ t. t && same_bytes (drop (i + 8) a) (drop (i + 8) b)) (sym (not-true q d)) ∙ sym block_split ∙ h.left
 
--- the test that slices are equal, of all bytes and of those from a place on
+-- the test that slices are equal
 
 pub same_pairs : (x y : List ℕ) → pointwise eqb x y ≡ same_bytes x y
 unfolding same_bytes
@@ -95,9 +95,6 @@ same_pairs [] [] = refl
 same_pairs [] (b ∷ y) = refl
 same_pairs (a ∷ x) [] = refl
 same_pairs (a ∷ x) (b ∷ y) = ap (λ t. eqb a b && t) (same_pairs x y)
-
-pub rest_same : (a b : List ℕ) (i : ℕ) → pointwise eqb (take (length a - i) (drop i a)) (take (length b - i) (drop i b)) ≡ same_bytes (drop i a) (drop i b)
-rest_same a b i = same_pairs _ _ ∙ ap₂ same_bytes (take_all (length a - i) (drop i a) (omega (arith, length-drop i a))) (take_all (length b - i) (drop i b) (omega (arith, length-drop i b)))
 
 pub blocks_as_long : (a b : List ℕ) (i : ℕ) → length a ≡ length b → i + 8 ≤ length a → length (take (i + 8 - i) (drop i a)) ≡ length (take (i + 8 - i) (drop i b))
 blocks_as_long a b i e l = omega (arith, length-take (i + 8 - i) (drop i a), length-take (i + 8 - i) (drop i b), length-drop i a, length-drop i b)

@@ -1,5 +1,5 @@
 // The index of a name store: an atom's name by its number, and its number by the name.
-ghost use Rattle.std.specs.Prelude.{cond, not, ◌≡◌, ◌+◌, ◌*◌, ◌%◌, ◌≤◌, ◌<◌, [], length, get_or, set};
+ghost use Rattle.std.specs.Prelude.{cond, not, ◌≡◌, ◌+◌, ◌*◌, ◌%◌, ◌≤◌, ◌<◌, [], length, get_or, drop, set};
 ghost use Rattle.name_store.specs.NameStore.{decode_names, same_bytes, among};
 ghost use Rattle.name_store.specs.NameIndex.{found, name_end, name_hash, buckets, Placed, Indexed};
 ghost use Rattle.name_store.specs.IndexedNames.{names_of};
@@ -9,7 +9,20 @@ use crate::indexed::NameIndex;
 // The values of the hash.
 pub const BUCKETS: usize = 4096;
 
-// Whether the bytes are the same. No byte ends the walk, so that many are compared at once.
+// Whether the bytes from `from` on are the same. The few behind the blocks are told one by one: a call takes longer.
+fn same_from(a: &[u8], b: &[u8], from: usize) -> bool
+    requires { (length a.now ≡ length b.now) × (from ≤ length a.now) }
+    ensures { result ≡ same_bytes (drop from a.now) (drop from b.now) }
+{
+    for i in from..a.len() {
+        if a[i] != b[i] {
+            return false;
+        }
+    }
+    true
+}
+
+// The same of all bytes. No byte ends the walk, so that many are compared at once.
 fn same_block(a: &[u8], b: &[u8]) -> bool
     requires { length a.now ≡ length b.now }
     ensures { result ≡ same_bytes a.now b.now }
@@ -37,7 +50,7 @@ pub fn same_bytes(a: &[u8], b: &[u8]) -> bool
         }
         i = to;
     }
-    a[i..] == b[i..]
+    same_from(a, b, i)
 }
 
 // The hash with one byte more.

@@ -2,6 +2,7 @@
 ghost use Rattle.std.specs.Prelude.{◌≡◌, ◌+◌, ◌≤◌, length};
 ghost use Rattle.output.specs.Emitted.{Emitted, InRange};
 
+use crate::elements::copy;
 pub use crate::elements::{emit, push};
 
 // The first, the middle and the last, which may be the same: a branch on their number would often be mispredicted.
@@ -38,7 +39,7 @@ fn copy_name(bytes: &[u8], part: &mut [u8])
         4..=7 => copy_ends::<4>(bytes, part),
         8..=16 => copy_ends::<8>(bytes, part),
         17..=32 => copy_ends::<16>(bytes, part),
-        _ => part.copy_from_slice(bytes),
+        _ => copy(bytes, part),
     }
 }
 

@@ -1,5 +1,5 @@
 // Elements from a place of the output on.
-ghost use Rattle.std.specs.Prelude.{[], ◌∷◌, ◌+◌, ◌^◌, ◌<◌, replicate};
+ghost use Rattle.std.specs.Prelude.{◌≡◌, [], ◌∷◌, ◌+◌, ◌^◌, ◌<◌, length, replicate};
 ghost use Rattle.output.specs.Emitted.{Emitted, InRange};
 
 pub fn push<T: Copy>(x: T, out: &mut [T], at: usize) -> usize
@@ -12,6 +12,16 @@ pub fn push<T: Copy>(x: T, out: &mut [T], at: usize) -> usize
     at + 1
 }
 
+// To a part of the output that has as many. Item by item, so that no call is made for a few of them.
+pub fn copy<T: Copy>(items: &[T], part: &mut [T])
+    requires { length part.old ≡ length items.now }
+    ensures { part.new ≡ items.now }
+{
+    for i in 0..items.len() {
+        part[i] = items[i];
+    }
+}
+
 // Where all have room they are one copy: of items whose number the compiler knows it makes a few wide stores.
 pub fn emit<T: Copy>(items: &[T], out: &mut [T], at: usize) -> usize
     requires { InRange at items.now }
@@ -19,10 +29,10 @@ pub fn emit<T: Copy>(items: &[T], out: &mut [T], at: usize) -> usize
 {
     let end = at + items.len();
     if end <= out.len() {
-        out[at..end].copy_from_slice(items);
+        copy(items, &mut out[at..end]);
     } else if at < out.len() {
         let room = out.len() - at;
-        out[at..].copy_from_slice(&items[..room]);
+        copy(&items[..room], &mut out[at..]);
     }
     end
 }

@@ -1,7 +1,7 @@
 use Prim.Native.Nat.{zero-le}
 use mathlib.Core.Path.{◌∙◌}
 use native.Mathlib.Omega.{arith}
-use Rattle.name_store.proofs.ByteLoops.{other_length, same_begins, block_same, block_differs, blocks_as_long, rest_same}
+use Rattle.name_store.proofs.ByteLoops.{other_length, same_begins, block_same, block_differs, blocks_as_long}
 use mathlib.Core.Path.{ap}
 use mathlib.Core.Bool.{not}
 use Rattle.name_store.proofs.index.same_bytes.Goals as goal
@@ -30,5 +30,8 @@ loop-i-smaller c = omega (arith, c.loop-i-test.true, c.loop-i.invariant.inside)
 pub loop-i-preserved : goal.loop-i-preserved
 loop-i-preserved c = block_same c.loop-i.invariant (omega (arith, c.loop-i-test.true, c.loop-i.invariant.inside)) c.same_block.ensures (ap not c.if-not-same_block.false)
 
+pub same_from-requires : goal.same_from-requires
+same_from-requires c = (c.loop-i.invariant.long, c.loop-i.invariant.inside)
+
 pub returns : goal.returns
-returns c = c.eq.ensures ∙ rest_same c.args.a.now c.args.b.now c.loop-i.i ∙ c.loop-i.invariant.left
+returns c = c.same_from.ensures ∙ c.loop-i.invariant.left
