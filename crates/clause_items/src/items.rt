@@ -51,6 +51,7 @@ fn past_sign(at: usize, positive: bool) -> usize
     if positive { at } else { at + 1 }
 }
 
+// In line: as a call it would be one at each item.
 #[inline]
 pub fn item_at(line: &[u8], at: usize) -> Item
     requires { at ≤ length line.now }

@@ -5,12 +5,14 @@ use native.Mathlib.Omega.{arith}
 use mathlib.Core.Path.{◌≡◌, refl, sym, ap, ◌∙◌, subst}
 use mathlib.Core.Bool.{Bool, true, false, not, ◌||◌}
 use mathlib.Core.List.{List, [], ◌∷◌}
+use lib.Dec.{T}
 use lib.ListN.{length, drop}
 use Rattle.kinds.specs.Words.{not_word, and_word, or_word}
 use Rattle.rules.specs.Lists.{from, is_empty}
-use Rattle.std.specs.Prelude.{Option, Some, None, is_some}
+use Rattle.std.specs.Prelude.{Option, Some, None}
 use Rattle.name_store.specs.NameStore.{same_bytes, among}
 use Rattle.name_store.specs.NameIndex.{found}
+use Rattle.name_store.proofs.NameStores.{same_law}
 use Rattle.conditions.specs.Conditions.{name, connectives, names_of}
 use Rattle.conditions.specs.declared.table.TableRow.{TableRow}
 use Rattle.conditions.specs.Rows.{rows}
@@ -25,7 +27,7 @@ use Rattle.lines.proofs.TokenPlaces.{items_end, item_fits, item_long, item, word
 use Rattle.numbering.specs.Numbers.{undeclared}
 use Rattle.numbering.proofs.NameNumbers.{Named, named, unnamed}
 use Rattle.condition_parts.specs.declared.parts.Part.{Part}
-use Rattle.condition_parts.specs.Places.{is_opening, is_leading, WordIs}
+use Rattle.condition_parts.specs.Places.{is_opening, is_leading}
 use Rattle.condition_parts.specs.Parts.{disjunctions, single, Behind, PartAt, PartIs, ParseIs}
 use Rattle.condition_parts.proofs.ConditionLaws.{called_sort, names_called, connectives_called, part_called, part_nothing, part_closing, part_and, part_or, more_behind, nothing_behind}
 
@@ -36,18 +38,6 @@ module _ (names : List (List ℕ)) (s : List ℕ) (at next : ℕ) where
 
   faulty : ((t : ℕ) (ps : List Pending) → parse_from (name_number names) t ps part (tokens (drop at s)) ≡ unparsed) → Answer None
   faulty f made-before table = record { says = λ ps o. f (suc (made-before + next)) ps }
-
-  pub and_faulty : (r : Option ℕ) → WordIs s at and_word r → is_some r ≡ true → Answer None
-  and_faulty None o e = absurd (let z : ◌≡◌ {A = ℕ} 0 1 = cc in omega arith)
-  and_faulty (Some p) o e = faulty (λ t ps. ap (parse_from (name_number names) t ps part) o.says.1 ∙ part_and (name_number names) t ps (tokens (drop p s)))
-
-  pub or_faulty : (r : Option ℕ) → WordIs s at or_word r → is_some r ≡ true → Answer None
-  or_faulty None o e = absurd (let z : ◌≡◌ {A = ℕ} 0 1 = cc in omega arith)
-  or_faulty (Some p) o e = faulty (λ t ps. ap (parse_from (name_number names) t ps part) o.says.1 ∙ part_or (name_number names) t ps (tokens (drop p s)))
-
-  not_there : {w : List ℕ} (r : Option ℕ) → WordIs s at w r → is_some r ≡ false → is_leading w (tokens (drop at s)) ≡ false
-  not_there None o e = o.says
-  not_there (Some p) o e = absurd (let z : ◌≡◌ {A = ℕ} 0 1 = cc in omega arith)
 
   module _ {r : Option Item} (e : r ≡ item_of (drop at s)) where
     pub none_faulty : is_opening (tokens (drop at s)) ≡ false → r ≡ None → Answer None
@@ -60,8 +50,7 @@ module _ (names : List (List ℕ)) (s : List ℕ) (at next : ℕ) where
         go t ps (closing ∷ ts) n l = part_closing (name_number names) t ps ts
         go t ps (word x ∷ ts) n l = absurd (let z : ◌≡◌ {A = ℕ} 0 1 = cc in omega arith)
 
-    module _ {g n : ℕ} (d : r ≡ spaced g n) (not_not : is_leading not_word (tokens (drop at s)) ≡ false)
-        (p : Option ℕ) (a : WordIs s at and_word p) (no_and : is_some p ≡ false) (q : Option ℕ) (o : WordIs s at or_word q) (no_or : is_some q ≡ false) where
+    module _ {g n : ℕ} (d : r ≡ spaced g n) where
       abbrev x : List ℕ
       x = item s at e d
 
@@ -71,47 +60,55 @@ module _ (names : List (List ℕ)) (s : List ℕ) (at next : ℕ) where
       is : tokens (drop at s) ≡ word x ∷ later
       is = word_is s at e d
 
-      other : (w : List ℕ) → is_leading w (tokens (drop at s)) ≡ false → same_bytes x w ≡ false
-      other w f = sym (ap (is_leading w) is) ∙ f
+      spelled : {w : List ℕ} {q : Bool} → q ≡ same_bytes x w → q ≡ true → tokens (drop at s) ≡ word w ∷ later
+      spelled {w} f y = is ∙ ap (λ z. word z ∷ later) ((same_law x w).0 (subst T (sym y ∙ f) tt))
 
-      is_called : sort_of x ≡ called
-      is_called = called_sort x (other not_word not_not) (other and_word (not_there p a no_and)) (other or_word (not_there q o no_or))
+      pub and_faulty : {q : Bool} → q ≡ same_bytes x and_word → q ≡ true → Answer None
+      and_faulty f y = faulty (λ t ps. ap (parse_from (name_number names) t ps part) (spelled f y) ∙ part_and (name_number names) t ps later)
 
-      names_are : names_in (tokens (drop at s)) ≡ x ∷ names_in later
-      names_are = ap names_in is ∙ names_called x later is_called
+      pub or_faulty : {q : Bool} → q ≡ same_bytes x or_word → q ≡ true → Answer None
+      or_faulty f y = faulty (λ t ps. ap (parse_from (name_number names) t ps part) (spelled f y) ∙ part_or (name_number names) t ps later)
 
-      module _ {f : Option ℕ} (h : f ≡ found x names) where
-        pub unknown_faulty : undeclared names (names_in (tokens (drop at s))) ≡ false → f ≡ None → Answer None
-        unknown_faulty u m =
-            let missing : among names x ≡ false = unnamed x names h m in
-            let known : (not (among names x) || undeclared names (names_in later)) ≡ false = sym (ap (undeclared names) names_are) ∙ u in
-            let z : true ≡ false = sym (ap (λ (b : Bool). not b || undeclared names (names_in later)) missing) ∙ known in
-            absurd (let y : ◌≡◌ {A = ℕ} 0 1 = cc in omega arith)
+      module _ (not_not : is_leading not_word (tokens (drop at s)) ≡ false)
+          {p : Bool} (and_is : p ≡ same_bytes x and_word) (no_and : p ≡ false) {q : Bool} (or_is : q ≡ same_bytes x or_word) (no_or : q ≡ false) where
+        is_called : sort_of x ≡ called
+        is_called = called_sort x (sym (ap (is_leading not_word) is) ∙ not_not) (sym and_is ∙ no_and) (sym or_is ∙ no_or)
 
-        pub name_known : {j : ℕ} → f ≡ Some j → Answer (Some (record { place = at + g + n; atom = j; next = next }))
-        unfolding rows connectives names_of in_file
-        name_known {j} m made-before table =
-            let k : Named names x j = named x names h m in
-            record {
-              says = (
-                record {
-                  condition = name (name_number names x);
-                  onward = omega (arith, item_long s at e d);
-                  inside = item_fits s at e d;
-                  count = sym (add-zero next);
-                  connectives_left = ap connectives_in is ∙ connectives_called x later is_called ∙ sym (zero-add (connectives_in later));
-                  passed = x ∷ [];
-                  names_left = names_are;
-                  is_atom = sym k.number;
-                  below = omega (arith, k.below);
-                  numbered = refl;
-                  known = (subst (λ (i : ℕ). i < length names) (sym k.number) k.below, tt);
-                  written = refl;
-                  parses = λ ps w. ap (parse_from (name_number names) (suc (made-before + next)) ps part) is ∙ part_called (name_number names) (suc (made-before + next)) ps x later is_called;
-                },
-                tt,
-              );
-            }
+        names_are : names_in (tokens (drop at s)) ≡ x ∷ names_in later
+        names_are = ap names_in is ∙ names_called x later is_called
+
+        module _ {f : Option ℕ} (h : f ≡ found x names) where
+          pub unknown_faulty : undeclared names (names_in (tokens (drop at s))) ≡ false → f ≡ None → Answer None
+          unknown_faulty u m =
+              let missing : among names x ≡ false = unnamed x names h m in
+              let known : (not (among names x) || undeclared names (names_in later)) ≡ false = sym (ap (undeclared names) names_are) ∙ u in
+              let z : true ≡ false = sym (ap (λ (b : Bool). not b || undeclared names (names_in later)) missing) ∙ known in
+              absurd (let y : ◌≡◌ {A = ℕ} 0 1 = cc in omega arith)
+
+          pub name_known : {j : ℕ} → f ≡ Some j → Answer (Some (record { place = at + g + n; atom = j; next = next }))
+          unfolding rows connectives names_of in_file
+          name_known {j} m made-before table =
+              let k : Named names x j = named x names h m in
+              record {
+                says = (
+                  record {
+                    condition = name (name_number names x);
+                    onward = omega (arith, item_long s at e d);
+                    inside = item_fits s at e d;
+                    count = sym (add-zero next);
+                    connectives_left = ap connectives_in is ∙ connectives_called x later is_called ∙ sym (zero-add (connectives_in later));
+                    passed = x ∷ [];
+                    names_left = names_are;
+                    is_atom = sym k.number;
+                    below = omega (arith, k.below);
+                    numbered = refl;
+                    known = (subst (λ (i : ℕ). i < length names) (sym k.number) k.below, tt);
+                    written = refl;
+                    parses = λ ps w. ap (parse_from (name_number names) (suc (made-before + next)) ps part) is ∙ part_called (name_number names) (suc (made-before + next)) ps x later is_called;
+                  },
+                  tt,
+                );
+              }
 
 -- the whole
 module _ (names : List (List ℕ)) (s : List ℕ) (made-before : ℕ) where

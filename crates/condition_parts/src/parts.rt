@@ -15,6 +15,7 @@ use crate::rows::put_row;
 use conditions::table::{Connective, TableRow};
 use lines::scan;
 use lines::scan::Item;
+use name_store::index::same_bytes;
 use name_store::indexed::NameIndex;
 
 // The place behind a part, its atom, and the row of the connective that comes next.
@@ -38,13 +39,14 @@ fn name_at(s: &[u8], at: usize, next: usize, names: &NameIndex) -> Option<Part>
     requires s_value { (is_opening (tokens (drop at s.now)) ≡ false) × (is_leading not_word (tokens (drop at s.now)) ≡ false) }
     ensures { (made : ℕ) (table : List TableRow) → PartIs single (names_of names.now) s.now at made next table table result }
 {
-    if word_at(s, at, b"and").is_some() || word_at(s, at, b"or").is_some() {
-        return None;
-    }
     let Item { gap, size } = scan::item_at(s, at)?;
     let start = at + gap;
     let place = start + size;
-    let atom = names.find(&s[start..place])?;
+    let name = &s[start..place];
+    if same_bytes(name, b"and") || same_bytes(name, b"or") {
+        return None;
+    }
+    let atom = names.find(name)?;
     Some(Part { place, atom, next })
 }
 

@@ -98,7 +98,8 @@ pub fn name_at<'a>(bytes: &'a [u8], starts: &[u16], atom: usize) -> &'a [u8]
 }
 
 impl<'a> NameIndex<'a> {
-    // The number of a name whose hash is known.
+    // The number of a name whose hash is known. In line: a call takes as long as a short name.
+    #[inline]
     pub fn find_hashed(&self, name: &[u8], h: usize) -> Option<usize>
         requires { h ≡ name_hash name.now }
         ensures { result ≡ found name.now (names_of self.now) }

@@ -1,7 +1,6 @@
 -- Items with the hashes of their names, by their places.
 use Rattle.std.specs.Prelude.{Option, Some, None}
-use Prim.Native.Nat.{ℕ, ◌+◌, ◌-◌, ◌*◌, ◌%◌, ◌≤◌, ◌<◌, zero-le}
-use native.Mathlib.Nat.{zero-add}
+use Prim.Native.Nat.{ℕ, ◌+◌, ◌-◌, ◌*◌, ◌%◌, ◌≤◌, ◌<◌}
 use native.Mathlib.Numerals.{add-one}
 use native.Mathlib.Omega.{arith}
 use mathlib.Core.Path.{◌≡◌, refl, sym, ap, ap₂, ◌∙◌}
@@ -25,36 +24,37 @@ hashed_as g n h = record { gap = g; size = n; hash = h }
 unfoldable pub run_hash : ℕ → List ℕ → ℕ
 run_hash h s = hash_from h (take (run s) s)
 
--- a walk that has come to i
-pub record Hashing (s : List ℕ) (i h : ℕ) : Type 0 where
+-- a walk from at on, which has come to i
+pub record Hashing (s : List ℕ) (at i h : ℕ) : Type 0 where
+  pub after : at ≤ i
   pub inside : i ≤ length s
   pub small : h < buckets
-  pub size : i + run (drop i s) ≡ run s
-  pub hash : run_hash h (drop i s) ≡ run_hash 0 s
+  pub size : i + run (drop i s) ≡ at + run (drop at s)
+  pub hash : run_hash h (drop i s) ≡ run_hash 0 (drop at s)
 
-pub hashing : (s : List ℕ) → Hashing s 0 0
-hashing s = record { inside = zero-le; small = omega arith; size = zero-add (run s); hash = refl }
+pub hashing : (s : List ℕ) (at : ℕ) → at ≤ length s → Hashing s at at 0
+hashing s at l = record { after = omega arith; inside = l; small = omega arith; size = refl; hash = refl }
 
-module _ {s : List ℕ} {i h : ℕ} (w : Hashing s i h) (g : ℕ) where
-  found : run (drop i s) ≡ 0 → hashed_as g i h ≡ hashed_run g s
+module _ {s : List ℕ} {at i h : ℕ} (w : Hashing s at i h) (g : ℕ) where
+  found : run (drop i s) ≡ 0 → hashed_as g (i - at) h ≡ hashed_run g (drop at s)
   unfolding hashed_run run_hash hash_from
   found e =
-      let size : i ≡ run s = omega (arith, w.size) in
-      let hash : h ≡ run_hash 0 s = sym (ap (λ n. hash_from h (take n (drop i s))) e) ∙ w.hash in
+      let size : i - at ≡ run (drop at s) = omega (arith, w.size, w.after) in
+      let hash : h ≡ run_hash 0 (drop at s) = sym (ap (λ n. hash_from h (take n (drop i s))) e) ∙ w.hash in
       ap₂ (hashed_as g) size hash
 
-  pub hash_out : length s ≤ i → hashed_as g (length s) h ≡ hashed_run g s
-  hash_out l = let n : length s ≡ i = omega (arith, w.inside) in ap (λ k. hashed_as g k h) n ∙ found (run_out s i l)
+  pub hash_out : length s ≤ i → hashed_as g (length s - at) h ≡ hashed_run g (drop at s)
+  hash_out l = let n : length s ≡ i = omega (arith, w.inside) in ap (λ k. hashed_as g (k - at) h) n ∙ found (run_out s i l)
 
   module _ (lt : i < length s) where
-    pub hash_ends : is_delimiter (get_or s i 0) ≡ true → hashed_as g i h ≡ hashed_run g s
+    pub hash_ends : is_delimiter (get_or s i 0) ≡ true → hashed_as g (i - at) h ≡ hashed_run g (drop at s)
     hash_ends e = found (run_ends s i lt e)
 
-    pub hash_goes_on : is_delimiter (get_or s i 0) ≡ false → {h' : ℕ} → h' ≡ (h * 31 + get_or s i 0) % buckets → Hashing s (i + 1) h'
+    pub hash_goes_on : is_delimiter (get_or s i 0) ≡ false → {h' : ℕ} → h' ≡ (h * 31 + get_or s i 0) % buckets → Hashing s at (i + 1) h'
     unfolding run run_hash hash_from
     hash_goes_on e {h'} d =
         let step : run_hash h (drop i s) ≡ run_hash h' (drop (i + 1) s) = rw (add-one, drop-cons s i 0, e, d) in
-        record { inside = omega arith; small = omega arith; size = omega (arith, w.size, run_goes_on s i lt e); hash = sym step ∙ w.hash }
+        record { after = omega (arith, w.after); inside = omega arith; small = omega arith; size = omega (arith, w.size, run_goes_on s i lt e); hash = sym step ∙ w.hash }
 
 -- an item
 module _ (s : List ℕ) (i : ℕ) where

@@ -18,17 +18,20 @@ fn hashed_run_at(s: &[u8], at: usize, gap: usize) -> HashedItem
     requires { at ≤ length s.now }
     ensures { result ≡ hashed_run gap (drop at s.now) }
 {
-    let rest = &s[at..];
     let mut hash: usize = 0;
-    for (i, b) in rest.iter().enumerate() {
-        if scan::is_delimiter(*b) {
-            return HashedItem { gap, size: i, hash };
+    for i in at..s.len() {
+        if scan::is_delimiter(s[i]) {
+            return HashedItem {
+                gap,
+                size: i - at,
+                hash,
+            };
         }
-        hash = index::hash_step(hash, *b);
+        hash = index::hash_step(hash, s[i]);
     }
     HashedItem {
         gap,
-        size: rest.len(),
+        size: s.len() - at,
         hash,
     }
 }

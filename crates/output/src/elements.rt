@@ -12,7 +12,7 @@ pub fn push<T: Copy>(x: T, out: &mut [T], at: usize) -> usize
     at + 1
 }
 
-// To a part of the output that has as many. Item by item, so that no call is made for a few of them.
+// To a part of the output that has as many. Item by item: the library's copy would want `memmove` of who links the archive.
 pub fn copy<T: Copy>(items: &[T], part: &mut [T])
     requires { length part.old ≡ length items.now }
     ensures { part.new ≡ items.now }

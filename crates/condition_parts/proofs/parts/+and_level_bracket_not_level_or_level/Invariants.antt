@@ -5,7 +5,6 @@ use lib.ListN.{length, drop}
 use mathlib.Core.List.{List}
 use Rattle.condition_parts.specs.Parts.{Behind, PartAt}
 use Rattle.condition_parts.proofs.JoinedParts.{disj, level, lower, conj}
-use Rattle.name_store.specs.NameStore.{decode_names}
 use Rattle.name_store.specs.IndexedNames.{names_of}
 use Rattle.condition_parts.proofs.parts.+and_level_bracket_not_level_or_level.Given as goal
 

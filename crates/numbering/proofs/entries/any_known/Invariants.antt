@@ -1,6 +1,5 @@
 use Prim.Native.Nat.{◌-◌}
 use lib.ListN.{length}
-use Rattle.name_store.specs.NameStore.{decode_names}
 use Rattle.numbering.proofs.Entering.{Looking}
 use Rattle.name_store.specs.IndexedNames.{names_of}
 use Rattle.numbering.proofs.entries.any_known.Given as goal

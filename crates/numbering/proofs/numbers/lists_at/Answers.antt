@@ -1,9 +1,7 @@
 use native.Mathlib.Omega.{arith}
 use mathlib.Core.Path.{sym, ◌∙◌}
 use Rattle.rules.proofs.Booleans.{or_assoc}
-use lib.ListN.{length}
 use Rattle.kinds.specs.Words.{head_word, body_word, not_word}
-use Rattle.name_store.specs.NameStore.{decode_names}
 use Rattle.lines.proofs.NameLists.{opened_inside}
 use Rattle.lines.proofs.LineShapes.{whole_head, whole_body, whole_not}
 use Rattle.numbering.proofs.RuleLists.{list_numbered, list_end, no_head, head_not_numbered, no_body, body_not_numbered, no_not, not_not_numbered, three_lists}

@@ -1,7 +1,6 @@
 use Prim.Native.Nat.{◌-◌}
 use mathlib.Core.Path.{◌≡◌}
 use lib.ListN.{length}
-use Rattle.name_store.specs.NameStore.{decode_names}
 use Rattle.numbering.proofs.NameNumbers.{Numbering}
 use Rattle.name_store.specs.IndexedNames.{names_of}
 use Rattle.numbering.proofs.numbers.numbers_at.Given as goal

@@ -1,7 +1,5 @@
 use Prim.Native.Nat.{zero-le}
-use lib.ListN.{length}
 use Rattle.kinds.specs.Words.{rule_word}
-use Rattle.name_store.specs.NameStore.{decode_names}
 use Rattle.lines.proofs.NameLists.{opened_inside}
 use Rattle.lines.proofs.LineShapes.{whole_rule}
 use Rattle.numbering.proofs.RuleLists.{not_rule, lists_otherwise, lists_inside, rule_unclosed, rule_unended, rule_numbered}
