@@ -9,7 +9,7 @@ use lib.Dec.{T}
 use lib.ListN.{length, drop}
 use Rattle.kinds.specs.Words.{not_word, and_word, or_word}
 use Rattle.rules.specs.Lists.{from, is_empty}
-use Rattle.std.specs.Prelude.{Option, Some, None}
+use Rattle.std.specs.Prelude.{Option, Some, None, is_some}
 use Rattle.name_store.specs.NameStore.{same_bytes, among}
 use Rattle.name_store.specs.NameIndex.{found}
 use Rattle.name_store.proofs.NameStores.{same_law}
@@ -27,7 +27,7 @@ use Rattle.lines.proofs.TokenPlaces.{items_end, item_fits, item_long, item, word
 use Rattle.numbering.specs.Numbers.{undeclared}
 use Rattle.numbering.proofs.NameNumbers.{Named, named, unnamed}
 use Rattle.condition_parts.specs.declared.parts.Part.{Part}
-use Rattle.condition_parts.specs.Places.{is_opening, is_leading}
+use Rattle.condition_parts.specs.Places.{Past, is_opening, is_leading, WordIs}
 use Rattle.condition_parts.specs.Parts.{disjunctions, single, Behind, PartAt, PartIs, ParseIs}
 use Rattle.condition_parts.proofs.ConditionLaws.{called_sort, names_called, connectives_called, part_called, part_nothing, part_closing, part_and, part_or, more_behind, nothing_behind}
 
@@ -38,6 +38,18 @@ module _ (names : List (List ℕ)) (s : List ℕ) (at next : ℕ) where
 
   faulty : ((t : ℕ) (ps : List Pending) → parse_from (name_number names) t ps part (tokens (drop at s)) ≡ unparsed) → Answer None
   faulty f made-before table = record { says = λ ps o. f (suc (made-before + next)) ps }
+
+  pub and_faulty : (r : Option ℕ) → WordIs s at and_word r → is_some r ≡ true → Answer None
+  and_faulty None o e = absurd (let z : ◌≡◌ {A = ℕ} 0 1 = cc in omega arith)
+  and_faulty (Some p) o e = faulty (λ t ps. ap (parse_from (name_number names) t ps part) o.says.1 ∙ part_and (name_number names) t ps (tokens (drop p s)))
+
+  pub or_faulty : (r : Option ℕ) → WordIs s at or_word r → is_some r ≡ true → Answer None
+  or_faulty None o e = absurd (let z : ◌≡◌ {A = ℕ} 0 1 = cc in omega arith)
+  or_faulty (Some p) o e = faulty (λ t ps. ap (parse_from (name_number names) t ps part) o.says.1 ∙ part_or (name_number names) t ps (tokens (drop p s)))
+
+  not_there : {w : List ℕ} (r : Option ℕ) → WordIs s at w r → is_some r ≡ false → is_leading w (tokens (drop at s)) ≡ false
+  not_there None o e = o.says
+  not_there (Some p) o e = absurd (let z : ◌≡◌ {A = ℕ} 0 1 = cc in omega arith)
 
   module _ {r : Option Item} (e : r ≡ item_of (drop at s)) where
     pub none_faulty : is_opening (tokens (drop at s)) ≡ false → r ≡ None → Answer None
@@ -60,19 +72,21 @@ module _ (names : List (List ℕ)) (s : List ℕ) (at next : ℕ) where
       is : tokens (drop at s) ≡ word x ∷ later
       is = word_is s at e d
 
-      spelled : {w : List ℕ} {q : Bool} → q ≡ same_bytes x w → q ≡ true → tokens (drop at s) ≡ word w ∷ later
-      spelled {w} f y = is ∙ ap (λ z. word z ∷ later) ((same_law x w).0 (subst T (sym y ∙ f) tt))
+      word_there : {w : List ℕ} {q : Bool} → q ≡ same_bytes x w → q ≡ true → WordIs s at w (Some (at + g + n))
+      word_there {w} f y =
+          let past : Past s at (at + g + n) = record { inside = item_fits s at e d; onward = omega (arith, item_long s at e d) } in
+          record { says = (past, is ∙ ap (λ z. word z ∷ later) ((same_law x w).0 (subst T (sym y ∙ f) tt))) }
 
-      pub and_faulty : {q : Bool} → q ≡ same_bytes x and_word → q ≡ true → Answer None
-      and_faulty f y = faulty (λ t ps. ap (parse_from (name_number names) t ps part) (spelled f y) ∙ part_and (name_number names) t ps later)
-
-      pub or_faulty : {q : Bool} → q ≡ same_bytes x or_word → q ≡ true → Answer None
-      or_faulty f y = faulty (λ t ps. ap (parse_from (name_number names) t ps part) (spelled f y) ∙ part_or (name_number names) t ps later)
+      word_not_there : {w : List ℕ} {q : Bool} → q ≡ same_bytes x w → q ≡ false → WordIs s at w None
+      word_not_there {w} f n = record { says = ap (is_leading w) is ∙ sym f ∙ n }
 
       module _ (not_not : is_leading not_word (tokens (drop at s)) ≡ false)
-          {p : Bool} (and_is : p ≡ same_bytes x and_word) (no_and : p ≡ false) {q : Bool} (or_is : q ≡ same_bytes x or_word) (no_or : q ≡ false) where
+          (p : Option ℕ) (a : WordIs s at and_word p) (no_and : is_some p ≡ false) (q : Option ℕ) (o : WordIs s at or_word q) (no_or : is_some q ≡ false) where
+        other : (w : List ℕ) → is_leading w (tokens (drop at s)) ≡ false → same_bytes x w ≡ false
+        other w f = sym (ap (is_leading w) is) ∙ f
+
         is_called : sort_of x ≡ called
-        is_called = called_sort x (sym (ap (is_leading not_word) is) ∙ not_not) (sym and_is ∙ no_and) (sym or_is ∙ no_or)
+        is_called = called_sort x (other not_word not_not) (other and_word (not_there p a no_and)) (other or_word (not_there q o no_or))
 
         names_are : names_in (tokens (drop at s)) ≡ x ∷ names_in later
         names_are = ap names_in is ∙ names_called x later is_called
@@ -109,6 +123,21 @@ module _ (names : List (List ℕ)) (s : List ℕ) (at next : ℕ) where
                   tt,
                 );
               }
+
+      -- the same where the bytes of the item say whether it is a word
+      pub and_item_faulty : {q : Bool} → q ≡ same_bytes x and_word → q ≡ true → Answer None
+      and_item_faulty f y = and_faulty (Some (at + g + n)) (word_there f y) refl
+
+      pub or_item_faulty : {q : Bool} → q ≡ same_bytes x or_word → q ≡ true → Answer None
+      or_item_faulty f y = or_faulty (Some (at + g + n)) (word_there f y) refl
+
+      module _ (not_not : is_leading not_word (tokens (drop at s)) ≡ false)
+          {p : Bool} (and_is : p ≡ same_bytes x and_word) (no_and : p ≡ false) {q : Bool} (or_is : q ≡ same_bytes x or_word) (no_or : q ≡ false) {f : Option ℕ} (h : f ≡ found x names) where
+        pub unknown_item_faulty : undeclared names (names_in (tokens (drop at s))) ≡ false → f ≡ None → Answer None
+        unknown_item_faulty = unknown_faulty not_not None (word_not_there and_is no_and) refl None (word_not_there or_is no_or) refl h
+
+        pub item_known : {j : ℕ} → f ≡ Some j → Answer (Some (record { place = at + g + n; atom = j; next = next }))
+        item_known = name_known not_not None (word_not_there and_is no_and) refl None (word_not_there or_is no_or) refl h
 
 -- the whole
 module _ (names : List (List ℕ)) (s : List ℕ) (made-before : ℕ) where
