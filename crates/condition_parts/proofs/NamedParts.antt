@@ -5,14 +5,12 @@ use native.Mathlib.Omega.{arith}
 use mathlib.Core.Path.{◌≡◌, refl, sym, ap, ◌∙◌, subst}
 use mathlib.Core.Bool.{Bool, true, false, not, ◌||◌}
 use mathlib.Core.List.{List, [], ◌∷◌}
-use lib.Dec.{T}
 use lib.ListN.{length, drop}
 use Rattle.kinds.specs.Words.{not_word, and_word, or_word}
 use Rattle.rules.specs.Lists.{from, is_empty}
 use Rattle.std.specs.Prelude.{Option, Some, None, is_some}
 use Rattle.name_store.specs.NameStore.{same_bytes, among}
 use Rattle.name_store.specs.NameIndex.{found}
-use Rattle.name_store.proofs.NameStores.{same_law}
 use Rattle.conditions.specs.Conditions.{name, connectives, names_of}
 use Rattle.conditions.specs.declared.table.TableRow.{TableRow}
 use Rattle.conditions.specs.Rows.{rows}
@@ -27,8 +25,9 @@ use Rattle.lines.proofs.TokenPlaces.{items_end, item_fits, item_long, item, word
 use Rattle.numbering.specs.Numbers.{undeclared}
 use Rattle.numbering.proofs.NameNumbers.{Named, named, unnamed}
 use Rattle.condition_parts.specs.declared.parts.Part.{Part}
-use Rattle.condition_parts.specs.Places.{Past, is_opening, is_leading, WordIs}
+use Rattle.condition_parts.specs.Places.{is_opening, is_leading, WordIs}
 use Rattle.condition_parts.specs.Parts.{disjunctions, single, Behind, PartAt, PartIs, ParseIs}
+use Rattle.condition_parts.proofs.WordPlaces.{word_here}
 use Rattle.condition_parts.proofs.ConditionLaws.{called_sort, names_called, connectives_called, part_called, part_nothing, part_closing, part_and, part_or, more_behind, nothing_behind}
 
 module _ (names : List (List ℕ)) (s : List ℕ) (at next : ℕ) where
@@ -39,13 +38,15 @@ module _ (names : List (List ℕ)) (s : List ℕ) (at next : ℕ) where
   faulty : ((t : ℕ) (ps : List Pending) → parse_from (name_number names) t ps part (tokens (drop at s)) ≡ unparsed) → Answer None
   faulty f made-before table = record { says = λ ps o. f (suc (made-before + next)) ps }
 
+  word_faulty : {w : List ℕ} → ((t : ℕ) (ps : List Pending) (ts : List Token) → parse_from (name_number names) t ps part (word w ∷ ts) ≡ unparsed) → (r : Option ℕ) → WordIs s at w r → is_some r ≡ true → Answer None
+  word_faulty f None o e = absurd (let z : ◌≡◌ {A = ℕ} 0 1 = cc in omega arith)
+  word_faulty f (Some p) o e = faulty (λ t ps. ap (parse_from (name_number names) t ps part) o.says.1 ∙ f t ps (tokens (drop p s)))
+
   pub and_faulty : (r : Option ℕ) → WordIs s at and_word r → is_some r ≡ true → Answer None
-  and_faulty None o e = absurd (let z : ◌≡◌ {A = ℕ} 0 1 = cc in omega arith)
-  and_faulty (Some p) o e = faulty (λ t ps. ap (parse_from (name_number names) t ps part) o.says.1 ∙ part_and (name_number names) t ps (tokens (drop p s)))
+  and_faulty = word_faulty (part_and (name_number names))
 
   pub or_faulty : (r : Option ℕ) → WordIs s at or_word r → is_some r ≡ true → Answer None
-  or_faulty None o e = absurd (let z : ◌≡◌ {A = ℕ} 0 1 = cc in omega arith)
-  or_faulty (Some p) o e = faulty (λ t ps. ap (parse_from (name_number names) t ps part) o.says.1 ∙ part_or (name_number names) t ps (tokens (drop p s)))
+  or_faulty = word_faulty (part_or (name_number names))
 
   not_there : {w : List ℕ} (r : Option ℕ) → WordIs s at w r → is_some r ≡ false → is_leading w (tokens (drop at s)) ≡ false
   not_there None o e = o.says
@@ -72,13 +73,9 @@ module _ (names : List (List ℕ)) (s : List ℕ) (at next : ℕ) where
       is : tokens (drop at s) ≡ word x ∷ later
       is = word_is s at e d
 
-      word_there : {w : List ℕ} {q : Bool} → q ≡ same_bytes x w → q ≡ true → WordIs s at w (Some (at + g + n))
-      word_there {w} f y =
-          let past : Past s at (at + g + n) = record { inside = item_fits s at e d; onward = omega (arith, item_long s at e d) } in
-          record { says = (past, is ∙ ap (λ z. word z ∷ later) ((same_law x w).0 (subst T (sym y ∙ f) tt))) }
-
-      word_not_there : {w : List ℕ} {q : Bool} → q ≡ same_bytes x w → q ≡ false → WordIs s at w None
-      word_not_there {w} f n = record { says = ap (is_leading w) is ∙ sym f ∙ n }
+      told : (q : Bool) → is_some (then_some q (at + g + n)) ≡ q
+      told true = refl
+      told false = refl
 
       module _ (not_not : is_leading not_word (tokens (drop at s)) ≡ false)
           (p : Option ℕ) (a : WordIs s at and_word p) (no_and : is_some p ≡ false) (q : Option ℕ) (o : WordIs s at or_word q) (no_or : is_some q ≡ false) where
@@ -126,18 +123,18 @@ module _ (names : List (List ℕ)) (s : List ℕ) (at next : ℕ) where
 
       -- the same where the bytes of the item say whether it is a word
       pub and_item_faulty : {q : Bool} → q ≡ same_bytes x and_word → q ≡ true → Answer None
-      and_item_faulty f y = and_faulty (Some (at + g + n)) (word_there f y) refl
+      and_item_faulty {q} f y = and_faulty _ (word_here s at and_word e d f) (told q ∙ y)
 
       pub or_item_faulty : {q : Bool} → q ≡ same_bytes x or_word → q ≡ true → Answer None
-      or_item_faulty f y = or_faulty (Some (at + g + n)) (word_there f y) refl
+      or_item_faulty {q} f y = or_faulty _ (word_here s at or_word e d f) (told q ∙ y)
 
       module _ (not_not : is_leading not_word (tokens (drop at s)) ≡ false)
           {p : Bool} (and_is : p ≡ same_bytes x and_word) (no_and : p ≡ false) {q : Bool} (or_is : q ≡ same_bytes x or_word) (no_or : q ≡ false) {f : Option ℕ} (h : f ≡ found x names) where
         pub unknown_item_faulty : undeclared names (names_in (tokens (drop at s))) ≡ false → f ≡ None → Answer None
-        unknown_item_faulty = unknown_faulty not_not None (word_not_there and_is no_and) refl None (word_not_there or_is no_or) refl h
+        unknown_item_faulty = unknown_faulty not_not _ (word_here s at and_word e d and_is) (told p ∙ no_and) _ (word_here s at or_word e d or_is) (told q ∙ no_or) h
 
         pub item_known : {j : ℕ} → f ≡ Some j → Answer (Some (record { place = at + g + n; atom = j; next = next }))
-        item_known = name_known not_not None (word_not_there and_is no_and) refl None (word_not_there or_is no_or) refl h
+        item_known = name_known not_not _ (word_here s at and_word e d and_is) (told p ∙ no_and) _ (word_here s at or_word e d or_is) (told q ∙ no_or) h
 
 -- the whole
 module _ (names : List (List ℕ)) (s : List ℕ) (made-before : ℕ) where
